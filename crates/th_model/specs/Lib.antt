@@ -1,0 +1,9 @@
+pub mod Limits
+pub mod Names
+pub mod Handles
+pub mod Places
+pub mod Window
+pub mod BroadcastMachine
+pub mod BroadcastPicture
+pub mod Delivery
+pub mod BroadcastExamples

@@ -1,0 +1,17 @@
+//! The calls and replies of a channel, and the machine that remembers every value ever sent.
+#![tactic(auto)]
+
+pub mod broadcast;
+pub mod broadcast_laws;
+pub mod capacity;
+pub mod handles;
+pub mod name;
+pub mod short;
+pub mod value;
+
+pub use broadcast::{BCall, BReply};
+pub use capacity::{BadCapacity, Capacity};
+pub use handles::{RxId, TxId};
+pub use name::{BadName, Name};
+pub use short::Short;
+pub use value::{Value, ValueFault, is_value};
