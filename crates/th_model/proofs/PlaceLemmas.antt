@@ -35,7 +35,7 @@ least_more : (n : ℕ) (ps : Places) → least_place n ps ≤ least_place (n + 1
 least_more n [] = omega arith
 least_more n (p ∷ ps) = omega (arith, least_more n ps)
 
-least_with : (n : ℕ) (ps : Places) (rx i : ℕ) → min i (least_place n ps) ≤ least_place n (with_place ps rx i)
+pub least_with : (n : ℕ) (ps : Places) (rx i : ℕ) → min i (least_place n ps) ≤ least_place n (with_place ps rx i)
 least_with n [] rx i = omega arith
 least_with n (p ∷ ps) rx i = elim (nat_cmp rx p.0) as (λ r. min i (min p.1 (least_place n ps)) ≤ least_place n (match_ordering r ((rx, i) ∷ p ∷ ps) ((p.0, i) ∷ ps) (p ∷ with_place ps rx i))) [
   | Less ↦ omega arith
@@ -43,7 +43,7 @@ least_with n (p ∷ ps) rx i = elim (nat_cmp rx p.0) as (λ r. min i (min p.1 (l
   | Greater ↦ omega (arith, least_with n ps rx i)
 ]
 
-least_without : (n : ℕ) (ps : Places) (rx : ℕ) → least_place n ps ≤ least_place n (without_place ps rx)
+pub least_without : (n : ℕ) (ps : Places) (rx : ℕ) → least_place n ps ≤ least_place n (without_place ps rx)
 least_without n [] rx = omega arith
 least_without n (p ∷ ps) rx = elim (is_at (nat_cmp rx) p.0) as (λ b. min p.1 (least_place n ps) ≤ least_place n (cond b ps (p ∷ without_place ps rx))) [
   | true ↦ omega arith
@@ -144,7 +144,7 @@ place-without_other (p ∷ ps) rx q ne = elim (nat_cmp rx p.0) as (λ r. r ≡ n
 ] refl
 
 -- ---- the numbers of the receivers
-all_below : (a b : ℕ) (ks : List ℕ) → b < a → AllByRecursion (λ k. a < k) ks → AllByRecursion (λ k. b < k) ks
+pub all_below : (a b : ℕ) (ks : List ℕ) → b < a → AllByRecursion (λ k. a < k) ks → AllByRecursion (λ k. b < k) ks
 all_below a b [] lt h = tt
 all_below a b (k ∷ ks) lt h = (omega (arith, h.0), all_below a b ks lt h.1)
 

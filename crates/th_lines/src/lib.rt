@@ -1,0 +1,20 @@
+//! Lines: commands and replies as values, and how they are spelled.
+#![tactic(auto)]
+
+pub mod command;
+pub mod counted;
+pub mod fault;
+mod fields;
+pub mod laws;
+mod print;
+mod read;
+pub mod reply;
+#[cfg(test)]
+mod tests;
+
+pub use command::{Actor, Command};
+pub use counted::{Counted, Moved};
+pub use fault::LineFault;
+pub use print::print_reply;
+pub use read::{read_command, read_step};
+pub use reply::{Code, Reply};
