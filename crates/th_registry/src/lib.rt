@@ -1,0 +1,20 @@
+//! Topics by name, and the desk at which sessions ask.
+#![tactic(auto)]
+
+pub mod channel;
+pub mod desk;
+mod event;
+pub mod laws;
+pub mod local;
+pub mod opening;
+#[cfg(test)]
+mod tests;
+pub mod topics;
+pub mod verb;
+
+pub use channel::{Channel, Kind};
+pub use desk::Desk;
+pub use local::LocalDesk;
+pub use opening::{Found, Making, Refusal};
+pub use topics::Topics;
+pub use verb::{NoEvent, Outcome, Verb};

@@ -1,0 +1,5 @@
+pub mod Held
+pub mod Table
+pub mod Script
+pub mod Step
+pub mod Laws
