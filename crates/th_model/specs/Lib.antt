@@ -7,3 +7,7 @@ pub mod BroadcastMachine
 pub mod BroadcastPicture
 pub mod Delivery
 pub mod BroadcastExamples
+pub mod WatchMachine
+pub mod WatchPicture
+pub mod WatchExamples
+pub mod Marks

@@ -8,6 +8,8 @@ pub mod handles;
 pub mod name;
 pub mod short;
 pub mod value;
+pub mod watch;
+pub mod watch_laws;
 
 pub use broadcast::{BCall, BReply};
 pub use capacity::{BadCapacity, Capacity};
@@ -15,3 +17,4 @@ pub use handles::{RxId, TxId};
 pub use name::{BadName, Name};
 pub use short::Short;
 pub use value::{Value, ValueFault, is_value};
+pub use watch::{Edit, WCall, WReply};
