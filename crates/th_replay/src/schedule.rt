@@ -19,7 +19,19 @@ const MOST_READS: u64 = 1 << 32;
 /// How many bytes are asked for in one read.
 const CHUNK: usize = 65536;
 
-/// Carries out a schedule of at most so many lines, by at most so many reads, and answers the number of its lines.
+/// Carries out the schedule that the reader gives on a hub of its own, and answers the number of its lines once all their
+/// replies are written and flushed. It takes at most so many lines and makes at most so many reads, of which an
+/// interrupted one is made again and counts; at most 1,000 interrupted writes and flushes are made again. Replies are
+/// written in large pieces, and all that wait before each read.
+///
+/// A line takes one look-up of its actor's name beside what its command takes, and no call of the writer. All buffers are
+/// made before the first read; where memory is refused later, the line is answered `ERR 21 no-memory` and nothing else
+/// has changed.
+///
+/// # Errors
+///
+/// `Read` and `Write` exactly where the reader and the writer failed, `TooLong` where a line beyond the bound begins or
+/// one more read would be needed, once all replies before it are written, and `Short` before the first read.
 pub fn replay_bounded<R: Read, W: Write>(
     alloc: Global,
     reader: &mut Counted<R>,
@@ -105,7 +117,7 @@ fn run<R: Read, W: Write>(
     }
 }
 
-/// Carries out a schedule within the limits of a run: 1,000,000 lines and 2^32 reads.
+/// Carries out a schedule within the limits of a run, 1,000,000 lines and 2^32 reads, as [`replay_bounded`] does.
 pub fn replay<R: Read, W: Write>(
     alloc: Global,
     reader: &mut Counted<R>,

@@ -138,7 +138,7 @@ const ROWS: [(u64, &'static [u8], &'static [u8]); 9] = [
     ),
     (
         6,
-        b"a OPEN T B 2\na OPEN u B 02\n\na NONE\na OPEN u B 0\na TRY u",
+        b"a OPEN T B 2\na OPEN u B 02\n\na LIST\na OPEN u B 0\na TRY u",
         b"ERR 10 bad-line\nERR 10 bad-line\nERR 10 bad-line\nERR 10 bad-line\nERR 14 bad-capacity\nERR 11 no-topic\n",
     ),
     (

@@ -1,5 +1,6 @@
-//! Runs of the channel. Under `rt try --test --fail-alloc N` the Nth allocation is refused: a row's call is then made again,
-//! and a refusal elsewhere ends the test with that error. An `assertion` that fails is a wrong reply.
+//! Runs of the channel. A call or a maker that is refused memory is made again, so that one allocation after another may
+//! be refused (`rt try --test --fail-alloc N`, for N = 1, 2 and so on) and no reply may change. A refusal elsewhere ends the
+//! test with that error; an `assertion` that fails is a wrong reply.
 ghost use Rattle.std.specs.Prelude.{◌≡◌, ◌+◌, ◌-◌, ◌^◌, ◌<◌, true, IfOk};
 
 mod chronicle;
@@ -31,6 +32,13 @@ fn starting_at(alloc: Global, value: u64, version: u64) -> Result<Watch<u64>, Fa
     match Watch::starting_at(alloc, value, version) {
         Ok(channel) => Ok(channel),
         Err(short) => Ok(Watch::starting_at(alloc, short.call, version)?),
+    }
+}
+
+fn opened(alloc: Global, value: u64) -> Result<Watch<u64>, Fail> {
+    match Watch::new(alloc, value) {
+        Ok(channel) => Ok(channel),
+        Err(short) => Ok(Watch::new(alloc, short.call)?),
     }
 }
 
@@ -72,7 +80,7 @@ fn add_one_to_nine(channel: &mut Watch<u64>) -> Result<bool, ()> {
 
 #[test]
 fn a_closure_decides(rt: HostRuntime) -> Result<(), Fail> {
-    let mut channel = Watch::new(rt.alloc(), 1u64)?;
+    let mut channel = opened(rt.alloc(), 1)?;
     assert_eq!(rt; reply_to(&mut channel, Subscribe(TX))?, NewRx(RX));
     let told = channel.send_if_modified(TX, |x| {
         *x = x.wrapping_add(1);
@@ -141,7 +149,7 @@ const Z: u64 = 26;
 
 #[test]
 fn a_story_of_one_reader(rt: HostRuntime) -> Result<(), Fail> {
-    let mut channel = Watch::new(rt.alloc(), A)?;
+    let mut channel = opened(rt.alloc(), A)?;
     let tx = TxId(2);
     let rx = RxId(3);
     // A refused send is not stored; a replace needs no reader.
@@ -281,6 +289,55 @@ fn compares_values_for_differ_alone(rt: HostRuntime) -> Result<(), Fail> {
     for (call, want) in rows {
         assert_eq!(rt; channel.apply(call)?, want);
     }
+    Ok(())
+}
+
+fn value(alloc: Global, bytes: &[u8]) -> Result<Value, Fail> {
+    match Value::new(alloc, bytes) {
+        Ok(value) => Ok(value),
+        Err(_) => Ok(Value::new(alloc, bytes)?),
+    }
+}
+
+#[test]
+fn values_are_answered_by_name(rt: HostRuntime) -> Result<(), Fail> {
+    let alloc = rt.alloc();
+    let mut channel = Watch::channel(alloc, value(alloc, b"0")?)?;
+    assert!(rt; !channel.ready(&Changed(RX)));
+    let one = value(alloc, b"1")?;
+    let rows = [
+        (channel.send(TX, value(alloc, b"1")?), Done),
+        (channel.changed(RX), Marked),
+        (channel.try_changed(RX), NotYet),
+        (channel.replace(TX, value(alloc, b"2")?), Was(one)),
+        (
+            channel.edit_by(TX, Set(value(alloc, b"3")?)),
+            Modified(true),
+        ),
+        (channel.has_changed(RX), WReply::Changed(true)),
+        (channel.mark_unchanged(RX), Done),
+        (channel.mark_changed(RX), Done),
+        (channel.clone_rx(RX)?, NewRx(RxId(3))),
+        (channel.subscribe(TX)?, NewRx(RxId(4))),
+        (channel.clone_tx(TX)?, NewTx(TxId(5))),
+        (channel.drop_rx(RxId(4)), Done),
+        (channel.drop_tx(TxId(5)), Done),
+        (channel.readers(TX), Count(2)),
+        (channel.is_closed(TX), Gone(false)),
+    ];
+    for (reply, want) in rows {
+        assert_eq!(rt; reply, want);
+    }
+    let left = value(alloc, b"4")?;
+    assert!(rt; channel.send_modify(TX, |x| *x = left).is_ok());
+    assert_eq!(rt; channel.borrow(RX)?, Shown(value(alloc, b"4")?, true));
+    let left = value(alloc, b"5")?;
+    let told = channel.send_if_modified(TX, |x| {
+        *x = left;
+        true
+    });
+    assert!(rt; matches!(told, Ok(true)));
+    assert_eq!(rt; channel.take(RX)?, Shown(value(alloc, b"5")?, true));
     Ok(())
 }
 

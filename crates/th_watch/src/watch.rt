@@ -1,9 +1,9 @@
 //! The channel's state and its calls.
-ghost use Rattle.std.specs.Prelude.{◌≡◌, ◌≢◌, ◌+◌, nat_lt, ◌↔◌, ◌≤◌, ◌<◌, ◌-◌, ◌^◌, ℕ, Bool, true, false, IsTrue, IsOk, IfOk, IfErr, OnOk, OnErr, Some, is_some};
+ghost use Rattle.std.specs.Prelude.{◌≡◌, ◌≢◌, ◌+◌, nat_lt, ◌↔◌, ◌≤◌, ◌<◌, ◌-◌, ◌^◌, ℕ, Bool, true, false, List, [], ◌∷◌, IsTrue, IsOk, IfOk, IfErr, OnOk, OnErr, Some, is_some};
 ghost use Rattle.std.specs.Fn.{FnOnceTakesAtMut};
 ghost use Rattle.th_model.specs.Limits.{ClonesAreEqual};
 ghost use Rattle.th_model.specs.WatchMachine.{IsExact, reader_of, with_reader, opened, paired};
-ghost use Rattle.th_model.specs.WatchPicture.{IsSound, see, answer, uncompared, marked, subscribe, with_version, is_ready, WouldWait, Meets, TakesNoMemory};
+ghost use Rattle.th_model.specs.WatchPicture.{IsSound, picture_of, see, answer, uncompared, marked, subscribe, with_version, is_ready, WouldWait, Meets, TakesNoMemory};
 ghost use Rattle.th_watch.specs.Edited.{IsEdited, IsModified, IsRefused};
 
 use crate::refused::EditRefused;
@@ -70,6 +70,7 @@ impl<T: Drop> Watch<T> {
     pub fn starting_at(alloc: Global, value: T, version: u64) -> Result<Self, Short<T>>
         requires { 1 ≤ version }
         ensures opened { IfOk result (λ channel. channel ≡ see (opened value version)) }
+        ensures picture { IfOk result (λ channel. channel ≡ picture_of version value [] (1 ∷ []) 2) }
         ensures short { IfErr result (λ short. short.call ≡ value) }
     {
         let mut senders = BTreeSet::new(alloc);
@@ -90,6 +91,7 @@ impl<T: Drop> Watch<T> {
     /// `Short` hands the value back.
     pub fn new(alloc: Global, value: T) -> Result<Self, Short<T>>
         ensures opened { IfOk result (λ channel. channel ≡ see (opened value 1)) }
+        ensures picture { IfOk result (λ channel. channel ≡ picture_of 1 value [] (1 ∷ []) 2) }
         ensures short { IfErr result (λ short. short.call ≡ value) }
     {
         Self::starting_at(alloc, value, 1)
@@ -100,6 +102,7 @@ impl<T: Drop> Watch<T> {
     /// `Short` hands the value back.
     pub fn channel(alloc: Global, value: T) -> Result<Self, Short<T>>
         ensures paired { IfOk result (λ channel. channel ≡ see (paired value)) }
+        ensures picture { IfOk result (λ channel. channel ≡ picture_of 1 value ((2, 1) ∷ []) (1 ∷ []) 3) }
         ensures short { IfErr result (λ short. short.call ≡ value) }
     {
         let mut senders = BTreeSet::new(alloc);
