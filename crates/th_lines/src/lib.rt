@@ -1,4 +1,10 @@
 //! Lines: commands and replies as values, and how they are spelled.
+//!
+//! ```text
+//! let (actor, command) = read_step(alloc, b"bob TRY news")?;     // bob, TryReceive(news)
+//! let mut text = Vec::with_capacity(alloc, 4096)?;
+//! print_reply(&Reply::Lagged(2), &mut text)?;                    // LAG 2
+//! ```
 #![tactic(auto)]
 
 pub mod command;

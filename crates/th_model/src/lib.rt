@@ -1,4 +1,11 @@
 //! The calls and replies of a channel, and the machine that remembers every value ever sent.
+//!
+//! ```text
+//! let capacity = Capacity::new(10)?;          // 16 is in force
+//! let name = Name::new(b"news")?;
+//! let value = Value::new(alloc, b"seven")?;
+//! let call = BCall::Send(TxId(1), value);
+//! ```
 #![tactic(auto)]
 
 pub mod broadcast;

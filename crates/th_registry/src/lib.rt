@@ -1,4 +1,10 @@
 //! Topics by name, and the desk at which sessions ask.
+//!
+//! ```text
+//! let mut desk = LocalDesk::new(alloc);
+//! desk.open_topic(Name::new(b"news")?, Making::Broadcast(10, 0))?;   // 16, the capacity in force
+//! desk.find(&Name::new(b"news")?);                                   // topic 0, of kind Broadcast
+//! ```
 #![tactic(auto)]
 
 pub mod channel;

@@ -1,4 +1,11 @@
 //! Sessions: one actor's handles, and its commands carried out at a desk.
+//!
+//! ```text
+//! let mut desk = LocalDesk::new(alloc);
+//! let mut bob = Session::new(alloc);
+//! step(&mut bob, &mut desk, Command::OpenBroadcast(Name::new(b"news")?, 2));     // Count(2)
+//! step(&mut bob, &mut desk, Command::Subscribe(Name::new(b"news")?));            // Done
+//! ```
 #![tactic(auto)]
 
 pub mod asked;
