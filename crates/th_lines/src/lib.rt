@@ -21,6 +21,6 @@ mod tests;
 pub use command::{Actor, Command};
 pub use counted::{Counted, Moved};
 pub use fault::LineFault;
-pub use print::print_reply;
+pub use print::{print_line, print_reply};
 pub use read::{read_command, read_step};
 pub use reply::{Code, Reply};

@@ -6,7 +6,7 @@ use Rattle.indexmap.specs.IndexMap.{set_value_at}
 use Rattle.th_model.specs.declared.handles.TxId.{TxId}
 use Rattle.th_model.specs.declared.handles.RxId.{RxId}
 use Rattle.th_registry.specs.declared.verb.Verb.{Verb}
-use Rattle.th_registry.specs.declared.verb.Outcome.TheVariants.{NewTx, NewRx, Broadcast}
+use Rattle.th_registry.specs.declared.verb.Outcome.TheVariants.{NewTx, NewRx, Broadcast, Watch}
 use Rattle.th_registry.specs.Calls.{Told, through_hub}
 use Rattle.th_registry.specs.Handles.{numbered}
 use Rattle.th_registry.specs.Hub.{Event, Hub, Own, written, on_channel, channel_told, by_handle, Says}
@@ -28,6 +28,7 @@ same-numbers : (told : Told) → numbered (λ (t : TxId). t) (λ (r : RxId). r) 
 same-numbers (Ok (NewTx t)) = refl
 same-numbers (Ok (NewRx r)) = refl
 same-numbers (Ok (Broadcast reply)) = refl
+same-numbers (Ok (Watch reply)) = refl
 same-numbers (Err why) = refl
 
 -- an event by the handle of this number

@@ -20,62 +20,65 @@ none-of : {X : Type 0} (o : Option X) → is_some o ≡ false → o ≡ None
 none-of None h = refl
 none-of (Some x) h = absurd (true≢false h)
 
-module _ {B : Type 0} where
-  found-in : (n : ℕ) (t : Option (Bytes × Channel B)) → is_some t ≡ true → is_some (found_in n t) ≡ true
+module _ {B W : Type 0} where
+  found-in : (n : ℕ) (t : Option (Bytes × Channel B W)) → is_some t ≡ true → is_some (found_in n t) ≡ true
   found-in n None h = h
   found-in n (Some t) h = refl
 
-  found-at : (ts : Topics B) (o : Option ℕ) → ((n : ℕ) → o ≡ Some n → is_some (slice_get ts n) ≡ true) → is_some (found_at ts o) ≡ is_some o
+  found-at : (ts : Topics B W) (o : Option ℕ) → ((n : ℕ) → o ≡ Some n → is_some (slice_get ts n) ≡ true) → is_some (found_at ts o) ≡ is_some o
   found-at ts None h = refl
   found-at ts (Some n) h = found-in n (slice_get ts n) (h n refl)
 
-  there : (ts : Topics B) (n : ℕ) → n < length (keys_of ts) → is_some (slice_get ts n) ≡ true
+  there : (ts : Topics B W) (n : ℕ) → n < length (keys_of ts) → is_some (slice_get ts n) ≡ true
   there [] n h = absurd (omega (arith, h))
   there (t ∷ ts) zero h = refl
   there (t ∷ ts) (suc n) h = there ts n (omega (arith, h))
 
   -- a topic is found exactly where its name is among the keys
-  is-found : (ts : Topics B) (name : Bytes) → is_some (find ts name) ≡ is_some (lookup (pointwise nat_eq name) ts)
+  is-found : (ts : Topics B W) (name : Bytes) → is_some (find ts name) ≡ is_some (lookup (pointwise nat_eq name) ts)
   is-found ts name =
       found-at ts (position (pointwise nat_eq name) (keys_of ts)) (λ n e. there ts n (position-Some (pointwise nat_eq name) (keys_of ts) n [] e).0)
       ∙ some_index (pointwise nat_eq name) ts
 
   -- a name that is not found goes last
-  pub insert-new : (ts : Topics B) (name : Bytes) (c : Channel B) → is_some (find ts name) ≡ false → insert_entry (pointwise nat_eq) ts name c ≡ ts ++ (name, c) ∷ []
+  pub insert-new : (ts : Topics B W) (name : Bytes) (c : Channel B W) → is_some (find ts name) ≡ false → insert_entry (pointwise nat_eq) ts name c ≡ ts ++ (name, c) ∷ []
   insert-new ts name c h = insert_entry-absent (pointwise nat_eq) name c ts (absent_from_lookup (pointwise nat_eq name) ts (none-of _ (sym (is-found ts name) ∙ h)))
 
-module _ {B : Type 0} (m : Machines B) (ts : Topics B) (name : Bytes) (asked base : ℕ) (new : is_some (find ts name) ≡ false) where
+module _ {B W : Type 0} (m : Machines B W) (ts : Topics B W) (name : Bytes) (new : is_some (find ts name) ≡ false) where
+  opens : (making : Making) (x : Option (ℕ × Channel B W)) → made m making ≡ x → open_topic m ts name making ≡ added ts name x
+  opens making x e = ap (λ b. cond b (Err Refusals.Exists, ts) (added ts name (made m making))) new ∙ ap (added ts name) e
+
+  -- of a making that gives this channel and this number
+  pub opens-full : (making : Making) (n : ℕ) (c : Channel B W) → made m making ≡ Some (n, c) → most_topics ≤ length ts → open_topic m ts name making ≡ (Err Refusals.TooManyTopics, ts)
+  opens-full making n c e full =
+      opens making _ e
+      ∙ ap (λ b. cond b (Err Refusals.TooManyTopics, ts) (Ok n, ts ++ (name, c) ∷ [])) (le-leb most_topics (length ts) full)
+
+  pub opens-new : (making : Making) (n : ℕ) (c : Channel B W) → made m making ≡ Some (n, c) → length ts < most_topics → open_topic m ts name making ≡ (Ok n, ts ++ (name, c) ∷ [])
+  opens-new making n c e room =
+      opens making _ e
+      ∙ ap (λ b. cond b (Err Refusals.TooManyTopics, ts) (Ok n, ts ++ (name, c) ∷ [])) (lt-leb most_topics (length ts) room)
+
+  -- want of memory is told only where the topic would be opened
+  pub opens-short : (making : Making) (n : ℕ) (c : Channel B W) → made m making ≡ Some (n, c) → length ts < most_topics → (after : Topics B W) → after ≡ ts → Says m ts (Open name making) (Err Refusals.Short) after
+  opens-short making n c e room after same = inr (refl, same, subst (λ r. IsOk r.0) (sym (opens-new making n c e room)) refl)
+
+  pub opens-bad : (making : Making) → made m making ≡ None → open_topic m ts name making ≡ (Err Refusals.BadCapacity, ts)
+  opens-bad making e = opens making None e
+
+-- the channel of a making
+module _ {B W : Type 0} (m : Machines B W) (asked base : ℕ) where
   abbrev making : Making
   making = Makings.Broadcast asked base
 
-  opens : (x : Option (ℕ × Channel B)) → made m making ≡ x → open_topic m ts name making ≡ added ts name x
-  opens x e = ap (λ b. cond b (Err Refusals.Exists, ts) (added ts name (made m making))) new ∙ ap (added ts name) e
-
-  none-either : (b : Bool) (o : Option (ℕ × Channel B)) → o ≡ None → cond b o None ≡ None
+  none-either : (b : Bool) (o : Option (ℕ × Channel B W)) → o ≡ None → cond b o None ≡ None
   none-either true o e = e
   none-either false o e = refl
 
-  made-none : capacity_of asked ≡ None → made m making ≡ None
+  pub made-none : capacity_of asked ≡ None → made m making ≡ None
   made-none e = none-either (nat_lt base (2 ^ 64)) _ (ap (option_map (λ c. (c, Broadcast (m.broadcast_opened c base)))) e)
 
-  made-some : (c : ℕ) → base < 2 ^ 64 → capacity_of asked ≡ Some c → made m making ≡ Some (c, Broadcast (m.broadcast_opened c base))
+  pub made-some : (c : ℕ) → base < 2 ^ 64 → capacity_of asked ≡ Some c → made m making ≡ Some (c, Broadcast (m.broadcast_opened c base))
   made-some c fits e =
       ap (λ o. cond (nat_lt base (2 ^ 64)) (option_map (λ c. (c, Broadcast (m.broadcast_opened c base))) o) None) e
       ∙ ap (λ b. cond b (Some (c, Broadcast (m.broadcast_opened c base))) None) (lt-ltb base (2 ^ 64) fits)
-
-  pub opens-bad : capacity_of asked ≡ None → open_topic m ts name making ≡ (Err Refusals.BadCapacity, ts)
-  opens-bad e = opens None (made-none e)
-
-  pub opens-full : (c : ℕ) → base < 2 ^ 64 → capacity_of asked ≡ Some c → most_topics ≤ length ts → open_topic m ts name making ≡ (Err Refusals.TooManyTopics, ts)
-  opens-full c fits e full =
-      opens _ (made-some c fits e)
-      ∙ ap (λ b. cond b (Err Refusals.TooManyTopics, ts) (Ok c, ts ++ (name, Broadcast (m.broadcast_opened c base)) ∷ [])) (le-leb most_topics (length ts) full)
-
-  pub opens-new : (c : ℕ) → base < 2 ^ 64 → capacity_of asked ≡ Some c → length ts < most_topics → open_topic m ts name making ≡ (Ok c, ts ++ (name, Broadcast (m.broadcast_opened c base)) ∷ [])
-  opens-new c fits e room =
-      opens _ (made-some c fits e)
-      ∙ ap (λ b. cond b (Err Refusals.TooManyTopics, ts) (Ok c, ts ++ (name, Broadcast (m.broadcast_opened c base)) ∷ [])) (lt-leb most_topics (length ts) room)
-
-  -- want of memory is told only where the topic would be opened
-  pub opens-short : (c : ℕ) → base < 2 ^ 64 → capacity_of asked ≡ Some c → length ts < most_topics → (after : Topics B) → after ≡ ts → Says m ts (Open name making) (Err Refusals.Short) after
-  opens-short c fits e room after same = inr (refl, same, subst (λ r. IsOk r.0) (sym (opens-new c fits e room)) refl)

@@ -11,21 +11,35 @@ use Rattle.std.proofs.Math.Nat.{pow-succ'}
 use Rattle.indexmap.specs.IndexMap.{set_value_at}
 use Rattle.th_model.specs.declared.broadcast.BCall.{BCall}
 use Rattle.th_model.specs.Limits.{IsCapacity, doubled, capacity_of}
-use Rattle.th_model.specs.BroadcastMachine.{Endless, IsProper}
-use Rattle.th_model.specs.BroadcastPicture.{see}
-use Rattle.th_model.proofs.BroadcastSeen.{answer_seen}
-use Rattle.th_model.proofs.BroadcastProperness.{step_proper, opened_proper}
-use Rattle.th_registry.specs.declared.channel.Kind.{Kind}
-use Rattle.th_registry.specs.declared.channel.Channel.TheVariants.{Broadcast}
+use Rattle.th_model.specs.declared.broadcast.BCall.TheVariants as BCalls
+use Rattle.th_model.specs.declared.broadcast.BReply.{BReply}
+use Rattle.th_model.specs.declared.watch.WCall.{WCall}
+use Rattle.th_model.specs.declared.watch.WReply.{WReply}
+use Rattle.th_model.specs.declared.kind.Kind.{Kind}
+use Rattle.th_model.specs.declared.handles.TxId.{TxId}
+use Rattle.th_model.specs.declared.handles.RxId.{RxId}
+use Rattle.th_model.specs.BroadcastMachine as broadcast
+use Rattle.th_model.specs.BroadcastPicture as seen_broadcast
+use Rattle.th_model.specs.WatchMachine as watch
+use Rattle.th_model.specs.WatchPicture as seen_watch
+use Rattle.th_model.proofs.BroadcastSeen as broadcast_seen
+use Rattle.th_model.proofs.BroadcastProperness as broadcast_proper
+use Rattle.th_model.proofs.WatchSeen as watch_seen
+use Rattle.th_model.proofs.WatchProperness as watch_proper
+use Rattle.th_registry.specs.declared.channel.Channel.TheVariants.{Broadcast, Watch}
+use Rattle.th_registry.specs.declared.verb.Outcome.{Outcome}
+use Rattle.th_registry.specs.declared.verb.Outcome.TheVariants as Outcomes
+use Rattle.th_registry.specs.declared.verb.NoEvent.TheVariants as NoEvents
 use Rattle.th_registry.specs.declared.opening.Found.{Found}
 use Rattle.th_registry.specs.declared.opening.Making.{Making}
 use Rattle.th_registry.specs.declared.opening.Making.TheVariants as Makings
 use Rattle.th_registry.specs.declared.opening.Refusal.{Refusal}
 use Rattle.th_registry.specs.declared.opening.Refusal.TheVariants as Refusals
 use Rattle.th_registry.specs.declared.verb.Verb.{Verb}
-use Rattle.th_registry.specs.Calls.{Bytes, Told, broadcast_call, broadcast_outcome}
+use Rattle.th_registry.specs.declared.verb.Verb.TheVariants.{CloneTx, DropTx, Subscribe, DropRx, Resubscribe, Send, TryRecv, Recv, Left, Queued, Readers, Replace, EditBy, Borrow, Take, HasChanged, TryChanged, Changed, MarkChanged, MarkUnchanged}
+use Rattle.th_registry.specs.Calls.{Bytes, Told, rx, broadcast_call, broadcast_outcome, broadcast_waits, watch_call, watch_outcome, watch_waits}
 use Rattle.th_registry.specs.Kinds.{kind_of}
-use Rattle.th_registry.specs.Hub.{By, Find, Open, Event, most_topics, found_in, found_at, find, written, on_channel, added, made, open_topic, broadcast_told, channel_told, number_of, by_handle, say}
+use Rattle.th_registry.specs.Hub.{By, Find, List, Open, Event, most_topics, found_in, found_at, find, list, written, on_channel, added, made, open_topic, broadcast_told, moved, broadcast_event, watch_told, channel_told, number_of, by_handle, say}
 use Rattle.th_registry.specs.Endless.{EndlessChannel, EndlessTopics, endless, IsProperChannel, AreProper}
 use Rattle.th_registry.specs.Pictures.{SeenChannel, SeenTopics, pictures, see_channel, see_topics}
 use Rattle.th_registry.specs.Laws.{SaysWhatIsSeen, StaysProper}
@@ -38,6 +52,7 @@ keys-seen (t ∷ ts) = ap (λ ks. t.0 ∷ ks) (keys-seen ts)
 
 kind-seen : (c : EndlessChannel) → kind_of (see_channel c) ≡ kind_of c
 kind-seen (Broadcast e) = refl
+kind-seen (Watch e) = refl
 
 abbrev see_topic : Bytes × EndlessChannel → Bytes × SeenChannel
 see_topic t = (t.0, see_channel t.1)
@@ -56,6 +71,12 @@ found_at-seen ts (Some n) = ap (found_in n) (slice_get-map see_topic ts n) ∙ f
 find-seen : (ts : EndlessTopics) (name : Bytes) → find (see_topics ts) name ≡ find ts name
 find-seen ts name = ap (λ ks. found_at (see_topics ts) (position (pointwise nat_eq name) ks)) (keys-seen ts) ∙ found_at-seen ts (position (pointwise nat_eq name) (keys_of ts))
 
+-- listing
+
+list-seen : (ts : EndlessTopics) → list (see_topics ts) ≡ list ts
+list-seen [] = refl
+list-seen (t ∷ ts) = (λ i. (record { name = t.0; kind = kind-seen t.1 i }) ∷ list-seen ts i)
+
 -- opening
 
 abbrev see_made : ℕ × EndlessChannel → ℕ × SeenChannel
@@ -68,6 +89,7 @@ made_of-seen base false o = refl
 
 made-seen : (making : Making) → made pictures making ≡ option_map see_made (made endless making)
 made-seen (Makings.Broadcast asked base) = made_of-seen base (nat_lt base (2 ^ 64)) (capacity_of asked)
+made-seen (Makings.Watch value) = refl
 
 see_added : (ts : EndlessTopics) (name : Bytes) (c : EndlessChannel) → see_topics ts ++ (name, see_channel c) ∷ [] ≡ see_topics (ts ++ (name, c) ∷ [])
 see_added ts name c = sym (map-append see_topic ts ((name, c) ∷ []))
@@ -110,15 +132,119 @@ open-seen ts name making =
 
 -- events
 
-abbrev see_told : Told × EndlessChannel → Told × SeenChannel
+-- what is said, and what is seen of the channel
+abbrev Ended : Type 0 → Type 0
+Ended C = Told × C
+
+abbrev see_told : Ended EndlessChannel → Ended SeenChannel
 see_told s = (s.0, see_channel s.1)
 
-broadcast-seen : (e : Endless Bytes) → IsProper e → (call : Option (BCall Bytes)) → broadcast_told pictures (see e) call ≡ see_told (broadcast_told endless e call)
-broadcast-seen e proper None = refl
-broadcast-seen e proper (Some call) = ap (λ s. (Ok (broadcast_outcome s.0), Broadcast s.1)) (answer_seen e call proper)
+abbrev see_broadcast : Ended (broadcast.Endless Bytes) → Ended (seen_broadcast.Picture Bytes)
+see_broadcast s = (s.0, seen_broadcast.see s.1)
+
+abbrev see_watch : Ended (watch.Endless Bytes) → Ended (seen_watch.Picture Bytes)
+see_watch s = (s.0, seen_watch.see s.1)
+
+-- one call, or that it would wait
+module _ {C R : Type 0} (outcome : R → Outcome TxId RxId) where
+  abbrev called : Bool → C → R × C → Ended C
+  called waits c s = cond waits (Err NoEvents.Blocked, c) (Ok (outcome s.0), s.1)
+
+broadcast_called-seen : (e : broadcast.Endless Bytes) (s : BReply Bytes × broadcast.Endless Bytes) (waits : Bool) → called broadcast_outcome waits (seen_broadcast.see e) (s.0, seen_broadcast.see s.1) ≡ see_broadcast (called broadcast_outcome waits e s)
+broadcast_called-seen e s true = refl
+broadcast_called-seen e s false = refl
+
+broadcast_told-seen : (e : broadcast.Endless Bytes) → broadcast.IsProper e → (call : Option (BCall Bytes)) → broadcast_told pictures (seen_broadcast.see e) call ≡ see_broadcast (broadcast_told endless e call)
+broadcast_told-seen e proper None = refl
+broadcast_told-seen e proper (Some call) =
+    ap (λ s. called broadcast_outcome (broadcast_waits call s.0) (seen_broadcast.see e) s) (broadcast_seen.answer_seen e call proper)
+    ∙ broadcast_called-seen e (broadcast.step e call) (broadcast_waits call (broadcast.step e call).0)
+
+moved-seen : (n : ℕ) (s : Ended (broadcast.Endless Bytes)) → broadcast.IsProper s.1 → moved pictures n (see_broadcast s) ≡ see_broadcast (moved endless n s)
+moved-seen n (Ok (Outcomes.NewRx r), e) proper = ap (λ s. (Ok (Outcomes.NewRx r), s.1)) (broadcast_seen.answer_seen e (BCalls.DropRx (rx n)) proper)
+moved-seen n (Ok (Outcomes.NewTx t), e) proper = refl
+moved-seen n (Ok (Outcomes.Broadcast reply), e) proper = refl
+moved-seen n (Ok (Outcomes.Watch reply), e) proper = refl
+moved-seen n (Err why, e) proper = refl
+
+proper-called : {C R : Type 0} (P : C → Type 0) (outcome : R → Outcome TxId RxId) (c : C) (s : R × C) (waits : Bool) → P c → P s.1 → P (called outcome waits c s).1
+proper-called P outcome c s true before after = before
+proper-called P outcome c s false before after = after
+
+proper-broadcast_told : (e : broadcast.Endless Bytes) → broadcast.IsProper e → (call : Option (BCall Bytes)) → broadcast.IsProper (broadcast_told endless e call).1
+proper-broadcast_told e proper None = proper
+proper-broadcast_told e proper (Some call) = proper-called broadcast.IsProper broadcast_outcome e (broadcast.step e call) (broadcast_waits call (broadcast.step e call).0) proper (broadcast_proper.step_proper e call proper)
+
+proper-moved : (n : ℕ) (s : Ended (broadcast.Endless Bytes)) → broadcast.IsProper s.1 → broadcast.IsProper (moved endless n s).1
+proper-moved n (Ok (Outcomes.NewRx r), e) proper = broadcast_proper.step_proper e (BCalls.DropRx (rx n)) proper
+proper-moved n (Ok (Outcomes.NewTx t), e) proper = proper
+proper-moved n (Ok (Outcomes.Broadcast reply), e) proper = proper
+proper-moved n (Ok (Outcomes.Watch reply), e) proper = proper
+proper-moved n (Err why, e) proper = proper
+
+broadcast-seen : (e : broadcast.Endless Bytes) → broadcast.IsProper e → (n : ℕ) (verb : Verb) → broadcast_event pictures (seen_broadcast.see e) n verb ≡ see_broadcast (broadcast_event endless e n verb)
+broadcast-seen e proper n Resubscribe =
+    ap (moved pictures n) (broadcast_told-seen e proper (broadcast_call Resubscribe n))
+    ∙ moved-seen n (broadcast_told endless e (broadcast_call Resubscribe n)) (proper-broadcast_told e proper (broadcast_call Resubscribe n))
+broadcast-seen e proper n CloneTx = broadcast_told-seen e proper (broadcast_call CloneTx n)
+broadcast-seen e proper n DropTx = broadcast_told-seen e proper (broadcast_call DropTx n)
+broadcast-seen e proper n Subscribe = broadcast_told-seen e proper (broadcast_call Subscribe n)
+broadcast-seen e proper n DropRx = broadcast_told-seen e proper (broadcast_call DropRx n)
+broadcast-seen e proper n (Send v) = broadcast_told-seen e proper (broadcast_call (Send v) n)
+broadcast-seen e proper n TryRecv = broadcast_told-seen e proper (broadcast_call TryRecv n)
+broadcast-seen e proper n Recv = broadcast_told-seen e proper (broadcast_call Recv n)
+broadcast-seen e proper n Left = broadcast_told-seen e proper (broadcast_call Left n)
+broadcast-seen e proper n Queued = broadcast_told-seen e proper (broadcast_call Queued n)
+broadcast-seen e proper n Readers = broadcast_told-seen e proper (broadcast_call Readers n)
+broadcast-seen e proper n (Replace v) = broadcast_told-seen e proper (broadcast_call (Replace v) n)
+broadcast-seen e proper n (EditBy v) = broadcast_told-seen e proper (broadcast_call (EditBy v) n)
+broadcast-seen e proper n Borrow = broadcast_told-seen e proper (broadcast_call Borrow n)
+broadcast-seen e proper n Take = broadcast_told-seen e proper (broadcast_call Take n)
+broadcast-seen e proper n HasChanged = broadcast_told-seen e proper (broadcast_call HasChanged n)
+broadcast-seen e proper n TryChanged = broadcast_told-seen e proper (broadcast_call TryChanged n)
+broadcast-seen e proper n Changed = broadcast_told-seen e proper (broadcast_call Changed n)
+broadcast-seen e proper n MarkChanged = broadcast_told-seen e proper (broadcast_call MarkChanged n)
+broadcast-seen e proper n MarkUnchanged = broadcast_told-seen e proper (broadcast_call MarkUnchanged n)
+
+proper-broadcast : (e : broadcast.Endless Bytes) → broadcast.IsProper e → (n : ℕ) (verb : Verb) → broadcast.IsProper (broadcast_event endless e n verb).1
+proper-broadcast e proper n Resubscribe = proper-moved n (broadcast_told endless e (broadcast_call Resubscribe n)) (proper-broadcast_told e proper (broadcast_call Resubscribe n))
+proper-broadcast e proper n CloneTx = proper-broadcast_told e proper (broadcast_call CloneTx n)
+proper-broadcast e proper n DropTx = proper-broadcast_told e proper (broadcast_call DropTx n)
+proper-broadcast e proper n Subscribe = proper-broadcast_told e proper (broadcast_call Subscribe n)
+proper-broadcast e proper n DropRx = proper-broadcast_told e proper (broadcast_call DropRx n)
+proper-broadcast e proper n (Send v) = proper-broadcast_told e proper (broadcast_call (Send v) n)
+proper-broadcast e proper n TryRecv = proper-broadcast_told e proper (broadcast_call TryRecv n)
+proper-broadcast e proper n Recv = proper-broadcast_told e proper (broadcast_call Recv n)
+proper-broadcast e proper n Left = proper-broadcast_told e proper (broadcast_call Left n)
+proper-broadcast e proper n Queued = proper-broadcast_told e proper (broadcast_call Queued n)
+proper-broadcast e proper n Readers = proper-broadcast_told e proper (broadcast_call Readers n)
+proper-broadcast e proper n (Replace v) = proper-broadcast_told e proper (broadcast_call (Replace v) n)
+proper-broadcast e proper n (EditBy v) = proper-broadcast_told e proper (broadcast_call (EditBy v) n)
+proper-broadcast e proper n Borrow = proper-broadcast_told e proper (broadcast_call Borrow n)
+proper-broadcast e proper n Take = proper-broadcast_told e proper (broadcast_call Take n)
+proper-broadcast e proper n HasChanged = proper-broadcast_told e proper (broadcast_call HasChanged n)
+proper-broadcast e proper n TryChanged = proper-broadcast_told e proper (broadcast_call TryChanged n)
+proper-broadcast e proper n Changed = proper-broadcast_told e proper (broadcast_call Changed n)
+proper-broadcast e proper n MarkChanged = proper-broadcast_told e proper (broadcast_call MarkChanged n)
+proper-broadcast e proper n MarkUnchanged = proper-broadcast_told e proper (broadcast_call MarkUnchanged n)
+
+watch_called-seen : (e : watch.Endless Bytes) (s : WReply Bytes × watch.Endless Bytes) (waits : Bool) → called watch_outcome waits (seen_watch.see e) (s.0, seen_watch.see s.1) ≡ see_watch (called watch_outcome waits e s)
+watch_called-seen e s true = refl
+watch_called-seen e s false = refl
+
+watch-seen : (e : watch.Endless Bytes) → watch.IsProper e → (call : Option (WCall Bytes)) → watch_told pictures (seen_watch.see e) call ≡ see_watch (watch_told endless e call)
+watch-seen e proper None = refl
+watch-seen e proper (Some call) =
+    ap (λ s. called watch_outcome (watch_waits call s.0) (seen_watch.see e) s) (watch_seen.answer_seen (pointwise nat_eq) e call proper)
+    ∙ watch_called-seen e (endless.watch e call) (watch_waits call (endless.watch e call).0)
+
+proper-watch : (e : watch.Endless Bytes) → watch.IsProper e → (call : Option (WCall Bytes)) → watch.IsProper (watch_told endless e call).1
+proper-watch e proper None = proper
+proper-watch e proper (Some call) = proper-called watch.IsProper watch_outcome e (endless.watch e call) (watch_waits call (endless.watch e call).0) proper (watch_proper.step_proper e proper (pointwise nat_eq) call)
 
 channel-seen : (c : EndlessChannel) → IsProperChannel c → (n : ℕ) (verb : Verb) → channel_told pictures (see_channel c) n verb ≡ see_told (channel_told endless c n verb)
-channel-seen (Broadcast e) proper n verb = broadcast-seen e proper (broadcast_call verb n)
+channel-seen (Broadcast e) proper n verb = ap (λ s. (s.0, Broadcast s.1)) (broadcast-seen e proper n verb)
+channel-seen (Watch e) proper n verb = ap (λ s. (s.0, Watch s.1)) (watch-seen e proper (watch_call verb n))
 
 set-seen : (ts : EndlessTopics) (n : ℕ) (c : EndlessChannel) → set_value_at (see_topics ts) n (see_channel c) ≡ see_topics (set_value_at ts n c)
 set-seen [] n c = refl
@@ -148,6 +274,7 @@ event-seen ts proper n by verb =
 
 pub says_what_is_seen : SaysWhatIsSeen
 says_what_is_seen ts (Find name) proper = ap (λ f. (f, see_topics ts)) (find-seen ts name)
+says_what_is_seen ts List proper = ap (λ rows. (Ok rows, see_topics ts)) (list-seen ts)
 says_what_is_seen ts (Open name making) proper = open-seen ts name making
 says_what_is_seen ts (Event n by verb) proper = event-seen ts proper n by verb
 
@@ -180,7 +307,7 @@ IsProperMade (Some x) = IsProperChannel x.1
 
 proper-made_of : (base : ℕ) (o : Option ℕ) → base < 2 ^ 64 → ((c : ℕ) → o ≡ Some c → IsCapacity c) → IsProperMade (option_map (λ c. (c, Broadcast (endless.broadcast_opened c base))) o)
 proper-made_of base None fits h = tt
-proper-made_of base (Some c) fits h = opened_proper c base (h c refl) fits
+proper-made_of base (Some c) fits h = broadcast_proper.opened_proper c base (h c refl) fits
 
 proper-made : (making : Making) → IsProperMade (made endless making)
 proper-made (Makings.Broadcast asked base) = by (nat_lt base (2 ^ 64)) refl
@@ -188,6 +315,7 @@ proper-made (Makings.Broadcast asked base) = by (nat_lt base (2 ^ 64)) refl
     by : (b : Bool) → nat_lt base (2 ^ 64) ≡ b → IsProperMade (cond b (option_map (λ c. (c, Broadcast (endless.broadcast_opened c base))) (capacity_of asked)) None)
     by true e = proper-made_of base (capacity_of asked) (ltb-true base (2 ^ 64) e) (is_capacity asked)
     by false e = tt
+proper-made (Makings.Watch value) = watch_proper.opened_proper value 1 (omega arith) (omega arith)
 
 proper-append : (ts : EndlessTopics) (name : Bytes) (c : EndlessChannel) → AreProper ts → IsProperChannel c → AreProper (ts ++ (name, c) ∷ [])
 proper-append [] name c h p = (p, tt)
@@ -209,12 +337,9 @@ proper-open ts name making h = elim (is_some (find ts name)) as (λ b. AreProper
   | false ↦ proper-added ts name (made endless making) h (proper-made making)
 ]
 
-proper-broadcast : (e : Endless Bytes) → IsProper e → (call : Option (BCall Bytes)) → IsProperChannel (broadcast_told endless e call).1
-proper-broadcast e h None = h
-proper-broadcast e h (Some call) = step_proper e call h
-
 proper-channel : (c : EndlessChannel) → IsProperChannel c → (n : ℕ) (verb : Verb) → IsProperChannel (channel_told endless c n verb).1
-proper-channel (Broadcast e) h n verb = proper-broadcast e h (broadcast_call verb n)
+proper-channel (Broadcast e) h n verb = proper-broadcast e h n verb
+proper-channel (Watch e) h n verb = proper-watch e h (watch_call verb n)
 
 proper-set : (ts : EndlessTopics) (n : ℕ) (c : EndlessChannel) → AreProper ts → IsProperChannel c → AreProper (set_value_at ts n c)
 proper-set [] n c h p = tt
@@ -227,5 +352,6 @@ proper-on ts n handle verb (Some c) h p = proper-set ts n _ h (proper-channel c 
 
 pub stays_proper : StaysProper
 stays_proper ts (Find name) proper = proper
+stays_proper ts List proper = proper
 stays_proper ts (Open name making) proper = proper-open ts name making proper
 stays_proper ts (Event n by verb) proper = proper-on ts n (number_of by) verb (slice_get (values_of ts) n) proper (proper-at ts proper n)

@@ -1,24 +1,33 @@
 -- The hub as it is seen: of each channel its picture.
-use Rattle.std.specs.Prelude.{map}
-use Rattle.th_model.specs.BroadcastMachine.{opened}
-use Rattle.th_model.specs.BroadcastPicture.{Picture, see, answer}
+use Rattle.std.specs.Prelude.{map, nat_eq}
+use Rattle.std.specs.Cmp.Lexicographic.{pointwise}
+use Rattle.th_model.specs.BroadcastMachine as broadcast_machine
+use Rattle.th_model.specs.BroadcastPicture as broadcast
+use Rattle.th_model.specs.WatchMachine as watch_machine
+use Rattle.th_model.specs.WatchPicture as watch
 use Rattle.th_registry.specs.declared.channel.Channel.{Channel}
-use Rattle.th_registry.specs.declared.channel.Channel.TheVariants.{Broadcast}
+use Rattle.th_registry.specs.declared.channel.Channel.TheVariants.{Broadcast, Watch}
 use Rattle.th_registry.specs.Calls.{Bytes}
 use Rattle.th_registry.specs.Hub.{Machines, Topics}
 use Rattle.th_registry.specs.Endless.{EndlessChannel, EndlessTopics}
 
 abbrev pub SeenChannel : Type 0
-SeenChannel = Channel (Picture Bytes)
+SeenChannel = Channel (broadcast.Picture Bytes) (watch.Picture Bytes)
 
 abbrev pub SeenTopics : Type 0
-SeenTopics = Topics (Picture Bytes)
+SeenTopics = Topics (broadcast.Picture Bytes) (watch.Picture Bytes)
 
-abbrev pub pictures : Machines (Picture Bytes)
-pictures = record { broadcast = answer; broadcast_opened = λ capacity base. see (opened capacity base) }
+abbrev pub pictures : Machines (broadcast.Picture Bytes) (watch.Picture Bytes)
+pictures = record {
+  broadcast = broadcast.answer;
+  broadcast_opened = λ capacity base. broadcast.see (broadcast_machine.opened capacity base);
+  watch = watch.answer (pointwise nat_eq);
+  watch_opened = λ value. watch.see (watch_machine.opened value 1);
+}
 
 abbrev pub see_channel : EndlessChannel → SeenChannel
-see_channel (Broadcast e) = Broadcast (see e)
+see_channel (Broadcast e) = Broadcast (broadcast.see e)
+see_channel (Watch e) = Watch (watch.see e)
 
 -- the topics as they are seen
 abbrev pub see_topics : EndlessTopics → SeenTopics

@@ -4,6 +4,7 @@
 //! let mut desk = LocalDesk::new(alloc);
 //! desk.open_topic(Name::new(b"news")?, Making::Broadcast(10, 0))?;   // 16, the capacity in force
 //! desk.find(&Name::new(b"news")?);                                   // topic 0, of kind Broadcast
+//! desk.by_hub(0, Verb::Subscribe)?;                                  // receiver 2
 //! ```
 #![tactic(auto)]
 
@@ -18,9 +19,9 @@ mod tests;
 pub mod topics;
 pub mod verb;
 
-pub use channel::{Channel, Kind};
+pub use channel::Channel;
 pub use desk::Desk;
 pub use local::LocalDesk;
 pub use opening::{Found, Making, Refusal};
 pub use topics::Topics;
-pub use verb::{NoEvent, Outcome, Verb};
+pub use verb::{NoEvent, Outcome, Unspent, Verb};

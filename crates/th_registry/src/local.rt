@@ -7,10 +7,10 @@ use crate::desk::Desk;
 use crate::event::through_hub;
 use crate::opening::{Found, Making, Refusal};
 use crate::topics::Topics;
-use crate::verb::{NoEvent, Outcome, Verb};
+use crate::verb::{NoEvent, Outcome, Unspent, Verb};
 use std::alloc::Global;
 use std::marker::Model;
-use th_model::{Name, RxId, TxId};
+use th_model::{Listing, Name, RxId, Short, TxId};
 
 /// The hub's own sender is the first handle of each topic.
 const HUB_SENDER: u64 = 1;
@@ -55,6 +55,10 @@ impl Desk for LocalDesk {
         self.topics.find(name)
     }
 
+    fn list(&self) -> Result<Listing, Short<()>> {
+        self.topics.list()
+    }
+
     fn open_topic(&mut self, name: Name, making: Making) -> Result<u64, Refusal> {
         self.topics.open_topic(name, making)
     }
@@ -79,5 +83,41 @@ impl Desk for LocalDesk {
         verb: Verb,
     ) -> Result<Outcome<TxId, RxId>, NoEvent> {
         self.topics.event(topic, receiver.0, verb)
+    }
+
+    fn resubscribe(
+        &mut self,
+        topic: u64,
+        receiver: &mut RxId,
+    ) -> Result<Outcome<TxId, RxId>, NoEvent> {
+        self.topics.event(topic, receiver.0, Verb::Resubscribe)
+    }
+
+    fn spend_sender(
+        &mut self,
+        topic: u64,
+        sender: TxId,
+    ) -> Result<Outcome<TxId, RxId>, Unspent<TxId>> {
+        match self.topics.event(topic, sender.0, Verb::DropTx) {
+            Ok(outcome) => Ok(outcome),
+            Err(why) => Err(Unspent {
+                handle: sender,
+                why,
+            }),
+        }
+    }
+
+    fn spend_receiver(
+        &mut self,
+        topic: u64,
+        receiver: RxId,
+    ) -> Result<Outcome<TxId, RxId>, Unspent<RxId>> {
+        match self.topics.event(topic, receiver.0, Verb::DropRx) {
+            Ok(outcome) => Ok(outcome),
+            Err(why) => Err(Unspent {
+                handle: receiver,
+                why,
+            }),
+        }
     }
 }

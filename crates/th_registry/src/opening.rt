@@ -1,12 +1,14 @@
 //! The making of a topic.
-use crate::channel::Kind;
+use th_model::{Kind, Value};
 use thiserror::Error;
 
 /// How a topic is made.
-#[derive(Clone, Copy, Debug, Drop, PartialEq, Eq)]
+#[derive(Drop)]
 pub enum Making {
     /// A broadcast channel of the capacity asked for, whose first value stands at the second number.
     Broadcast(u64, u64),
+    /// A watch channel with this value.
+    Watch(Value),
 }
 
 /// A topic that is there.

@@ -1,17 +1,18 @@
 //! Topics by name, in order of opening.
 ghost use Rattle.std.specs.Prelude.{◌≡◌, [], Some, true, false, is_some, OnOk, OnErr, ◌++◌, ◌∷◌};
-ghost use Rattle.th_registry.specs.Hub.{find, open_topic, Says, Open, added};
+ghost use Rattle.th_registry.specs.Hub.{find, open_topic, Says, List, Open, added};
 ghost use Rattle.th_registry.specs.Outcomes.{TopicTells};
 ghost use Rattle.th_registry.specs.Pictures.{pictures};
 
-use crate::channel::{Channel, Kind};
+use crate::channel::Channel;
 use crate::event::{PlainBroadcast, PlainChannel, channel_told};
 use crate::opening::{Found, Making, Refusal};
 use crate::verb::{NoEvent, Outcome, Verb};
 use indexmap::IndexMap;
 use std::alloc::Global;
 use std::marker::Model;
-use th_model::{Capacity, Name, RxId, TxId};
+use th_model::{Capacity, Listed, Listing, Name, RxId, Short, TxId, Value};
+use th_watch::Watch;
 
 /// The most topics of a hub.
 const MOST_TOPICS: usize = 1024;
@@ -53,6 +54,26 @@ impl Topics {
         }
     }
 
+    /// The topics with their kinds, in order of opening. It takes memory for all of them at once.
+    pub fn list(&self) -> Result<Listing, Short<()>>
+        ensures { Says pictures self.now List result self.now }
+    {
+        let alloc = *self.channels.allocator();
+        let Ok(mut rows) = Vec::with_capacity(alloc, self.channels.len()) else {
+            return Err(Short { call: () });
+        };
+        for (name, channel) in &self.channels {
+            let Ok(name) = name.clone() else {
+                return Err(Short { call: () });
+            };
+            let kind = channel.kind();
+            let Ok(()) = rows.push(Listed { name, kind }) else {
+                return Err(Short { call: () });
+            };
+        }
+        Ok(Listing::from_vec(rows))
+    }
+
     /// Opens a topic at the end, and answers the number that is told of it: a broadcast channel's capacity in force.
     /// It is refused where the name is there, else where the capacity is out of range, else where there are 1,024
     /// topics, else for want of memory; then nothing has changed.
@@ -64,6 +85,7 @@ impl Topics {
         }
         match making {
             Making::Broadcast(asked, base) => self.open_broadcast(name, asked, base),
+            Making::Watch(value) => self.open_watch(name, value),
         }
     }
 
@@ -86,6 +108,23 @@ impl Topics {
             return Err(Refusal::Short);
         };
         Ok(capacity.in_force())
+    }
+
+    // A watch channel under a name that is not there.
+    fn open_watch(&mut self, name: Name, value: Value) -> Result<u64, Refusal>
+        requires { is_some (find self.old name) ≡ false }
+        ensures { Says pictures self.old (Open name (Making.Watch value)) result self.new }
+    {
+        if self.channels.len() >= MOST_TOPICS {
+            return Err(Refusal::TooManyTopics);
+        }
+        let Ok(channel) = Watch::new(*self.channels.allocator(), value) else {
+            return Err(Refusal::Short);
+        };
+        let Ok(_) = self.channels.insert(name, Channel::Watch(channel)) else {
+            return Err(Refusal::Short);
+        };
+        Ok(1)
     }
 
     /// One event on the topic of this number, by its handle of that number, or why there was none.

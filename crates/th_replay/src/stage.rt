@@ -1,9 +1,9 @@
 //! The hub of a schedule.
-ghost use Rattle.std.specs.Prelude.{◌≡◌, None, slice_get, IfOk};
+ghost use Rattle.std.specs.Prelude.{◌≡◌, None, slice_get, remove, IfOk};
 ghost use Rattle.std.specs.Map.{values_of};
 ghost use Rattle.th_lines.specs.Lines.{Good};
 ghost use Rattle.th_replay.specs.Session.{Turns};
-ghost use Rattle.th_replay.specs.Schedule.{IsAnswer, answers, by_holding, by_place, is_short, picture_step, place_of, seen_start};
+ghost use Rattle.th_replay.specs.Schedule.{IsAnswer, answers, by_holding, by_place, has_quit, is_short, picture_step, place_of, seen_start};
 
 use indexmap::IndexMap;
 use std::alloc::{AllocError, Global};
@@ -17,7 +17,11 @@ use th_session::local::step;
 /// The most actors at one time.
 const MOST_ACTORS: usize = 1024;
 
-/// The topics, and the actors that have begun.
+/// How many actors there is room for at first. At twice the most, the places of actors that quit are taken back without
+/// more memory.
+const ACTOR_ROOM: usize = 2 * MOST_ACTORS;
+
+/// The topics, and the actors that have begun and not quit since.
 #[derive(Drop)]
 pub struct Stage {
     desk: LocalDesk,
@@ -25,16 +29,12 @@ pub struct Stage {
 }
 
 impl Model for Stage {
-    ghost use Rattle.std.specs.Prelude.{◌+◌, ◌≤◌, length};
-    ghost use Rattle.indexmap.specs.IndexMap.{spare};
     ghost use Rattle.th_registry.specs.Pictures.{SeenTopics};
     ghost use Rattle.th_replay.specs.Schedule.{Hub};
 
     ghost Value = { Hub SeenTopics };
 
     ghost view = { λ s. record { topics = s.desk; actors = s.actors.entries } };
-
-    ghost invariant = { λ s. 1024 ≤ length s.actors.entries + spare s.actors };
 }
 
 /// Whether memory was refused.
@@ -47,12 +47,22 @@ fn is_short(reply: &Reply) -> bool
     }
 }
 
+/// Whether the actor has quit.
+fn has_quit(reply: &Reply) -> bool
+    ensures { result ≡ has_quit reply.now }
+{
+    match reply {
+        Reply::Bye => true,
+        _ => false,
+    }
+}
+
 impl Stage {
     /// No topic and no actor, with room for as many actors as there may be.
     pub fn new(alloc: Global) -> Result<Stage, AllocError>
         ensures { IfOk result (λ s. s ≡ seen_start) }
     {
-        let actors = IndexMap::with_capacity(alloc, MOST_ACTORS)?;
+        let actors = IndexMap::with_capacity(alloc, ACTOR_ROOM)?;
         Ok(Stage {
             desk: LocalDesk::new(alloc),
             actors,
@@ -80,17 +90,31 @@ impl Stage {
         }
     }
 
-    /// Carries out a command of the actor at this place.
+    /// Carries out a command of the actor at this place, who is gone where it has quit. A QUIT takes time with the number
+    /// of actors, every other command none.
     fn go_on(&mut self, place: usize, command: Command) -> Reply
         ensures { IsAnswer (by_holding picture_step self.old place command (slice_get (values_of self.old.actors) place)) self.old result self.new }
     {
-        match self.actors.get_index_mut(place) {
-            Some(session) => step(session, &mut self.desk, command),
-            None => Reply::Refused(Code::NotHeld),
+        let Some(session) = self.actors.get_index_mut(place) else {
+            return Reply::Refused(Code::NotHeld);
+        };
+        let reply = step(session, &mut self.desk, command);
+        if has_quit(&reply) {
+            self.take_out(place);
         }
+        reply
     }
 
-    /// Carries out the first command of an actor. It has begun then, but where it was refused for want of memory.
+    /// Takes the actor at this place out. The others stay in their order.
+    fn take_out(&mut self, place: usize)
+        ensures topics { self.new.topics ≡ self.old.topics }
+        ensures actors { self.new.actors ≡ remove self.old.actors place }
+    {
+        let _ = self.actors.shift_remove_index(place);
+    }
+
+    /// Carries out the first command of an actor. It has begun then, but where it was refused for want of memory or has
+    /// quit at once.
     fn begin(&mut self, alloc: Global, name: Name, command: Command) -> Reply
         requires { place_of self.old.actors name ≡ None }
         ensures { IsAnswer (by_place picture_step self.old name command None) self.old result self.new }
@@ -98,9 +122,12 @@ impl Stage {
         if self.actors.len() >= MOST_ACTORS {
             return Reply::Refused(Code::TooMany);
         }
+        let Ok(()) = self.actors.reserve(1) else {
+            return Reply::Refused(Code::NoMemory);
+        };
         let mut session = Session::new(alloc);
         let reply = step(&mut session, &mut self.desk, command);
-        if is_short(&reply) {
+        if is_short(&reply) || has_quit(&reply) {
             return reply;
         }
         let Ok(_) = self.actors.insert(name, session) else {

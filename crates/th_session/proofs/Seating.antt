@@ -1,8 +1,8 @@
 -- Seats read and written by the number of their topic.
-use Rattle.std.proofs.Common.{◌≡◌, ℕ, zero, suc, ◌<◌, ◌≤◌, List, [], ◌∷◌, ◌++◌, length, Option, Some, get_or, set, slice_set, refl, sym, ap, ◌∙◌, arith}
+use Rattle.std.proofs.Common.{◌≡◌, ℕ, zero, suc, ◌<◌, ◌≤◌, List, [], ◌∷◌, ◌++◌, length, Option, Some, None, get_or, set, slice_set, refl, sym, ap, ◌∙◌, arith}
 use Rattle.std.specs.Option.{option_map}
 use Rattle.th_session.specs.declared.seats.Seats.{Seats}
-use Rattle.th_session.specs.Held.{nothing, seat_at, with_sender, with_receiver, numbers, held}
+use Rattle.th_session.specs.Held.{nothing, seat_at, with_sender, with_receiver, without_sender, without_receiver, numbers, held}
 
 module _ {Tx Rx : Type 0} where
   pub at-in : (xs : List (Seats Tx Rx)) (n : ℕ) (d : Seats Tx Rx) → n < length xs → get_or xs n d ≡ seat_at xs n
@@ -38,7 +38,7 @@ module _ {Tx Rx : Type 0} where
   receiver-more (x ∷ xs) zero r h = absurd (omega (arith, h))
   receiver-more (x ∷ xs) (suc n) r h = ap (λ s. x ∷ s) (receiver-more xs n r (omega (arith, h)))
 
-abbrev with_numbers : {N M : Type 0} → Option N → Option M → Seats N M
+abbrev pub with_numbers : {N M : Type 0} → Option N → Option M → Seats N M
 with_numbers sender receiver = record { sender = sender; receiver = receiver }
 
 module _ {Tx Rx N M : Type 0} (tx : Tx → N) (rx : Rx → M) where
@@ -71,3 +71,19 @@ module _ {Tx Rx N M : Type 0} (tx : Tx → N) (rx : Rx → M) where
 
   pub receiver-kept : (s : Seats Tx Rx) (r u : Rx) → s.receiver ≡ Some r → rx u ≡ rx r → numbers tx rx (record { sender = s.sender; receiver = Some u }) ≡ numbers tx rx s
   receiver-kept s r u h e = ap (λ n. with_numbers (option_map tx s.sender) (Some n)) e ∙ ap (λ o. with_numbers (option_map tx s.sender) (option_map rx o)) (sym h)
+
+  -- seats from which a handle is gone, or whose receiver is another
+  pub sender-gone : (xs : List (Seats Tx Rx)) (n : ℕ) (t : Seats Tx Rx) → n < length xs → numbers tx rx t ≡ with_numbers None (option_map rx (seat_at xs n).receiver) → held tx rx (slice_set xs n t) ≡ without_sender (held tx rx xs) n
+  sender-gone [] n t h e = absurd (omega (arith, h))
+  sender-gone (x ∷ xs) zero t h e = ap (λ y. y ∷ held tx rx xs) e
+  sender-gone (x ∷ xs) (suc n) t h e = ap (λ r. numbers tx rx x ∷ r) (sender-gone xs n t (omega (arith, h)) e)
+
+  pub receiver-gone : (xs : List (Seats Tx Rx)) (n : ℕ) (t : Seats Tx Rx) → n < length xs → numbers tx rx t ≡ with_numbers (option_map tx (seat_at xs n).sender) None → held tx rx (slice_set xs n t) ≡ without_receiver (held tx rx xs) n
+  receiver-gone [] n t h e = absurd (omega (arith, h))
+  receiver-gone (x ∷ xs) zero t h e = ap (λ y. y ∷ held tx rx xs) e
+  receiver-gone (x ∷ xs) (suc n) t h e = ap (λ r. numbers tx rx x ∷ r) (receiver-gone xs n t (omega (arith, h)) e)
+
+  pub receiver-renewed : (xs : List (Seats Tx Rx)) (n : ℕ) (t : Seats Tx Rx) (r : Rx) → n < length xs → numbers tx rx t ≡ with_numbers (option_map tx (seat_at xs n).sender) (Some (rx r)) → held tx rx (slice_set xs n t) ≡ with_receiver (held tx rx xs) n (rx r)
+  receiver-renewed [] n t r h e = absurd (omega (arith, h))
+  receiver-renewed (x ∷ xs) zero t r h e = ap (λ y. y ∷ held tx rx xs) e
+  receiver-renewed (x ∷ xs) (suc n) t r h e = ap (λ s. numbers tx rx x ∷ s) (receiver-renewed xs n t r (omega (arith, h)) e)

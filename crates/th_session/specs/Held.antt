@@ -27,6 +27,16 @@ module _ {Tx Rx : Type 0} where
   with_receiver (s ∷ ss) zero r = record { sender = s.sender; receiver = Some r } ∷ ss
   with_receiver (s ∷ ss) (suc n) r = s ∷ with_receiver ss n r
 
+  abbrev pub without_sender : List (Seats Tx Rx) → ℕ → List (Seats Tx Rx)
+  without_sender [] n = []
+  without_sender (s ∷ ss) zero = record { sender = None; receiver = s.receiver } ∷ ss
+  without_sender (s ∷ ss) (suc n) = s ∷ without_sender ss n
+
+  abbrev pub without_receiver : List (Seats Tx Rx) → ℕ → List (Seats Tx Rx)
+  without_receiver [] n = []
+  without_receiver (s ∷ ss) zero = record { sender = s.sender; receiver = None } ∷ ss
+  without_receiver (s ∷ ss) (suc n) = s ∷ without_receiver ss n
+
 -- the numbers of what an actor holds
 abbrev pub Holding : Type 0
 Holding = List (Seats TxId RxId)

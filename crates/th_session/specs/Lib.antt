@@ -3,3 +3,4 @@ pub mod Table
 pub mod Script
 pub mod Step
 pub mod Laws
+pub mod Answer

@@ -8,9 +8,12 @@
 //! ```
 #![tactic(auto)]
 
+pub mod answer;
 pub mod asked;
+mod events;
 pub mod laws;
 pub mod local;
+mod quit;
 pub mod seats;
 pub mod session;
 mod table;

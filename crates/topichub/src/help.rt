@@ -3,15 +3,20 @@
 
 /// One line on the program.
 pub const ABOUT: &str =
-    "Broadcast channels by name: carries out a schedule of commands and prints their replies";
+    "Broadcast and watch channels by name: carries out commands, prints the replies";
 
 /// What stands below the program's commands.
 pub const AFTER: &str = "\
-A schedule is a text with one command a line, each begun by the name of the actor that gives it.
-`topichub replay` reads it from standard input and prints one reply for each line on standard output.
+A broadcast channel gives every value to every receiver, and keeps the newest
+ones alone: a receiver that is too slow is told how many it missed. A watch
+channel keeps the newest value alone, and tells each reader of it once.
 
-Example: a topic `news` whose window has 2 values. Bob is slow and misses one. Each line of the schedule
-stands here with its reply:
+A schedule is a text with one command a line, each begun by the name of the
+actor that gives it. `topichub replay` reads it from standard input and prints
+the replies, line by line, on standard output.
+
+Example: a topic `news` whose window has 2 values. Bob is slow and misses one.
+Each line of the schedule stands here with its reply:
 
   alice OPEN news B 2      OK 2
   alice BIND news          OK
@@ -23,12 +28,12 @@ stands here with its reply:
   bob TRY news             VAL two
 
 With the left half in a file, `topichub replay < FILE` prints the right half.
-`topichub replay --help` lists the commands and the replies.
+`topichub replay --help` lists all commands and replies.
 
 Exit status:
   0  done
-  1  stopped, with one line on standard error: `topichub: read fault`, `topichub: write fault`,
-     `topichub: too long` or `topichub: no memory`
+  1  stopped, with one line on standard error: `topichub: read fault`,
+     `topichub: write fault`, `topichub: too long` or `topichub: no memory`
   2  wrong words on the command line";
 
 /// One line on the mode `replay`.
@@ -37,26 +42,81 @@ pub const REPLAY_ABOUT: &str =
 
 /// What stands below the options of the mode `replay`.
 pub const REPLAY_AFTER: &str = "\
-Each line is `ACTOR COMMAND`, its fields parted by one space, ended by LF or CR LF, at most 4096 bytes.
-Names of actors and topics have 1 to 32 of the bytes a-z, 0-9, _ and -.
+Each line is `ACTOR COMMAND`, its fields parted by one space, ended by LF or
+CR LF, at most 4096 bytes. Names of actors and topics have 1 to 32 of the bytes
+a-z, 0-9, _ and -. Numbers are decimal, without leading zeros. A value is the
+rest of the line, 1 to 1024 bytes.
 
-Commands:
-  OPEN t B cap   open the broadcast topic t; cap is 1 to 65536, rounded up to a power of two
-  BIND t         get a sender of t
-  SUB t          get a receiver of t, for what is sent from now on
-  PUB t value    send; the value is the rest of the line, 1 to 1024 bytes
-  TRY t          receive, if there is anything
+Commands on topics of both kinds:
+  OPEN t B cap          open the broadcast topic t; cap is 1 to 65536, rounded
+                        up to a power of two
+  OPEN t B cap AT base  the same; its first value has the position base
+  OPEN t W value        open the watch topic t with this value
+  BIND t                get a sender of t
+  UNBIND t              spend it
+  SUB t                 get a receiver of t, for what is sent from now on
+  UNSUB t               spend it
+  PUB t value           send
+  READERS t             how many receivers t has
+  END t                 spend the hub's own sender, which t was opened with
+
+On a broadcast topic:
+  TRY t                 receive, if there is anything
+  NEXT t                the same; BLOCKED where TRY is answered EMPTY
+  RESUB t               get a new receiver in place of the old one
+  LEFT t                how many values the receiver has to come
+  QUEUED t              how many values t keeps for its receivers
+
+On a watch topic:
+  GET t                 the newest value
+  TAKE t                the same, and it is seen then
+  HAS t                 is the newest value unseen?
+  TRYCHANGED t          has it changed? It is seen then
+  CHANGED t             the same; BLOCKED where TRYCHANGED is answered NOTYET
+  MARK t                make the newest value unseen
+  UNMARK t              make it seen
+  SWAP t value          publish, and get the old value; needs no receiver
+  EDIT t SET value      publish; needs no receiver
+  EDIT t DIFFER value   the same, if the value differs from the newest one
+  EDIT t QUIET value    put it in the newest one's place, and tell nobody
+
+On no topic:
+  LIST                  the topics in order of opening
+  QUIT                  spend all that the actor holds, and end the actor
 
 Replies, one for each line:
-  OK             done
-  OK n           OPEN: the capacity in force; PUB: how many receivers will get the value
-  VAL value      the next value
-  LAG n          n values were missed; the next TRY gives the oldest one that is still there
-  EMPTY          nothing is there yet
-  ERR code word  refused, and nothing changed
+  OK                    done
+  OK n                  OPEN: the capacity in force (of a watch topic 1); PUB on
+                        a broadcast topic: how many receivers will get the
+                        value; LEFT, QUEUED, READERS: how many; LIST: how many
+                        topics, and below it a line for each, `t B` or `t W`
+  VAL value             the next value
+  LAG n                 n values were missed; the oldest one left comes next
+  EMPTY, NOTYET         nothing is there yet
+  BLOCKED               nothing is there yet, and a schedule does not wait
+  CLOSED                no sender is left; but for HAS, nothing is left to tell
+                        either
+  NEW value             GET, TAKE: the newest value, which was unseen
+  SAME value            GET, TAKE: the newest value, which was seen already
+  WAS value             SWAP: the old value
+  YES, NO               HAS: unseen, or seen; EDIT: published, or not
+  CHANGED               the newest value was unseen, and is seen now
+  BYE                   QUIT: the actor holds nothing any more
+  ERR code word         refused, and nothing changed
 
 Refusals:
-  10 bad-line      11 no-topic   12 exists      14 bad-capacity   15 held   16 not-held
-  17 no-receivers  19 too-many   20 exhausted   21 no-memory      23 long-line
+  10 bad-line           the line is no actor and command
+  11 no-topic           no topic of this name
+  12 exists             OPEN of a name that is there
+  13 wrong-kind         the command is not for this kind of topic
+  14 bad-capacity       0, or above 65536
+  15 held               the actor has such a handle already
+  16 not-held           the actor has no such handle
+  17 no-receivers       PUB, and nobody would get the value
+  18 closed             no live sender to go through
+  19 too-many           a 1025th topic or actor, or no further handle
+  20 exhausted          the last position or version is reached
+  21 no-memory          memory was refused
+  23 long-line          more than 4096 bytes
 
 At most 1000000 lines. Exit status as in `topichub --help`.";

@@ -1,0 +1,50 @@
+//! The end of all that an actor holds.
+ghost use Rattle.std.specs.Option.{option_map};
+ghost use Rattle.th_session.specs.Held.{Holding, held, numbers};
+ghost use Rattle.th_session.specs.Script.{Plays, Script, spend_from, spend_receiver, spend_sender};
+
+use crate::seats::Seats;
+use std::mem;
+use th_lines::Reply;
+use th_registry::Desk;
+
+// The last event of a sender, if there is one.
+fn leave_sender<D: Desk>(desk: &mut D, topic: u64, sender: Option<D::Tx>)
+    ensures { (next : Script) (reply : Reply) (after : Holding) (end : D) → Plays D.says next desk.new reply after end → Plays D.says (spend_sender topic (option_map D.tx sender) next) desk.old reply after end }
+{
+    if let Some(sender) = sender {
+        let _ = desk.spend_sender(topic, sender);
+    }
+}
+
+// The last event of a receiver, if there is one.
+fn leave_receiver<D: Desk>(desk: &mut D, topic: u64, receiver: Option<D::Rx>)
+    ensures { (next : Script) (reply : Reply) (after : Holding) (end : D) → Plays D.says next desk.new reply after end → Plays D.says (spend_receiver topic (option_map D.rx receiver) next) desk.old reply after end }
+{
+    if let Some(receiver) = receiver {
+        let _ = desk.spend_receiver(topic, receiver);
+    }
+}
+
+// The last events of the handles on one topic, the sender's first.
+fn leave<D: Desk>(desk: &mut D, topic: u64, seats: Seats<D::Tx, D::Rx>)
+    ensures { let s = numbers D.tx D.rx seats in (next : Script) (reply : Reply) (after : Holding) (end : D) → Plays D.says next desk.new reply after end → Plays D.says (spend_sender topic s.sender (spend_receiver topic s.receiver next)) desk.old reply after end }
+{
+    let Seats { sender, receiver } = seats;
+    leave_sender(desk, topic, sender);
+    leave_receiver(desk, topic, receiver);
+}
+
+// Spends each handle, topics in order of opening, whatever is said of it.
+pub(crate) fn quit<D: Desk>(seats: &mut Vec<Seats<D::Tx, D::Rx>>, desk: &mut D) -> Reply
+    ensures { Plays D.says (spend_from 0 (held D.tx D.rx seats.old.items)) desk.old result (held D.tx D.rx seats.new.items) desk.new }
+{
+    let none_held = Vec::new(*seats.allocator());
+    let all_held = mem::replace(seats, none_held);
+    let mut topic: u64 = 0;
+    for both in all_held {
+        leave(desk, topic, both);
+        topic += 1;
+    }
+    Reply::Bye
+}
