@@ -1,3 +1,4 @@
 pub mod Seating
 pub mod Playing
 pub mod Runs
+pub mod Order

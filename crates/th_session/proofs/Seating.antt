@@ -1,69 +1,192 @@
 -- Seats read and written by the number of their topic.
-use Rattle.std.proofs.Common.{◌≡◌, ℕ, zero, suc, ◌<◌, ◌≤◌, List, [], ◌∷◌, ◌++◌, length, Option, Some, None, get_or, set, slice_set, refl, sym, ap, ◌∙◌, arith}
-use Rattle.std.specs.Option.{option_map}
+use Rattle.std.proofs.Common.{◌≡◌, ℕ, Bool, true, false, cond, List, [], ◌∷◌, Option, Some, None, is_some, map, refl, sym, ap, ◌∙◌, subst}
+use Rattle.std.specs.Option.{IsSome, option_map, unwrap_or}
+use Rattle.std.specs.List.Sorted.{IsStrictlySortedBy}
+use Rattle.std.specs.Ordering.{nat_cmp, match_ordering, is_eq}
+use Rattle.std.specs.declared.cmp.Ordering.{Ordering}
+use Rattle.std.specs.declared.cmp.Ordering.TheVariants.{Less, Equal, Greater}
+use Rattle.std.specs.Map.{keys_of, lookup, remove_entry, set_value}
+use Rattle.std.specs.BTreeMap.{insert_entry, is_at}
+use Rattle.std.specs.Cmp.{nat_cmp_is}
+use Rattle.std.proofs.lemmas.Cmp.{nat_cmp_total}
+use Rattle.std.proofs.lemmas.Map.{lookup-none}
+use Rattle.std.proofs.lemmas.Map.Entries.{none_below_head}
+use Rattle.std.proofs.lemmas.Map.Keys.{sorted_tail}
+use Rattle.std.proofs.lemmas.Bool.{false≢true}
+use Rattle.std.proofs.lemmas.Option.{none-some, same_Some}
 use Rattle.th_session.specs.declared.seats.Seats.{Seats}
-use Rattle.th_session.specs.Held.{nothing, seat_at, with_sender, with_receiver, without_sender, without_receiver, numbers, held}
+use Rattle.th_session.specs.Held.{nothing, seats_of, seat_at, with_seats, with_sender, with_receiver, without_sender, without_receiver, IsReady, numbers, held}
+
+-- entries by numbers
+
+same : (n : ℕ) → nat_cmp n n ≡ Equal
+same n = sym (nat_cmp_is n n Equal refl)
+
+module _ {X : Type 0} where
+  -- what is written where an entry is, is inserted
+  pub set-insert : (es : List (ℕ × X)) (n : ℕ) (x y : X) → IsStrictlySortedBy nat_cmp (keys_of es) → lookup (is_at (nat_cmp n)) es ≡ Some x → set_value (is_at (nat_cmp n)) es y ≡ insert_entry nat_cmp es n y
+  set-insert [] n x y r h = absurd (none-some x h)
+  set-insert (e ∷ es) n x y r h = elim (nat_cmp n e.0) as (λ o. o ≡ nat_cmp n e.0 → cond (is_eq o) (Some e.1) (lookup (is_at (nat_cmp n)) es) ≡ Some x → cond (is_eq o) ((e.0, y) ∷ es) (e ∷ set_value (is_at (nat_cmp n)) es y) ≡ match_ordering o ((n, y) ∷ e ∷ es) ((e.0, y) ∷ es) (e ∷ insert_entry nat_cmp es n y)) [
+    | Less ↦ λ o k. absurd (none-some x (sym (lookup-none (is_at (nat_cmp n)) (e ∷ es) (none_below_head nat_cmp_total n e es r (sym o))) ∙ h))
+    | Equal ↦ λ o k. refl
+    | Greater ↦ λ o k. ap (λ l. e ∷ l) (set-insert es n x y (sorted_tail nat_cmp e.0 (keys_of es) r) k)
+  ] refl h
+
+  -- of two values inserted at one number, the later one is there
+  insert-insert : (es : List (ℕ × X)) (n : ℕ) (x y : X) → insert_entry nat_cmp (insert_entry nat_cmp es n x) n y ≡ insert_entry nat_cmp es n y
+  insert-insert [] n x y = rw (same n) refl
+  insert-insert (e ∷ es) n x y = elim (nat_cmp n e.0) as (λ o. o ≡ nat_cmp n e.0 → insert_entry nat_cmp (match_ordering o ((n, x) ∷ e ∷ es) ((e.0, x) ∷ es) (e ∷ insert_entry nat_cmp es n x)) n y ≡ match_ordering o ((n, y) ∷ e ∷ es) ((e.0, y) ∷ es) (e ∷ insert_entry nat_cmp es n y)) [
+    | Less ↦ λ o. rw (same n) refl
+    | Equal ↦ λ o. rw (sym o) refl
+    | Greater ↦ λ o. rw (sym o) (ap (λ l. e ∷ l) (insert-insert es n x y))
+  ] refl
+
+  -- a new entry that is removed leaves what there was
+  pub remove-insert : (es : List (ℕ × X)) (n : ℕ) (x : X) → lookup (is_at (nat_cmp n)) es ≡ None → remove_entry (is_at (nat_cmp n)) (insert_entry nat_cmp es n x) ≡ es
+  remove-insert [] n x h = rw (same n) refl
+  remove-insert (e ∷ es) n x h = elim (nat_cmp n e.0) as (λ o. o ≡ nat_cmp n e.0 → cond (is_eq o) (Some e.1) (lookup (is_at (nat_cmp n)) es) ≡ None → remove_entry (is_at (nat_cmp n)) (match_ordering o ((n, x) ∷ e ∷ es) ((e.0, x) ∷ es) (e ∷ insert_entry nat_cmp es n x)) ≡ e ∷ es) [
+    | Less ↦ λ o k. rw (same n) refl
+    | Equal ↦ λ o k. absurd (none-some e.1 (sym k))
+    | Greater ↦ λ o k. rw (sym o) (ap (λ l. e ∷ l) (remove-insert es n x k))
+  ] refl h
+
+  pub lookup-insert : (es : List (ℕ × X)) (n : ℕ) (x : X) → lookup (is_at (nat_cmp n)) (insert_entry nat_cmp es n x) ≡ Some x
+  lookup-insert [] n x = rw (same n) refl
+  lookup-insert (e ∷ es) n x = elim (nat_cmp n e.0) as (λ o. o ≡ nat_cmp n e.0 → lookup (is_at (nat_cmp n)) (match_ordering o ((n, x) ∷ e ∷ es) ((e.0, x) ∷ es) (e ∷ insert_entry nat_cmp es n x)) ≡ Some x) [
+    | Less ↦ λ o. rw (same n) refl
+    | Equal ↦ λ o. rw (sym o) refl
+    | Greater ↦ λ o. rw (sym o) (lookup-insert es n x)
+  ] refl
+
+module _ {X : Type 0} where
+  lookup-set : (es : List (ℕ × X)) (n : ℕ) (x y : X) → lookup (is_at (nat_cmp n)) es ≡ Some x → IsSome (lookup (is_at (nat_cmp n)) (set_value (is_at (nat_cmp n)) es y))
+  lookup-set [] n x y h = absurd (none-some x h)
+  lookup-set (e ∷ es) n x y h = elim (nat_cmp n e.0) as (λ o. o ≡ nat_cmp n e.0 → cond (is_eq o) (Some e.1) (lookup (is_at (nat_cmp n)) es) ≡ Some x → IsSome (lookup (is_at (nat_cmp n)) (cond (is_eq o) ((e.0, y) ∷ es) (e ∷ set_value (is_at (nat_cmp n)) es y)))) [
+    | Less ↦ λ o k. rw (sym o) (lookup-set es n x y k)
+    | Equal ↦ λ o k. rw (sym o) refl
+    | Greater ↦ λ o k. rw (sym o) (lookup-set es n x y k)
+  ] refl h
+
+-- entries seen through a function of their values
+
+module _ {X Y : Type 0} (f : X → Y) where
+  abbrev seen : List (ℕ × X) → List (ℕ × Y)
+  seen es = map (λ e. (e.0, f e.1)) es
+
+  lookup-seen : (es : List (ℕ × X)) (n : ℕ) → lookup (is_at (nat_cmp n)) (seen es) ≡ option_map f (lookup (is_at (nat_cmp n)) es)
+  lookup-seen [] n = refl
+  lookup-seen (e ∷ es) n = elim (is_at (nat_cmp n) e.0) as (λ b. cond b (Some (f e.1)) (lookup (is_at (nat_cmp n)) (seen es)) ≡ option_map f (cond b (Some e.1) (lookup (is_at (nat_cmp n)) es))) [
+    | true ↦ refl
+    | false ↦ lookup-seen es n
+  ]
+
+  insert-seen : (es : List (ℕ × X)) (n : ℕ) (x : X) → seen (insert_entry nat_cmp es n x) ≡ insert_entry nat_cmp (seen es) n (f x)
+  insert-seen [] n x = refl
+  insert-seen (e ∷ es) n x = elim (nat_cmp n e.0) as (λ o. seen (match_ordering o ((n, x) ∷ e ∷ es) ((e.0, x) ∷ es) (e ∷ insert_entry nat_cmp es n x)) ≡ match_ordering o ((n, f x) ∷ (e.0, f e.1) ∷ seen es) ((e.0, f x) ∷ seen es) ((e.0, f e.1) ∷ insert_entry nat_cmp (seen es) n (f x))) [
+    | Less ↦ refl
+    | Equal ↦ refl
+    | Greater ↦ ap (λ l. (e.0, f e.1) ∷ l) (insert-seen es n x)
+  ]
+
+  -- a value of the same look in its place
+  set-seen : (es : List (ℕ × X)) (n : ℕ) (x y : X) → lookup (is_at (nat_cmp n)) es ≡ Some x → f y ≡ f x → seen (set_value (is_at (nat_cmp n)) es y) ≡ seen es
+  set-seen [] n x y h e = refl
+  set-seen (p ∷ es) n x y h e = elim (is_at (nat_cmp n) p.0) as (λ b. cond b (Some p.1) (lookup (is_at (nat_cmp n)) es) ≡ Some x → seen (cond b ((p.0, y) ∷ es) (p ∷ set_value (is_at (nat_cmp n)) es y)) ≡ (p.0, f p.1) ∷ seen es) [
+    | true ↦ λ k. ap (λ z. (p.0, z) ∷ seen es) (e ∙ ap f (sym (same_Some p.1 x k)))
+    | false ↦ λ k. ap (λ l. (p.0, f p.1) ∷ l) (set-seen es n x y k e)
+  ] h
+
+-- seats
 
 module _ {Tx Rx : Type 0} where
-  pub at-in : (xs : List (Seats Tx Rx)) (n : ℕ) (d : Seats Tx Rx) → n < length xs → get_or xs n d ≡ seat_at xs n
-  at-in [] n d h = absurd (omega (arith, h))
-  at-in (x ∷ xs) zero d h = refl
-  at-in (x ∷ xs) (suc n) d h = at-in xs n d (omega (arith, h))
+  -- what a look-up finds, and that nothing is held where it finds nothing
+  pub at-in : (h : List (ℕ × Seats Tx Rx)) (n : ℕ) (s : Seats Tx Rx) → seats_of h n ≡ Some s → seat_at h n ≡ s
+  at-in h n s e = ap (λ o. unwrap_or o nothing) e
 
-  pub at-out : (xs : List (Seats Tx Rx)) (n : ℕ) → length xs ≤ n → seat_at xs n ≡ nothing
-  at-out [] n h = refl
-  at-out (x ∷ xs) zero h = absurd (omega (arith, h))
-  at-out (x ∷ xs) (suc n) h = at-out xs n (omega (arith, h))
+  pub at-out : (h : List (ℕ × Seats Tx Rx)) (n : ℕ) → seats_of h n ≡ None → seat_at h n ≡ nothing
+  at-out h n e = ap (λ o. unwrap_or o nothing) e
 
-  pub sender-some : (xs : List (Seats Tx Rx)) (n : ℕ) (t : Tx) → n < length xs → set xs n (record { sender = Some t; receiver = (seat_at xs n).receiver }) ≡ with_sender xs n t
-  sender-some [] n t h = absurd (omega (arith, h))
-  sender-some (x ∷ xs) zero t h = refl
-  sender-some (x ∷ xs) (suc n) t h = ap (λ r. x ∷ r) (sender-some xs n t (omega (arith, h)))
+  -- a handle that takes its seat
+  pub sender-some : (h : List (ℕ × Seats Tx Rx)) (n : ℕ) (s : Seats Tx Rx) (t : Tx) → IsStrictlySortedBy nat_cmp (keys_of h) → seats_of h n ≡ Some s → set_value (is_at (nat_cmp n)) h (record { sender = Some t; receiver = s.receiver }) ≡ with_sender h n t
+  sender-some h n s t r e = set-insert h n s _ r e ∙ ap (λ x. with_seats h n (record { sender = Some t; receiver = x.receiver })) (sym (at-in h n s e))
 
-  pub receiver-some : (xs : List (Seats Tx Rx)) (n : ℕ) (r : Rx) → n < length xs → set xs n (record { sender = (seat_at xs n).sender; receiver = Some r }) ≡ with_receiver xs n r
-  receiver-some [] n r h = absurd (omega (arith, h))
-  receiver-some (x ∷ xs) zero r h = refl
-  receiver-some (x ∷ xs) (suc n) r h = ap (λ s. x ∷ s) (receiver-some xs n r (omega (arith, h)))
+  pub receiver-some : (h : List (ℕ × Seats Tx Rx)) (n : ℕ) (s : Seats Tx Rx) (r : Rx) → IsStrictlySortedBy nat_cmp (keys_of h) → seats_of h n ≡ Some s → set_value (is_at (nat_cmp n)) h (record { sender = s.sender; receiver = Some r }) ≡ with_receiver h n r
+  receiver-some h n s r o e = set-insert h n s _ o e ∙ ap (λ x. with_seats h n (record { sender = x.sender; receiver = Some r })) (sym (at-in h n s e))
 
-  -- one empty seat more is none
-  pub sender-more : (xs : List (Seats Tx Rx)) (n : ℕ) (t : Tx) → length xs ≤ n → with_sender (xs ++ nothing ∷ []) n t ≡ with_sender xs n t
-  sender-more [] zero t h = refl
-  sender-more [] (suc n) t h = refl
-  sender-more (x ∷ xs) zero t h = absurd (omega (arith, h))
-  sender-more (x ∷ xs) (suc n) t h = ap (λ r. x ∷ r) (sender-more xs n t (omega (arith, h)))
+  -- what is held is the same on a topic whose seats were got ready
+  pub seat-ready : (b : Bool) (h ready : List (ℕ × Seats Tx Rx)) (n : ℕ) → IsReady b h n ready → seat_at ready n ≡ seat_at h n
+  seat-ready false h ready n e = ap (λ (x : List (ℕ × Seats Tx Rx)). seat_at x n) e
+  seat-ready true h ready n (e, w) =
+      ap (λ (x : List (ℕ × Seats Tx Rx)). seat_at x n) w ∙ at-in (with_seats h n nothing) n nothing (lookup-insert h n nothing) ∙ sym (at-out h n e)
 
-  pub receiver-more : (xs : List (Seats Tx Rx)) (n : ℕ) (r : Rx) → length xs ≤ n → with_receiver (xs ++ nothing ∷ []) n r ≡ with_receiver xs n r
-  receiver-more [] zero r h = refl
-  receiver-more [] (suc n) r h = refl
-  receiver-more (x ∷ xs) zero r h = absurd (omega (arith, h))
-  receiver-more (x ∷ xs) (suc n) r h = ap (λ s. x ∷ s) (receiver-more xs n r (omega (arith, h)))
+  -- where they were got ready, it takes its seat as it would have
+  pub sender-ready : (b : Bool) (h ready : List (ℕ × Seats Tx Rx)) (n : ℕ) (t : Tx) → IsReady b h n ready → with_sender ready n t ≡ with_sender h n t
+  sender-ready false h ready n t e = ap (λ (x : List (ℕ × Seats Tx Rx)). with_sender x n t) e
+  sender-ready true h ready n t (e, w) =
+      ap (λ (x : List (ℕ × Seats Tx Rx)). with_sender x n t) w
+      ∙ ap (λ s. with_seats (with_seats h n nothing) n (record { sender = Some t; receiver = s.receiver })) (at-in (with_seats h n nothing) n nothing (lookup-insert h n nothing) ∙ sym (at-out h n e))
+      ∙ insert-insert h n nothing _
+
+  pub receiver-ready : (b : Bool) (h ready : List (ℕ × Seats Tx Rx)) (n : ℕ) (r : Rx) → IsReady b h n ready → with_receiver ready n r ≡ with_receiver h n r
+  receiver-ready false h ready n r e = ap (λ (x : List (ℕ × Seats Tx Rx)). with_receiver x n r) e
+  receiver-ready true h ready n r (e, w) =
+      ap (λ (x : List (ℕ × Seats Tx Rx)). with_receiver x n r) w
+      ∙ ap (λ s. with_seats (with_seats h n nothing) n (record { sender = s.sender; receiver = Some r })) (at-in (with_seats h n nothing) n nothing (lookup-insert h n nothing) ∙ sym (at-out h n e))
+      ∙ insert-insert h n nothing _
+
+  -- seats that are written are there
+  pub there-set : (h h' : List (ℕ × Seats Tx Rx)) (n : ℕ) (s t : Seats Tx Rx) → seats_of h n ≡ Some s → h' ≡ set_value (is_at (nat_cmp n)) h t → IsSome (seats_of h' n)
+  there-set h h' n s t e w = subst (λ (x : List (ℕ × Seats Tx Rx)). IsSome (seats_of x n)) (sym w) (lookup-set h n s t e)
+
+  -- and new ones that are taken out again leave what there was
+  pub taken-back : (b : Bool) (h ready : List (ℕ × Seats Tx Rx)) (n : ℕ) → b ≡ true → IsReady b h n ready → remove_entry (is_at (nat_cmp n)) ready ≡ h
+  taken-back false h ready n new w = absurd (false≢true new)
+  taken-back true h ready n new (e, w) = ap (remove_entry (is_at (nat_cmp n))) w ∙ remove-insert h n nothing e
 
 abbrev pub with_numbers : {N M : Type 0} → Option N → Option M → Seats N M
 with_numbers sender receiver = record { sender = sender; receiver = receiver }
 
 module _ {Tx Rx N M : Type 0} (tx : Tx → N) (rx : Rx → M) where
-  pub at-held : (xs : List (Seats Tx Rx)) (n : ℕ) → seat_at (held tx rx xs) n ≡ numbers tx rx (seat_at xs n)
-  at-held [] n = refl
-  at-held (x ∷ xs) zero = refl
-  at-held (x ∷ xs) (suc n) = at-held xs n
+  pub seats-held : (h : List (ℕ × Seats Tx Rx)) (n : ℕ) → seats_of (held tx rx h) n ≡ option_map (numbers tx rx) (seats_of h n)
+  seats-held h n = lookup-seen (numbers tx rx) h n
 
-  pub held-with_sender : (xs : List (Seats Tx Rx)) (n : ℕ) (t : Tx) → held tx rx (with_sender xs n t) ≡ with_sender (held tx rx xs) n (tx t)
-  held-with_sender [] zero t = refl
-  held-with_sender [] (suc n) t = ap (λ r. nothing ∷ r) (held-with_sender [] n t)
-  held-with_sender (x ∷ xs) zero t = refl
-  held-with_sender (x ∷ xs) (suc n) t = ap (λ r. numbers tx rx x ∷ r) (held-with_sender xs n t)
+  unwrapped : (o : Option (Seats Tx Rx)) → unwrap_or (option_map (numbers tx rx) o) nothing ≡ numbers tx rx (unwrap_or o nothing)
+  unwrapped None = refl
+  unwrapped (Some s) = refl
 
-  pub held-with_receiver : (xs : List (Seats Tx Rx)) (n : ℕ) (r : Rx) → held tx rx (with_receiver xs n r) ≡ with_receiver (held tx rx xs) n (rx r)
-  held-with_receiver [] zero r = refl
-  held-with_receiver [] (suc n) r = ap (λ s. nothing ∷ s) (held-with_receiver [] n r)
-  held-with_receiver (x ∷ xs) zero r = refl
-  held-with_receiver (x ∷ xs) (suc n) r = ap (λ s. numbers tx rx x ∷ s) (held-with_receiver xs n r)
+  pub at-held : (h : List (ℕ × Seats Tx Rx)) (n : ℕ) → seat_at (held tx rx h) n ≡ numbers tx rx (seat_at h n)
+  at-held h n = ap (λ (o : Option (Seats N M)). unwrap_or o nothing) (seats-held h n) ∙ unwrapped (seats_of h n)
+
+  held-with_seats : (h : List (ℕ × Seats Tx Rx)) (n : ℕ) (s : Seats Tx Rx) → held tx rx (with_seats h n s) ≡ with_seats (held tx rx h) n (numbers tx rx s)
+  held-with_seats h n s = insert-seen (numbers tx rx) h n s
+
+  pub held-with_sender : (h : List (ℕ × Seats Tx Rx)) (n : ℕ) (t : Tx) → held tx rx (with_sender h n t) ≡ with_sender (held tx rx h) n (tx t)
+  held-with_sender h n t =
+      held-with_seats h n (record { sender = Some t; receiver = (seat_at h n).receiver })
+      ∙ ap (λ (s : Seats N M). with_seats (held tx rx h) n (record { sender = Some (tx t); receiver = s.receiver })) (sym (at-held h n))
+
+  pub held-with_receiver : (h : List (ℕ × Seats Tx Rx)) (n : ℕ) (r : Rx) → held tx rx (with_receiver h n r) ≡ with_receiver (held tx rx h) n (rx r)
+  held-with_receiver h n r =
+      held-with_seats h n (record { sender = (seat_at h n).sender; receiver = Some r })
+      ∙ ap (λ (s : Seats N M). with_seats (held tx rx h) n (record { sender = s.sender; receiver = Some (rx r) })) (sym (at-held h n))
 
   -- seats that are written with handles of the same numbers hold the same
-  pub held-set : (xs : List (Seats Tx Rx)) (n : ℕ) (t : Seats Tx Rx) → n < length xs → numbers tx rx t ≡ numbers tx rx (seat_at xs n) → held tx rx (slice_set xs n t) ≡ held tx rx xs
-  held-set [] n t h e = absurd (omega (arith, h))
-  held-set (x ∷ xs) zero t h e = ap (λ y. y ∷ held tx rx xs) e
-  held-set (x ∷ xs) (suc n) t h e = ap (λ r. numbers tx rx x ∷ r) (held-set xs n t (omega (arith, h)) e)
+  pub held-set : (h h' : List (ℕ × Seats Tx Rx)) (n : ℕ) (s t : Seats Tx Rx) → seats_of h n ≡ Some s → h' ≡ set_value (is_at (nat_cmp n)) h t → numbers tx rx t ≡ numbers tx rx s → held tx rx h' ≡ held tx rx h
+  held-set h h' n s t e w same = ap (held tx rx) w ∙ set-seen (numbers tx rx) h n s t e same
+
+  is-seen : (o : Option (Seats Tx Rx)) → is_some (option_map (numbers tx rx) o) ≡ is_some o
+  is-seen None = refl
+  is-seen (Some s) = refl
+
+  -- the same is held, so seats that were there are there
+  pub there-still : (mid after : List (ℕ × Seats Tx Rx)) (n : ℕ) → held tx rx after ≡ held tx rx mid → IsSome (seats_of mid n) → IsSome (seats_of after n)
+  there-still mid after n e there =
+      sym (is-seen (seats_of after n)) ∙ ap is_some (sym (seats-held after n)) ∙ ap (λ (h : List (ℕ × Seats N M)). is_some (seats_of h n)) e ∙ ap is_some (seats-held mid n) ∙ is-seen (seats_of mid n) ∙ there
+
+  -- and seats that were got ready are ready for one who holds the same as before
+  pub ready-still : (b : Bool) (h mid after : List (ℕ × Seats Tx Rx)) (n : ℕ) → IsReady b h n mid → held tx rx after ≡ held tx rx mid → ((seat_at mid n).sender ≡ None → after ≡ mid) → (before : List (ℕ × Seats Tx Rx)) × IsReady b before n after × (held tx rx before ≡ held tx rx h)
+  ready-still false h mid after n ready e same = (after, refl, e ∙ ap (held tx rx) ready)
+  ready-still true h mid after n ready e same = (h, (ready.0, same (ap (λ s. s.sender) (seat-ready true h mid n ready ∙ at-out h n ready.0)) ∙ ready.1), refl)
 
   -- a handle that keeps its number changes no number
   pub sender-kept : (s : Seats Tx Rx) (t u : Tx) → s.sender ≡ Some t → tx u ≡ tx t → numbers tx rx (record { sender = Some u; receiver = s.receiver }) ≡ numbers tx rx s
@@ -72,18 +195,15 @@ module _ {Tx Rx N M : Type 0} (tx : Tx → N) (rx : Rx → M) where
   pub receiver-kept : (s : Seats Tx Rx) (r u : Rx) → s.receiver ≡ Some r → rx u ≡ rx r → numbers tx rx (record { sender = s.sender; receiver = Some u }) ≡ numbers tx rx s
   receiver-kept s r u h e = ap (λ n. with_numbers (option_map tx s.sender) (Some n)) e ∙ ap (λ o. with_numbers (option_map tx s.sender) (option_map rx o)) (sym h)
 
-  -- seats from which a handle is gone, or whose receiver is another
-  pub sender-gone : (xs : List (Seats Tx Rx)) (n : ℕ) (t : Seats Tx Rx) → n < length xs → numbers tx rx t ≡ with_numbers None (option_map rx (seat_at xs n).receiver) → held tx rx (slice_set xs n t) ≡ without_sender (held tx rx xs) n
-  sender-gone [] n t h e = absurd (omega (arith, h))
-  sender-gone (x ∷ xs) zero t h e = ap (λ y. y ∷ held tx rx xs) e
-  sender-gone (x ∷ xs) (suc n) t h e = ap (λ r. numbers tx rx x ∷ r) (sender-gone xs n t (omega (arith, h)) e)
+  -- seats from which a handle is gone
+  pub sender-gone : (h h' : List (ℕ × Seats Tx Rx)) (n : ℕ) (s t : Seats Tx Rx) → IsStrictlySortedBy nat_cmp (keys_of h) → seats_of h n ≡ Some s → h' ≡ set_value (is_at (nat_cmp n)) h t → numbers tx rx t ≡ with_numbers None (option_map rx s.receiver) → held tx rx h' ≡ without_sender (held tx rx h) n
+  sender-gone h h' n s t r e w gone =
+      ap (held tx rx) (w ∙ set-insert h n s t r e)
+      ∙ held-with_seats h n t
+      ∙ ap (with_seats (held tx rx h) n) (gone ∙ ap (λ (x : Seats N M). with_numbers None x.receiver) (sym (at-held h n ∙ ap (numbers tx rx) (at-in h n s e))))
 
-  pub receiver-gone : (xs : List (Seats Tx Rx)) (n : ℕ) (t : Seats Tx Rx) → n < length xs → numbers tx rx t ≡ with_numbers (option_map tx (seat_at xs n).sender) None → held tx rx (slice_set xs n t) ≡ without_receiver (held tx rx xs) n
-  receiver-gone [] n t h e = absurd (omega (arith, h))
-  receiver-gone (x ∷ xs) zero t h e = ap (λ y. y ∷ held tx rx xs) e
-  receiver-gone (x ∷ xs) (suc n) t h e = ap (λ r. numbers tx rx x ∷ r) (receiver-gone xs n t (omega (arith, h)) e)
-
-  pub receiver-renewed : (xs : List (Seats Tx Rx)) (n : ℕ) (t : Seats Tx Rx) (r : Rx) → n < length xs → numbers tx rx t ≡ with_numbers (option_map tx (seat_at xs n).sender) (Some (rx r)) → held tx rx (slice_set xs n t) ≡ with_receiver (held tx rx xs) n (rx r)
-  receiver-renewed [] n t r h e = absurd (omega (arith, h))
-  receiver-renewed (x ∷ xs) zero t r h e = ap (λ y. y ∷ held tx rx xs) e
-  receiver-renewed (x ∷ xs) (suc n) t r h e = ap (λ s. numbers tx rx x ∷ s) (receiver-renewed xs n t r (omega (arith, h)) e)
+  pub receiver-gone : (h h' : List (ℕ × Seats Tx Rx)) (n : ℕ) (s t : Seats Tx Rx) → IsStrictlySortedBy nat_cmp (keys_of h) → seats_of h n ≡ Some s → h' ≡ set_value (is_at (nat_cmp n)) h t → numbers tx rx t ≡ with_numbers (option_map tx s.sender) None → held tx rx h' ≡ without_receiver (held tx rx h) n
+  receiver-gone h h' n s t r e w gone =
+      ap (held tx rx) (w ∙ set-insert h n s t r e)
+      ∙ held-with_seats h n t
+      ∙ ap (with_seats (held tx rx h) n) (gone ∙ ap (λ (x : Seats N M). with_numbers x.sender None) (sym (at-held h n ∙ ap (numbers tx rx) (at-in h n s e))))

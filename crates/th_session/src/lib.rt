@@ -3,8 +3,10 @@
 //! ```text
 //! let mut desk = LocalDesk::new(alloc);
 //! let mut bob = Session::new(alloc);
-//! step(&mut bob, &mut desk, Command::OpenBroadcast(Name::new(b"news")?, 2));     // Count(2)
+//! step(&mut bob, &mut desk, Command::OpenBroadcast(Name::new(b"news")?, 10));    // Count(16), the capacity in force
 //! step(&mut bob, &mut desk, Command::Subscribe(Name::new(b"news")?));            // Done
+//! step(&mut bob, &mut desk, Command::Receive(Name::new(b"news")?));              // Blocked: nothing is sent yet
+//! step(&mut bob, &mut desk, Command::Quit);                                      // Bye
 //! ```
 #![tactic(auto)]
 

@@ -1,10 +1,10 @@
 //! The end of all that an actor holds.
 ghost use Rattle.std.specs.Option.{option_map};
 ghost use Rattle.th_session.specs.Held.{Holding, held, numbers};
-ghost use Rattle.th_session.specs.Script.{Plays, Script, spend_from, spend_receiver, spend_sender};
+ghost use Rattle.th_session.specs.Script.{Plays, Script, spend_all, spend_receiver, spend_sender};
 
 use crate::seats::Seats;
-use std::mem;
+use std::collections::BTreeMap;
 use th_lines::Reply;
 use th_registry::Desk;
 
@@ -36,15 +36,11 @@ fn leave<D: Desk>(desk: &mut D, topic: u64, seats: Seats<D::Tx, D::Rx>)
 }
 
 // Spends each handle, topics in order of opening, whatever is said of it.
-pub(crate) fn quit<D: Desk>(seats: &mut Vec<Seats<D::Tx, D::Rx>>, desk: &mut D) -> Reply
-    ensures { Plays D.says (spend_from 0 (held D.tx D.rx seats.old.items)) desk.old result (held D.tx D.rx seats.new.items) desk.new }
+pub(crate) fn quit<D: Desk>(seats: &mut BTreeMap<u64, Seats<D::Tx, D::Rx>>, desk: &mut D) -> Reply
+    ensures { Plays D.says (spend_all (held D.tx D.rx seats.old.entries)) desk.old result (held D.tx D.rx seats.new.entries) desk.new }
 {
-    let none_held = Vec::new(*seats.allocator());
-    let all_held = mem::replace(seats, none_held);
-    let mut topic: u64 = 0;
-    for both in all_held {
+    while let Some((topic, both)) = seats.pop_first() {
         leave(desk, topic, both);
-        topic += 1;
     }
     Reply::Bye
 }

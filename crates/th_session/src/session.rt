@@ -12,15 +12,18 @@ use crate::quit::quit;
 use crate::seats::Seats;
 use crate::table::{asked, replied_list, replied_opening};
 use std::alloc::Global;
+use std::collections::BTreeMap;
 use std::marker::Model;
 use th_lines::{Code, Command, Reply};
 use th_model::Name;
 use th_registry::{Desk, Verb};
 
 /// One actor's handles: at most one sender and one receiver of each topic.
+///
+/// It takes memory for each topic of which it once held a handle, and none for the others.
 #[derive(Drop)]
 pub struct Session<D: Desk> {
-    seats: Vec<Seats<D::Tx, D::Rx>>,
+    seats: BTreeMap<u64, Seats<D::Tx, D::Rx>>,
 }
 
 impl<D: Desk> Model for Session<D> {
@@ -28,19 +31,19 @@ impl<D: Desk> Model for Session<D> {
 
     ghost Value = { Holding };
 
-    ghost view = { λ s. held D.tx D.rx s.seats.items };
+    ghost view = { λ s. held D.tx D.rx s.seats.entries };
 }
 
 // A command on the topic of this name.
 fn on_topic<D: Desk>(
-    seats: &mut Vec<Seats<D::Tx, D::Rx>>,
+    seats: &mut BTreeMap<u64, Seats<D::Tx, D::Rx>>,
     desk: &mut D,
     name: &Name,
     needs: Needs,
     verb: Verb,
 ) -> Reply
     requires { NeedsFit needs verb }
-    ensures { let h = held D.tx D.rx seats.old.items in PlaysOrLacksRoom D.says (NeedsRoom needs) (Ask (Find name.now) (at_topic needs verb h)) h desk.old result (held D.tx D.rx seats.new.items) desk.new }
+    ensures { let h = held D.tx D.rx seats.old.entries in PlaysOrLacksRoom D.says (NeedsRoom needs) (Ask (Find name.now) (at_topic needs verb h)) h desk.old result (held D.tx D.rx seats.new.entries) desk.new }
 {
     let Some(found) = desk.find(name) else {
         return Reply::Refused(Code::NoTopic);
@@ -57,13 +60,17 @@ impl<D: Desk> Session<D> {
         ensures { result ≡ [] }
     {
         Session {
-            seats: Vec::new(alloc),
+            seats: BTreeMap::new(alloc),
         }
     }
 
     /// Carries out a command: of all that the desk said, in its order, the reply is the hub's, and so is what the
-    /// actor holds afterwards. Where there is no room for a new handle, nothing is asked and nothing has changed.
-    /// One look-up of the topic's name; only a new handle, and what the desk does, takes memory.
+    /// actor holds afterwards. The first refusal that holds is the reply. Where there is no room for a new handle, the
+    /// reply is `NoMemory`, no event is asked for and nothing has changed. A handle that is to be spent stays where
+    /// there was no event, but for `Quit`, after which nothing is held.
+    ///
+    /// It costs one look-up of the topic's name, and a few of what is held on it, each at most the logarithm of the
+    /// number of topics of which the actor once held a handle. Only a new handle, and what the desk does, takes memory.
     pub fn step(&mut self, desk: &mut D, command: Command) -> Reply
         ensures { IsStep D.says self.old desk.old command result self.new desk.new }
     {
