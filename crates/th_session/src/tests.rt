@@ -69,3 +69,10 @@ fn follow<const N: usize>(rt: &impl Abort, hub: &mut Hub, lines: [Line; N]) -> R
     }
     Ok(())
 }
+
+// The same, from an empty hub on.
+fn tell<const N: usize>(rt: &impl Abort, alloc: Global, lines: [Line; N]) -> Result<(), Fail>
+    requires { N < 100 }
+{
+    follow(rt, &mut empty_hub(alloc), lines)
+}
