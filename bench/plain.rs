@@ -4,88 +4,28 @@
 //! A broadcast topic keeps its newest values in a `VecDeque`, each with the number of receivers that have still to read
 //! it. A watch topic keeps its newest value and its version. An actor keeps what it holds on each topic.
 
+#[path = "plain/commands.rs"]
+mod commands;
+#[path = "plain/lines.rs"]
+mod lines;
+#[path = "plain/names.rs"]
+mod names;
+
+use crate::commands::{Any, Change, Command, Look, Making, Receive, Verb, step};
+use crate::lines::{Line, Lines};
+use crate::names::Names;
 use std::borrow::Cow;
-use std::collections::{HashMap, VecDeque};
-use std::io::{self, BufRead, BufReader, BufWriter, Read, Write};
+use std::collections::VecDeque;
+use std::io::{self, BufWriter, Read, Write};
 use std::mem;
 use std::process::ExitCode;
 
-const LINE_LIMIT: usize = 4096;
+/// How many bytes of replies wait at the most before they are written.
+const REPLIES_ROOM: usize = 1 << 16;
 const LINES_LIMIT: u64 = 1_000_000;
-const NAME_LIMIT: usize = 32;
-const VALUE_LIMIT: usize = 1024;
 const TOPICS_LIMIT: usize = 1024;
 const ACTORS_LIMIT: usize = 1024;
 const CAPACITY_LIMIT: u64 = 65_536;
-
-/// What an actor asks for.
-enum Command<'a> {
-    /// A topic to be opened.
-    Open {
-        topic: &'a [u8],
-        making: Making<'a>,
-    },
-    /// Something on a topic.
-    On {
-        topic: &'a [u8],
-        verb: Verb<'a>,
-    },
-    List,
-    Quit,
-}
-
-enum Making<'a> {
-    Broadcast { capacity: u64, base: u64 },
-    Watch { value: &'a [u8] },
-}
-
-/// What is asked of a topic.
-enum Verb<'a> {
-    /// Of a topic of any kind.
-    Any(Any<'a>),
-    /// Of a broadcast topic, by a receiver.
-    Receive(Receive),
-    /// Of a broadcast topic, by any sender.
-    Queued,
-    /// Of a watch topic, by a receiver.
-    Look(Look),
-    /// Of a watch topic, by a sender.
-    Write(Change, &'a [u8]),
-}
-
-enum Any<'a> {
-    Bind,
-    Unbind,
-    Sub,
-    Unsub,
-    Pub { value: &'a [u8] },
-    Readers,
-    End,
-}
-
-enum Receive {
-    Try,
-    Next,
-    Resub,
-    Left,
-}
-
-enum Look {
-    Get,
-    Take,
-    Has,
-    TryChanged,
-    Changed,
-    Mark,
-    Unmark,
-}
-
-enum Change {
-    Swap,
-    Set,
-    Differ,
-    Quiet,
-}
 
 enum Reply<'a> {
     Ok,
@@ -122,147 +62,26 @@ enum Refusal {
 }
 
 impl Refusal {
-    fn text(self) -> &'static str {
+    fn text(self) -> &'static [u8] {
         match self {
-            Refusal::BadLine => "ERR 10 bad-line",
-            Refusal::NoTopic => "ERR 11 no-topic",
-            Refusal::Exists => "ERR 12 exists",
-            Refusal::WrongKind => "ERR 13 wrong-kind",
-            Refusal::BadCapacity => "ERR 14 bad-capacity",
-            Refusal::Held => "ERR 15 held",
-            Refusal::NotHeld => "ERR 16 not-held",
-            Refusal::NoReceivers => "ERR 17 no-receivers",
-            Refusal::Closed => "ERR 18 closed",
-            Refusal::TooMany => "ERR 19 too-many",
-            Refusal::Exhausted => "ERR 20 exhausted",
-            Refusal::LongLine => "ERR 23 long-line",
+            Refusal::BadLine => b"10 bad-line",
+            Refusal::NoTopic => b"11 no-topic",
+            Refusal::Exists => b"12 exists",
+            Refusal::WrongKind => b"13 wrong-kind",
+            Refusal::BadCapacity => b"14 bad-capacity",
+            Refusal::Held => b"15 held",
+            Refusal::NotHeld => b"16 not-held",
+            Refusal::NoReceivers => b"17 no-receivers",
+            Refusal::Closed => b"18 closed",
+            Refusal::TooMany => b"19 too-many",
+            Refusal::Exhausted => b"20 exhausted",
+            Refusal::LongLine => b"23 long-line",
         }
     }
 }
 
 /// A reply, or the refusal in its place.
 type Outcome<'a> = Result<Reply<'a>, Refusal>;
-
-// ---- lines
-
-/// The bytes up to the next space, and those after it.
-fn split_field(bytes: &[u8]) -> Option<(&[u8], &[u8])> {
-    let at = bytes.iter().position(|&b| b == b' ')?;
-    Some((&bytes[..at], &bytes[at + 1..]))
-}
-
-fn name(bytes: &[u8]) -> Option<&[u8]> {
-    let is_ok = |b: &u8| matches!(b, b'a'..=b'z' | b'0'..=b'9' | b'_' | b'-');
-    ((1..=NAME_LIMIT).contains(&bytes.len()) && bytes.iter().all(is_ok)).then_some(bytes)
-}
-
-/// A number without a sign and without leading zeros.
-fn number(bytes: &[u8]) -> Option<u64> {
-    if bytes.is_empty() || (bytes[0] == b'0' && bytes.len() > 1) {
-        return None;
-    }
-    bytes.iter().try_fold(0u64, |n, &b| {
-        let digit = b.is_ascii_digit().then(|| u64::from(b - b'0'))?;
-        n.checked_mul(10)?.checked_add(digit)
-    })
-}
-
-fn value(bytes: &[u8]) -> Option<&[u8]> {
-    ((1..=VALUE_LIMIT).contains(&bytes.len()) && !bytes.contains(&b'\r')).then_some(bytes)
-}
-
-/// What follows `OPEN`.
-fn open(rest: &[u8]) -> Option<Command<'_>> {
-    let (topic, rest) = split_field(rest)?;
-    let making = match split_field(rest)? {
-        (b"B", rest) => {
-            let (capacity, base) = match split_field(rest) {
-                None => (rest, 0),
-                Some((capacity, rest)) => (capacity, number(rest.strip_prefix(b"AT ")?)?),
-            };
-            let capacity = number(capacity)?;
-            Making::Broadcast { capacity, base }
-        }
-        (b"W", rest) => Making::Watch {
-            value: value(rest)?,
-        },
-        _ => return None,
-    };
-    let topic = name(topic)?;
-    Some(Command::Open { topic, making })
-}
-
-/// What follows the word of a command that has a topic alone.
-fn named<'a>(rest: &'a [u8], verb: Verb<'a>) -> Option<Command<'a>> {
-    let topic = name(rest)?;
-    Some(Command::On { topic, verb })
-}
-
-/// What follows the word of a command that has a topic and a value.
-fn valued<'a>(rest: &'a [u8], verb: impl Fn(&'a [u8]) -> Verb<'a>) -> Option<Command<'a>> {
-    let (topic, rest) = split_field(rest)?;
-    let (topic, value) = (name(topic)?, value(rest)?);
-    let verb = verb(value);
-    Some(Command::On { topic, verb })
-}
-
-/// What follows `EDIT`.
-fn edit(rest: &[u8]) -> Option<Command<'_>> {
-    let (topic, rest) = split_field(rest)?;
-    let (form, rest) = split_field(rest)?;
-    let change = match form {
-        b"SET" => Change::Set,
-        b"DIFFER" => Change::Differ,
-        b"QUIET" => Change::Quiet,
-        _ => return None,
-    };
-    let topic = name(topic)?;
-    let verb = Verb::Write(change, value(rest)?);
-    Some(Command::On { topic, verb })
-}
-
-/// The command of a word and what follows it.
-fn command<'a>(word: &[u8], rest: &'a [u8]) -> Option<Command<'a>> {
-    match word {
-        b"PUB" => valued(rest, |value| Verb::Any(Any::Pub { value })),
-        b"TRY" => named(rest, Verb::Receive(Receive::Try)),
-        b"OPEN" => open(rest),
-        b"BIND" => named(rest, Verb::Any(Any::Bind)),
-        b"UNBIND" => named(rest, Verb::Any(Any::Unbind)),
-        b"SUB" => named(rest, Verb::Any(Any::Sub)),
-        b"UNSUB" => named(rest, Verb::Any(Any::Unsub)),
-        b"READERS" => named(rest, Verb::Any(Any::Readers)),
-        b"END" => named(rest, Verb::Any(Any::End)),
-        b"NEXT" => named(rest, Verb::Receive(Receive::Next)),
-        b"RESUB" => named(rest, Verb::Receive(Receive::Resub)),
-        b"LEFT" => named(rest, Verb::Receive(Receive::Left)),
-        b"QUEUED" => named(rest, Verb::Queued),
-        b"GET" => named(rest, Verb::Look(Look::Get)),
-        b"TAKE" => named(rest, Verb::Look(Look::Take)),
-        b"HAS" => named(rest, Verb::Look(Look::Has)),
-        b"TRYCHANGED" => named(rest, Verb::Look(Look::TryChanged)),
-        b"CHANGED" => named(rest, Verb::Look(Look::Changed)),
-        b"MARK" => named(rest, Verb::Look(Look::Mark)),
-        b"UNMARK" => named(rest, Verb::Look(Look::Unmark)),
-        b"SWAP" => valued(rest, |value| Verb::Write(Change::Swap, value)),
-        b"EDIT" => edit(rest),
-        _ => None,
-    }
-}
-
-/// The actor and the command of a line.
-fn step(line: &[u8]) -> Option<(&[u8], Command<'_>)> {
-    let (actor, rest) = split_field(line)?;
-    let command = match rest {
-        b"LIST" => Command::List,
-        b"QUIT" => Command::Quit,
-        _ => {
-            let (word, rest) = split_field(rest)?;
-            command(word, rest)?
-        }
-    };
-    Some((name(actor)?, command))
-}
 
 // ---- topics
 
@@ -427,6 +246,14 @@ impl Broadcast {
         }
     }
 
+    /// The place of a new receiver, which reads all that is kept.
+    fn join_oldest(&mut self) -> u64 {
+        for slot in &mut self.window {
+            slot.to_come += 1;
+        }
+        self.tail - self.window.len() as u64
+    }
+
     /// A receiver with this place is no more.
     fn leave(&mut self, place: u64) {
         let unread = (self.tail - place).min(self.window.len() as u64) as usize;
@@ -543,14 +370,14 @@ impl Actor {
 
 #[derive(Default)]
 struct Topics {
-    numbers: HashMap<Box<[u8]>, usize>,
+    numbers: Names<usize>,
     list: Vec<Topic>,
 }
 
 #[derive(Default)]
 struct Hub {
     topics: Topics,
-    actors: HashMap<Box<[u8]>, Actor>,
+    actors: Names<Actor>,
 }
 
 impl Hub {
@@ -639,6 +466,16 @@ fn on_topic<'a>(topic: &'a mut Topic, seat: &mut Seat, verb: Verb<'_>) -> Outcom
             let place = seat.receiver.as_mut().ok_or(Refusal::NotHeld)?;
             Ok(broadcast.by_receiver(place, topic.senders.are_gone(), receive))
         }
+        Verb::SubOldest => {
+            let broadcast = topic.channel.broadcast()?;
+            if seat.receiver.is_some() {
+                return Err(Refusal::Held);
+            }
+            topic.senders.any(seat)?;
+            seat.receiver = Some(broadcast.join_oldest());
+            topic.receivers += 1;
+            Ok(Reply::Ok)
+        }
         Verb::Queued => {
             let broadcast = topic.channel.broadcast()?;
             topic.senders.any(seat)?;
@@ -699,8 +536,22 @@ fn print_bytes(word: &[u8], bytes: &[u8], output: &mut impl Write) -> io::Result
     output.write_all(b"\n")
 }
 
+/// A line of a word and a number.
+fn print_count(word: &[u8], mut n: u64, output: &mut impl Write) -> io::Result<()> {
+    let mut digits = [0; 20];
+    let mut first = digits.len();
+    loop {
+        first -= 1;
+        digits[first] = b'0' + (n % 10) as u8;
+        n /= 10;
+        if n == 0 {
+            return print_bytes(word, &digits[first..], output);
+        }
+    }
+}
+
 fn print_topics(topics: &[Topic], output: &mut impl Write) -> io::Result<()> {
-    writeln!(output, "OK {}", topics.len())?;
+    print_count(b"OK ", topics.len() as u64, output)?;
     for topic in topics {
         output.write_all(&topic.name)?;
         output.write_all(match topic.channel {
@@ -714,13 +565,13 @@ fn print_topics(topics: &[Topic], output: &mut impl Write) -> io::Result<()> {
 fn print(outcome: &Outcome, output: &mut impl Write) -> io::Result<()> {
     let reply = match outcome {
         Ok(reply) => reply,
-        Err(refusal) => return writeln!(output, "{}", refusal.text()),
+        Err(refusal) => return print_bytes(b"ERR ", refusal.text(), output),
     };
     match reply {
         Reply::Ok => output.write_all(b"OK\n"),
-        Reply::Count(n) => writeln!(output, "OK {n}"),
+        Reply::Count(n) => print_count(b"OK ", *n, output),
         Reply::Value(value) => print_bytes(b"VAL ", value, output),
-        Reply::Lagged(n) => writeln!(output, "LAG {n}"),
+        Reply::Lagged(n) => print_count(b"LAG ", *n, output),
         Reply::Empty => output.write_all(b"EMPTY\n"),
         Reply::Closed => output.write_all(b"CLOSED\n"),
         Reply::Blocked => output.write_all(b"BLOCKED\n"),
@@ -742,44 +593,50 @@ enum Fault {
     TooLong,
 }
 
-fn answer_line<'a>(hub: &'a mut Hub, line: &[u8], ended: bool) -> Outcome<'a> {
-    if line.len() > LINE_LIMIT {
-        return Err(Refusal::LongLine);
-    }
-    hub.answer(if ended {
-        line.strip_suffix(b"\r").unwrap_or(line)
-    } else {
-        line
-    })
+/// The replies to the lines that come, and how many lines there were.
+struct Run {
+    hub: Hub,
+    lines: u64,
 }
 
-fn replay(input: &mut impl BufRead, output: &mut impl Write) -> Result<(), Fault> {
-    let mut hub = Hub::default();
-    let mut line = Vec::new();
-    let mut lines = 0;
-    loop {
-        line.clear();
-        let limit = LINE_LIMIT as u64 + 1;
-        let read = input.by_ref().take(limit).read_until(b'\n', &mut line);
-        if read.map_err(|_| Fault::Read)? == 0 {
-            return Ok(());
-        }
-        if lines == LINES_LIMIT {
+impl Run {
+    fn answer(&mut self, line: Line<'_>, output: &mut impl Write) -> Result<(), Fault> {
+        if self.lines == LINES_LIMIT {
             return Err(Fault::TooLong);
         }
-        lines += 1;
-        let ended = line.pop_if(|b| *b == b'\n').is_some();
-        if line.len() > LINE_LIMIT {
-            input.skip_until(b'\n').map_err(|_| Fault::Read)?;
+        self.lines += 1;
+        let outcome = match line {
+            Some(line) => self.hub.answer(line),
+            None => Err(Refusal::LongLine),
+        };
+        print(&outcome, output).map_err(|_| Fault::Write)
+    }
+}
+
+/// Before each read all replies are written, so that who waits for one gets it.
+fn replay(input: &mut Lines<impl Read>, output: &mut impl Write) -> Result<(), Fault> {
+    let mut run = Run {
+        hub: Hub::default(),
+        lines: 0,
+    };
+    loop {
+        while let Some(line) = input.next() {
+            run.answer(line, output)?;
         }
-        let outcome = answer_line(&mut hub, &line, ended);
-        print(&outcome, output).map_err(|_| Fault::Write)?;
+        output.flush().map_err(|_| Fault::Write)?;
+        if !input.read().map_err(|_| Fault::Read)? {
+            break;
+        }
+    }
+    match input.last() {
+        Some(line) => run.answer(line, output),
+        None => Ok(()),
     }
 }
 
 fn main() -> ExitCode {
-    let mut input = BufReader::with_capacity(1 << 16, io::stdin().lock());
-    let mut output = BufWriter::with_capacity(1 << 16, io::stdout().lock());
+    let mut input = Lines::new(io::stdin().lock());
+    let mut output = BufWriter::with_capacity(REPLIES_ROOM, io::stdout().lock());
     let end = replay(&mut input, &mut output);
     let flushed = output.flush().map_err(|_| Fault::Write);
     match end.and(flushed) {

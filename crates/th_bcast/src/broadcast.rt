@@ -1,31 +1,37 @@
 //! The broadcast channel.
-ghost use Rattle.std.specs.Prelude.{◌≡◌, ◌↔◌, IsOk, IfOk, IfErr, OnErr, IsTrue, false};
+ghost use Rattle.std.specs.Prelude.{◌≡◌, ◌↔◌, length, IsOk, IfOk, IfErr, OnErr, IsTrue, false};
 ghost use Rattle.th_model.specs.Limits.{ClonesAreEqual};
+ghost use Rattle.th_model.specs.Handles.{is_full};
+ghost use Rattle.th_model.specs.Window.{IsFull};
 ghost use Rattle.th_model.specs.BroadcastMachine.{opened, paired};
-ghost use Rattle.th_model.specs.BroadcastPicture.{answer, is_ready, subscribe, see, Meets, IsSound, WouldWait, TakesNoMemory, IsLastToCome, TakesNoneIfSure};
-ghost use Rattle.th_model.specs.declared.broadcast.BCall.TheVariants.{Send, TryRecv, Recv, Subscribe, Resubscribe, CloneTx, DropTx, DropRx, Queued, Left, Readers};
+ghost use Rattle.th_model.specs.BroadcastPicture.{answer, is_ready, subscribe, subscribe_oldest, see, Meets, IsSound, IsRefused, WouldWait, TakesMemory, TakesNoMemory, IsLastToCome, TakesNoneIfSure};
+ghost use Rattle.th_model.specs.declared.broadcast.BCall.TheVariants.{Send, TryRecv, Recv, Subscribe, SubscribeOldest, Resubscribe, CloneTx, DropTx, DropRx, Queued, Left, Readers};
 
+use crate::told::told;
 use std::alloc::Global;
 use std::collections::BTreeSet;
 use std::marker::{Model, PhantomData};
-use th_model::{BCall, BReply, Capacity, RxId, Short, TxId};
+use th_model::{BCall, BReply, Capacity, MOST_HANDLES, RxId, Short, TxId};
 use th_shelf::Shelf;
 
-/// The most live handles of one kind.
-const MOST_HANDLES: u64 = 65_535;
-
-/// A broadcast channel over a shelf, seen as its picture: the window of kept values, the place of each live receiver,
-/// the live senders, and the next handle number.
+/// A broadcast channel over a shelf, seen as its picture: the window of kept values, the place of
+/// each live receiver, the live senders, and the next handle number.
 ///
-/// Every call first looks its handle up; a number that is not live on its side is answered `NoHandle`. Beside what the
-/// shelf spends, a call is at most logarithmic in live senders, and only `clone_tx` takes memory. A call that is
-/// refused memory is `Short`: the call comes back, and nothing has changed.
+/// Every call first looks its handle up; a number that is not live on its side is answered
+/// `NoHandle`. Beside what the shelf spends, a call is at most logarithmic in live senders, and
+/// only `clone_tx` takes memory. A call that is refused memory is `Short`: the call comes back, and
+/// nothing has changed. So only that can be answered for which memory is asked: a value that is
+/// sent or read, and a new handle.
 #[derive(Drop)]
 pub struct Broadcast<T: Clone, S: Shelf<T>> {
-    shelf: S,
-    senders: BTreeSet<u64>,
-    next: u64,
-    of: PhantomData<T>,
+    // The kept values, and the place of each live receiver.
+    pub(crate) shelf: S,
+    // The numbers of the live senders. A number that is taken out never comes in again.
+    pub(crate) senders: BTreeSet<u64>,
+    // The next handle number, above all that were given out. Each new handle adds one.
+    pub(crate) next: u64,
+    // The type of the values, which the shelf holds.
+    pub(crate) of: PhantomData<T>,
 }
 
 impl<T: Clone, S: Shelf<T>> Model for Broadcast<T, S> {
@@ -39,8 +45,8 @@ impl<T: Clone, S: Shelf<T>> Model for Broadcast<T, S> {
 }
 
 impl<T: Clone, S: Shelf<T> + Drop> Broadcast<T, S> {
-    /// A channel with sender 1 and no receiver, whose first value stands at `base`. At `base` 2^64 - 1 no value can be
-    /// sent.
+    /// A channel with sender 1 and no receiver, whose first value stands at `base`. At `base` 2^64
+    /// - 1 no value can be sent.
     pub fn starting_at(alloc: Global, capacity: Capacity, base: u64) -> Result<Self, Short<()>>
         ensures { IfOk result (λ channel. channel ≡ see (opened capacity base)) }
     {
@@ -77,7 +83,9 @@ impl<T: Clone, S: Shelf<T> + Drop> Broadcast<T, S> {
         }
     }
 
-    /// Whether a call has its answer now: false exactly for a `Recv` that would be answered `Empty`.
+    /// Whether a call has its answer now: false exactly for a `Recv` that would be answered
+    /// `Empty`.
+    #[inline(always)]
     pub fn ready(&self, call: &BCall<T>) -> bool
         ensures ready { result ≡ is_ready self.now call.now }
         ensures waits { (result ≡ false) ↔ WouldWait self.now call.now }
@@ -92,11 +100,15 @@ impl<T: Clone, S: Shelf<T> + Drop> Broadcast<T, S> {
         }
     }
 
-    /// Sends a value to every live receiver: `Sent` with their number. Without receivers `NoReceivers`, and after the
-    /// last position, 2^64 - 2, `Exhausted`; the value comes back with either, and nothing changes.
+    /// Sends a value to every live receiver: `Sent` with their number. Without receivers
+    /// `NoReceivers`, and after the last position, 2^64 - 2, `Exhausted`; the value comes back with
+    /// either, and nothing changes.
+    #[inline(always)]
     pub fn send(&mut self, tx: TxId, value: T) -> Result<BReply<T>, Short<BCall<T>>>
         ensures step { IfOk result (λ reply. answer self.old (Send tx value) ≡ (reply, self.new)) }
-        ensures short { IfErr result (λ short. (short.call ≡ Send tx value) × (self.new ≡ self.old)) }
+        ensures short { IfErr result (λ short.
+            IsRefused self.old (Send tx value) short.call self.new) }
+        ensures full { IsFull self.old.window → IsOk result }
         ensures always { IsTrue S.sure → IsOk result }
     {
         if !self.senders.contains(&tx.0) {
@@ -118,36 +130,29 @@ impl<T: Clone, S: Shelf<T> + Drop> Broadcast<T, S> {
     }
 
     // Both receives.
+    #[inline(always)]
     fn receive(&mut self, rx: RxId) -> Result<BReply<T>, Short<RxId>>
         requires { ClonesAreEqual T.is_clone }
         ensures step { IfOk result (λ reply. answer self.old (TryRecv rx) ≡ (reply, self.new)) }
-        ensures short { IfErr result (λ short. (short.call ≡ rx) × (self.new ≡ self.old)) }
+        ensures short { OnErr result (self.new ≡ self.old) }
+        ensures asked { OnErr result (TakesMemory (answer self.old (TryRecv rx)).0) }
         ensures always { IsTrue S.sure → IsLastToCome self.old rx.0 → IsOk result }
     {
-        let Some(place) = self.shelf.place(rx) else {
-            return Ok(BReply::NoHandle(None));
+        let Ok(found) = self.shelf.receive(rx) else {
+            return Err(Short { call: rx });
         };
-        let tail = self.shelf.tail();
-        if place == tail {
-            if self.senders.len() == 0 {
-                return Ok(BReply::Closed);
-            }
-            return Ok(BReply::Empty);
-        }
-        let window = tail.saturating_sub(self.shelf.capacity());
-        if place < window {
-            return Ok(BReply::Lagged(self.shelf.jump(rx)));
-        }
-        Ok(BReply::Value(self.shelf.take(rx)?))
+        Ok(told(found, self.senders.is_empty()))
     }
 
-    /// The next value, in the order sent. A receiver that is behind the window is told `Lagged` with the number of
-    /// values that it missed, and goes on at the oldest of the window. With nothing to come it is `Empty`, or `Closed`
-    /// where no sender is left.
+    /// The next value, in the order sent. A receiver that is behind the window is told `Lagged`
+    /// with the number of values that it missed, and goes on at the oldest of the window. With
+    /// nothing to come it is `Empty`, or `Closed` where no sender is left.
+    #[inline(always)]
     pub fn try_recv(&mut self, rx: RxId) -> Result<BReply<T>, Short<BCall<T>>>
         requires { ClonesAreEqual T.is_clone }
         ensures step { IfOk result (λ reply. answer self.old (TryRecv rx) ≡ (reply, self.new)) }
-        ensures short { IfErr result (λ short. (short.call ≡ TryRecv rx) × (self.new ≡ self.old)) }
+        ensures short { IfErr result (λ short.
+            IsRefused self.old (TryRecv rx) short.call self.new) }
         ensures always { IsTrue S.sure → IsLastToCome self.old rx.0 → IsOk result }
     {
         match self.receive(rx) {
@@ -159,10 +164,11 @@ impl<T: Clone, S: Shelf<T> + Drop> Broadcast<T, S> {
     }
 
     /// As `try_recv`. A caller that waits makes the call once it is `ready`.
+    #[inline(always)]
     pub fn recv(&mut self, rx: RxId) -> Result<BReply<T>, Short<BCall<T>>>
         requires { ClonesAreEqual T.is_clone }
         ensures step { IfOk result (λ reply. answer self.old (Recv rx) ≡ (reply, self.new)) }
-        ensures short { IfErr result (λ short. (short.call ≡ Recv rx) × (self.new ≡ self.old)) }
+        ensures short { IfErr result (λ short. IsRefused self.old (Recv rx) short.call self.new) }
         ensures always { IsTrue S.sure → IsLastToCome self.old rx.0 → IsOk result }
     {
         match self.receive(rx) {
@@ -173,12 +179,20 @@ impl<T: Clone, S: Shelf<T> + Drop> Broadcast<T, S> {
         }
     }
 
+    // No further receiver can be made.
+    fn has_all_receivers(&self) -> bool
+        ensures { result ≡ is_full (length self.now.window.places) self.now.next }
+    {
+        self.shelf.readers() >= MOST_HANDLES as u64 || self.next == u64::MAX
+    }
+
     // A new receiver at the tail.
     fn add_receiver(&mut self) -> Result<BReply<T>, Short<()>>
         ensures step { IfOk result (λ reply. subscribe self.old ≡ (reply, self.new)) }
         ensures short { OnErr result (self.new ≡ self.old) }
+        ensures asked { OnErr result (TakesMemory (subscribe self.old).0) }
     {
-        if self.shelf.readers() >= MOST_HANDLES || self.next == u64::MAX {
+        if self.has_all_receivers() {
             return Ok(BReply::TooMany);
         }
         let rx = RxId(self.next);
@@ -189,11 +203,29 @@ impl<T: Clone, S: Shelf<T> + Drop> Broadcast<T, S> {
         Ok(BReply::NewRx(rx))
     }
 
-    /// A new receiver, of what is sent from now on: `NewRx` with its number. `TooMany` at 65,535 live receivers, and
-    /// once no number is left.
+    // A new receiver at the least kept position.
+    fn add_oldest_receiver(&mut self) -> Result<BReply<T>, Short<()>>
+        ensures step { IfOk result (λ reply. subscribe_oldest self.old ≡ (reply, self.new)) }
+        ensures short { OnErr result (self.new ≡ self.old) }
+        ensures asked { OnErr result (TakesMemory (subscribe_oldest self.old).0) }
+    {
+        if self.has_all_receivers() {
+            return Ok(BReply::TooMany);
+        }
+        let oldest = RxId(self.next);
+        let Ok(()) = self.shelf.join_oldest(oldest) else {
+            return Err(Short { call: () });
+        };
+        self.next += 1;
+        Ok(BReply::NewRx(oldest))
+    }
+
+    /// A new receiver, of what is sent from now on: `NewRx` with its number. `TooMany` at 65,535
+    /// live receivers, and once no number is left.
     pub fn subscribe(&mut self, tx: TxId) -> Result<BReply<T>, Short<BCall<T>>>
         ensures step { IfOk result (λ reply. answer self.old (Subscribe tx) ≡ (reply, self.new)) }
-        ensures short { IfErr result (λ short. (short.call ≡ Subscribe tx) × (self.new ≡ self.old)) }
+        ensures short { IfErr result (λ short.
+            IsRefused self.old (Subscribe tx) short.call self.new) }
     {
         if !self.senders.contains(&tx.0) {
             return Ok(BReply::NoHandle(None));
@@ -206,31 +238,52 @@ impl<T: Clone, S: Shelf<T> + Drop> Broadcast<T, S> {
         }
     }
 
-    /// As `subscribe`, asked for by a receiver, which stays as it is.
-    pub fn resubscribe(&mut self, rx: RxId) -> Result<BReply<T>, Short<BCall<T>>>
-        ensures step { IfOk result (λ reply. answer self.old (Resubscribe rx) ≡ (reply, self.new)) }
-        ensures short { IfErr result (λ short. (short.call ≡ Resubscribe rx) × (self.new ≡ self.old)) }
-    {
-        let Some(_) = self.shelf.place(rx) else {
-            return Ok(BReply::NoHandle(None));
-        };
-        match self.add_receiver() {
-            Ok(reply) => Ok(reply),
-            Err(_) => Err(Short {
-                call: BCall::Resubscribe(rx),
-            }),
-        }
-    }
-
-    /// A new sender: `NewTx` with its number. `TooMany` at 65,535 live senders, and once no number is left.
-    pub fn clone_tx(&mut self, tx: TxId) -> Result<BReply<T>, Short<BCall<T>>>
-        ensures step { IfOk result (λ reply. answer self.old (CloneTx tx) ≡ (reply, self.new)) }
-        ensures short { IfErr result (λ short. (short.call ≡ CloneTx tx) × (self.new ≡ self.old)) }
+    /// As `subscribe`, for a receiver that first gets what is still kept, from the oldest value on.
+    pub fn subscribe_oldest(&mut self, tx: TxId) -> Result<BReply<T>, Short<BCall<T>>>
+        ensures step { IfOk result (λ reply.
+            answer self.old (SubscribeOldest tx) ≡ (reply, self.new)) }
+        ensures short { IfErr result (λ short.
+            IsRefused self.old (SubscribeOldest tx) short.call self.new) }
     {
         if !self.senders.contains(&tx.0) {
             return Ok(BReply::NoHandle(None));
         }
-        if self.senders.len() as u64 >= MOST_HANDLES || self.next == u64::MAX {
+        match self.add_oldest_receiver() {
+            Ok(reply) => Ok(reply),
+            Err(_) => Err(Short {
+                call: BCall::SubscribeOldest(tx),
+            }),
+        }
+    }
+
+    /// As `subscribe`, asked for by a receiver, which stays as it is.
+    pub fn resubscribe(&mut self, rx: RxId) -> Result<BReply<T>, Short<BCall<T>>>
+        ensures step { IfOk result (λ reply. answer self.old (Resubscribe rx) ≡ (reply, self.new)) }
+        ensures short { IfErr result (λ short.
+            IsRefused self.old (Resubscribe rx) short.call self.new) }
+    {
+        let Some(_) = self.shelf.place(rx) else {
+            return Ok(BReply::NoHandle(None));
+        };
+        let Ok(reply) = self.add_receiver() else {
+            return Err(Short {
+                call: BCall::Resubscribe(rx),
+            });
+        };
+        Ok(reply)
+    }
+
+    /// A new sender: `NewTx` with its number. `TooMany` at 65,535 live senders, and once no number
+    /// is left.
+    pub fn clone_tx(&mut self, tx: TxId) -> Result<BReply<T>, Short<BCall<T>>>
+        ensures step { IfOk result (λ reply. answer self.old (CloneTx tx) ≡ (reply, self.new)) }
+        ensures short { IfErr result (λ short.
+            IsRefused self.old (CloneTx tx) short.call self.new) }
+    {
+        if !self.senders.contains(&tx.0) {
+            return Ok(BReply::NoHandle(None));
+        }
+        if self.senders.len() >= MOST_HANDLES || self.next == u64::MAX {
             return Ok(BReply::TooMany);
         }
         let new = self.next;
@@ -254,7 +307,8 @@ impl<T: Clone, S: Shelf<T> + Drop> Broadcast<T, S> {
         BReply::Done
     }
 
-    /// Spends a receiver: `Done`. The values that only it had still to read are let go. Takes no memory.
+    /// Spends a receiver: `Done`. The values that only it had still to read are let go. Takes no
+    /// memory.
     pub fn drop_rx(&mut self, rx: RxId) -> BReply<T>
         ensures { answer self.old (DropRx rx) ≡ (result, self.new) }
     {
@@ -296,10 +350,11 @@ impl<T: Clone, S: Shelf<T> + Drop> Broadcast<T, S> {
     }
 
     // One call, by the picture alone.
+    #[inline(always)]
     fn answer(&mut self, call: BCall<T>) -> Result<BReply<T>, Short<BCall<T>>>
         requires { ClonesAreEqual T.is_clone }
         ensures step { IfOk result (λ reply. answer self.old call ≡ (reply, self.new)) }
-        ensures short { IfErr result (λ short. (short.call ≡ call) × (self.new ≡ self.old)) }
+        ensures short { IfErr result (λ short. IsRefused self.old call short.call self.new) }
         ensures always { TakesNoMemory call → IsOk result }
         ensures sure { IsTrue S.sure → TakesNoneIfSure self.old call → IsOk result }
     {
@@ -308,6 +363,7 @@ impl<T: Clone, S: Shelf<T> + Drop> Broadcast<T, S> {
             BCall::TryRecv(rx) => self.try_recv(rx),
             BCall::Recv(rx) => self.recv(rx),
             BCall::Subscribe(tx) => self.subscribe(tx),
+            BCall::SubscribeOldest(tx) => self.subscribe_oldest(tx),
             BCall::Resubscribe(rx) => self.resubscribe(rx),
             BCall::CloneTx(tx) => self.clone_tx(tx),
             BCall::DropTx(tx) => Ok(self.drop_tx(tx)),
@@ -318,14 +374,16 @@ impl<T: Clone, S: Shelf<T> + Drop> Broadcast<T, S> {
         }
     }
 
-    /// One call. Of every proper endless state that looks like the channel, the reply is the machine's reply, and the
-    /// channel then looks like the state after the machine's step. Drops and counts are always answered; so are, over a
-    /// shelf that is sure, a send, and a receive by the last receiver to come.
+    /// One call. Of every proper endless state that looks like the channel, the reply is the
+    /// machine's reply, and the channel then looks like the state after the machine's step. Drops
+    /// and counts are always answered; so are, over a shelf that is sure, a send, and a receive by
+    /// the last receiver to come.
+    #[inline(always)]
     pub fn apply(&mut self, call: BCall<T>) -> Result<BReply<T>, Short<BCall<T>>>
         requires { ClonesAreEqual T.is_clone }
         ensures meets { IfOk result (λ reply. Meets self.old call reply self.new) }
         ensures step { IfOk result (λ reply. answer self.old call ≡ (reply, self.new)) }
-        ensures short { IfErr result (λ short. (short.call ≡ call) × (self.new ≡ self.old)) }
+        ensures short { IfErr result (λ short. IsRefused self.old call short.call self.new) }
         ensures always { TakesNoMemory call → IsOk result }
         ensures sure { IsTrue S.sure → TakesNoneIfSure self.old call → IsOk result }
     {

@@ -1,4 +1,5 @@
-//! A broadcast channel for one thread: each call is a step of the machine that remembers every value ever sent.
+//! A broadcast channel for one thread: each call is a step of the machine that remembers every value
+//! ever sent.
 //!
 //! ```text
 //! let mut news: Broadcast<u64, PlainShelf<u64>> = Broadcast::channel(alloc, Capacity::new(2)?)?;
@@ -9,7 +10,10 @@
 #![tactic(auto)]
 
 pub mod broadcast;
+pub mod picture;
 #[cfg(test)]
 mod tests;
+mod told;
 
 pub use broadcast::Broadcast;
+pub use picture::PictureParts;

@@ -1,7 +1,7 @@
 //! Lines: commands and replies as values, and how they are spelled.
 //!
 //! ```text
-//! let (actor, command) = read_step(alloc, b"bob TRY news")?;     // bob, TryReceive(news)
+//! let (actor, command) = read_step(alloc, b"bob TRY news")?;     // bob, on news: TryRecv
 //! let mut text = Vec::with_capacity(alloc, 4096)?;
 //! print_reply(&Reply::Lagged(2), &mut text)?;                    // LAG 2
 //! ```
@@ -9,18 +9,26 @@
 
 pub mod command;
 pub mod counted;
+mod cut;
+#[cfg(test)]
+mod device_tests;
 pub mod fault;
 mod fields;
+pub mod intake;
 pub mod laws;
 mod print;
 mod read;
 pub mod reply;
 #[cfg(test)]
 mod tests;
+pub mod write_buffer;
 
-pub use command::{Actor, Command};
+pub use command::{Action, Actor, Command};
 pub use counted::{Counted, Moved};
-pub use fault::LineFault;
+pub use fault::{LineFault, WriteFailed};
+pub use fields::name_and_more;
+pub use intake::Intake;
 pub use print::{print_line, print_reply};
 pub use read::{read_command, read_step};
 pub use reply::{Code, Reply};
+pub use write_buffer::WriteBuffer;

@@ -10,8 +10,8 @@ use Rattle.indexmap.specs.IndexMap.{insert_entry}
 use Rattle.th_model.specs.Limits.{capacity_of}
 use Rattle.th_registry.specs.declared.channel.Channel.{Channel}
 use Rattle.th_registry.specs.declared.channel.Channel.TheVariants.{Broadcast}
-use Rattle.th_registry.specs.declared.opening.Making.{Making}
-use Rattle.th_registry.specs.declared.opening.Making.TheVariants as Makings
+use Rattle.th_model.specs.declared.making.Making.{Making}
+use Rattle.th_model.specs.declared.making.Making.TheVariants as Makings
 use Rattle.th_registry.specs.declared.opening.Refusal.TheVariants as Refusals
 use Rattle.th_registry.specs.Calls.{Bytes}
 use Rattle.th_registry.specs.Hub.{Machines, Topics, Open, most_topics, find, found_in, found_at, added, made, open_topic, Says}
@@ -69,7 +69,7 @@ module _ {B W : Type 0} (m : Machines B W) (ts : Topics B W) (name : Bytes) (new
 -- the channel of a making
 module _ {B W : Type 0} (m : Machines B W) (asked base : ℕ) where
   abbrev making : Making
-  making = Makings.Broadcast asked base
+  making = Makings.BroadcastAt asked base
 
   none-either : (b : Bool) (o : Option (ℕ × Channel B W)) → o ≡ None → cond b o None ≡ None
   none-either true o e = e

@@ -16,7 +16,6 @@ use Rattle.th_model.specs.declared.broadcast.BReply.{BReply}
 use Rattle.th_model.specs.declared.watch.WCall.{WCall}
 use Rattle.th_model.specs.declared.watch.WReply.{WReply}
 use Rattle.th_model.specs.declared.kind.Kind.{Kind}
-use Rattle.th_model.specs.declared.handles.TxId.{TxId}
 use Rattle.th_model.specs.declared.handles.RxId.{RxId}
 use Rattle.th_model.specs.BroadcastMachine as broadcast
 use Rattle.th_model.specs.BroadcastPicture as seen_broadcast
@@ -27,19 +26,18 @@ use Rattle.th_model.proofs.BroadcastProperness as broadcast_proper
 use Rattle.th_model.proofs.WatchSeen as watch_seen
 use Rattle.th_model.proofs.WatchProperness as watch_proper
 use Rattle.th_registry.specs.declared.channel.Channel.TheVariants.{Broadcast, Watch}
-use Rattle.th_registry.specs.declared.verb.Outcome.{Outcome}
-use Rattle.th_registry.specs.declared.verb.Outcome.TheVariants as Outcomes
-use Rattle.th_registry.specs.declared.verb.NoEvent.TheVariants as NoEvents
+use Rattle.th_model.specs.declared.broadcast.BReply.TheVariants as BReplies
+use Rattle.th_registry.specs.declared.outcome.NoEvent.{NoEvent}
+use Rattle.th_registry.specs.declared.outcome.NoEvent.TheVariants as NoEvents
 use Rattle.th_registry.specs.declared.opening.Found.{Found}
-use Rattle.th_registry.specs.declared.opening.Making.{Making}
-use Rattle.th_registry.specs.declared.opening.Making.TheVariants as Makings
+use Rattle.th_model.specs.declared.making.Making.{Making}
+use Rattle.th_model.specs.declared.making.Making.TheVariants as Makings
 use Rattle.th_registry.specs.declared.opening.Refusal.{Refusal}
 use Rattle.th_registry.specs.declared.opening.Refusal.TheVariants as Refusals
-use Rattle.th_registry.specs.declared.verb.Verb.{Verb}
-use Rattle.th_registry.specs.declared.verb.Verb.TheVariants.{CloneTx, DropTx, Subscribe, DropRx, Resubscribe, Send, TryRecv, Recv, Left, Queued, Readers, Replace, EditBy, Borrow, Take, HasChanged, TryChanged, Changed, MarkChanged, MarkUnchanged}
-use Rattle.th_registry.specs.Calls.{Bytes, Told, rx, broadcast_call, broadcast_outcome, broadcast_waits, watch_call, watch_outcome, watch_waits}
+use Rattle.th_registry.specs.Calls.{Bytes}
+use Rattle.th_registry.specs.Events.{Event, Binds, Subscribes, Sends, Asks, Receives, Resubscribes, DropsTx, DropsRx, Told, broadcast_call, broadcast_outcome, broadcast_waits, watch_call, watch_outcome, watch_waits, by_asker}
 use Rattle.th_registry.specs.Kinds.{kind_of}
-use Rattle.th_registry.specs.Hub.{By, Find, List, Open, Event, most_topics, found_in, found_at, find, list, written, on_channel, added, made, open_topic, broadcast_told, moved, broadcast_event, watch_told, channel_told, number_of, by_handle, say}
+use Rattle.th_registry.specs.Hub.{Find, List, Open, On, most_topics, found_in, found_at, find, list, written, on_channel, added, made_broadcast, made, open_topic, came, broadcast_replies, moved, broadcast_event, watch_replies, channel_event, say}
 use Rattle.th_registry.specs.Endless.{EndlessChannel, EndlessTopics, endless, IsProperChannel, AreProper}
 use Rattle.th_registry.specs.Pictures.{SeenChannel, SeenTopics, pictures, see_channel, see_topics}
 use Rattle.th_registry.specs.Laws.{SaysWhatIsSeen, StaysProper}
@@ -58,7 +56,7 @@ abbrev see_topic : Bytes × EndlessChannel → Bytes × SeenChannel
 see_topic t = (t.0, see_channel t.1)
 
 abbrev found_as : ℕ → Kind → Option Found
-found_as n kind = Some (record { number = n; kind = kind })
+found_as n kind = Some (record { topic = record { 0 = n }; kind = kind })
 
 found_in-seen : (n : ℕ) (t : Option (Bytes × EndlessChannel)) → found_in n (option_map see_topic t) ≡ found_in n t
 found_in-seen n None = refl
@@ -88,7 +86,8 @@ made_of-seen base true (Some c) = refl
 made_of-seen base false o = refl
 
 made-seen : (making : Making) → made pictures making ≡ option_map see_made (made endless making)
-made-seen (Makings.Broadcast asked base) = made_of-seen base (nat_lt base (2 ^ 64)) (capacity_of asked)
+made-seen (Makings.Broadcast asked) = made_of-seen 0 (nat_lt 0 (2 ^ 64)) (capacity_of asked)
+made-seen (Makings.BroadcastAt asked base) = made_of-seen base (nat_lt base (2 ^ 64)) (capacity_of asked)
 made-seen (Makings.Watch value) = refl
 
 see_added : (ts : EndlessTopics) (name : Bytes) (c : EndlessChannel) → see_topics ts ++ (name, see_channel c) ∷ [] ≡ see_topics (ts ++ (name, c) ∷ [])
@@ -133,118 +132,130 @@ open-seen ts name making =
 -- events
 
 -- what is said, and what is seen of the channel
-abbrev Ended : Type 0 → Type 0
-Ended C = Told × C
-
-abbrev see_told : Ended EndlessChannel → Ended SeenChannel
+abbrev see_told : Told × EndlessChannel → Told × SeenChannel
 see_told s = (s.0, see_channel s.1)
 
-abbrev see_broadcast : Ended (broadcast.Endless Bytes) → Ended (seen_broadcast.Picture Bytes)
+-- what was replied, and the channel after it
+abbrev Replies : Type 0 → Type 0 → Type 0
+Replies R C = Result R NoEvent × C
+
+abbrev see_broadcast : Replies (BReply Bytes) (broadcast.Endless Bytes) → Replies (BReply Bytes) (seen_broadcast.Picture Bytes)
 see_broadcast s = (s.0, seen_broadcast.see s.1)
 
-abbrev see_watch : Ended (watch.Endless Bytes) → Ended (seen_watch.Picture Bytes)
+abbrev see_watch : Replies (WReply Bytes) (watch.Endless Bytes) → Replies (WReply Bytes) (seen_watch.Picture Bytes)
 see_watch s = (s.0, seen_watch.see s.1)
 
 -- one call, or that it would wait
-module _ {C R : Type 0} (outcome : R → Outcome TxId RxId) where
-  abbrev called : Bool → C → R × C → Ended C
-  called waits c s = cond waits (Err NoEvents.Blocked, c) (Ok (outcome s.0), s.1)
+abbrev called : {C R : Type 0} → Bool → C → R × C → Replies R C
+called waits c s = cond waits (Err NoEvents.Blocked, c) (Ok s.0, s.1)
 
-broadcast_called-seen : (e : broadcast.Endless Bytes) (s : BReply Bytes × broadcast.Endless Bytes) (waits : Bool) → called broadcast_outcome waits (seen_broadcast.see e) (s.0, seen_broadcast.see s.1) ≡ see_broadcast (called broadcast_outcome waits e s)
-broadcast_called-seen e s true = refl
-broadcast_called-seen e s false = refl
+called-seen : {C D R : Type 0} (see : C → D) (c : C) (s : R × C) (waits : Bool) →
+    called waits (see c) (s.0, see s.1) ≡ ((called waits c s).0, see (called waits c s).1)
+called-seen see c s true = refl
+called-seen see c s false = refl
 
-broadcast_told-seen : (e : broadcast.Endless Bytes) → broadcast.IsProper e → (call : Option (BCall Bytes)) → broadcast_told pictures (seen_broadcast.see e) call ≡ see_broadcast (broadcast_told endless e call)
-broadcast_told-seen e proper None = refl
-broadcast_told-seen e proper (Some call) =
-    ap (λ s. called broadcast_outcome (broadcast_waits call s.0) (seen_broadcast.see e) s) (broadcast_seen.answer_seen e call proper)
-    ∙ broadcast_called-seen e (broadcast.step e call) (broadcast_waits call (broadcast.step e call).0)
+proper-called : {C R : Type 0} (P : C → Type 0) (c : C) (s : R × C) (waits : Bool) → P c → P s.1 → P (called waits c s).1
+proper-called P c s true before after = before
+proper-called P c s false before after = after
 
-moved-seen : (n : ℕ) (s : Ended (broadcast.Endless Bytes)) → broadcast.IsProper s.1 → moved pictures n (see_broadcast s) ≡ see_broadcast (moved endless n s)
-moved-seen n (Ok (Outcomes.NewRx r), e) proper = ap (λ s. (Ok (Outcomes.NewRx r), s.1)) (broadcast_seen.answer_seen e (BCalls.DropRx (rx n)) proper)
-moved-seen n (Ok (Outcomes.NewTx t), e) proper = refl
-moved-seen n (Ok (Outcomes.Broadcast reply), e) proper = refl
-moved-seen n (Ok (Outcomes.Watch reply), e) proper = refl
-moved-seen n (Err why, e) proper = refl
+module _ (e : broadcast.Endless Bytes) (proper : broadcast.IsProper e) where
+  broadcast_replies-seen : (call : Option (BCall Bytes)) →
+      broadcast_replies pictures (seen_broadcast.see e) call ≡ see_broadcast (broadcast_replies endless e call)
+  broadcast_replies-seen None = refl
+  broadcast_replies-seen (Some call) =
+      ap (λ s. called (broadcast_waits call s.0) (seen_broadcast.see e) s) (broadcast_seen.answer_seen e call proper)
+      ∙ called-seen seen_broadcast.see e (broadcast.step e call) (broadcast_waits call (broadcast.step e call).0)
 
-proper-called : {C R : Type 0} (P : C → Type 0) (outcome : R → Outcome TxId RxId) (c : C) (s : R × C) (waits : Bool) → P c → P s.1 → P (called outcome waits c s).1
-proper-called P outcome c s true before after = before
-proper-called P outcome c s false before after = after
+  proper-broadcast_replies : (call : Option (BCall Bytes)) → broadcast.IsProper (broadcast_replies endless e call).1
+  proper-broadcast_replies None = proper
+  proper-broadcast_replies (Some call) =
+      proper-called broadcast.IsProper e (broadcast.step e call) (broadcast_waits call (broadcast.step e call).0) proper
+      (broadcast_proper.step_proper e call proper)
 
-proper-broadcast_told : (e : broadcast.Endless Bytes) → broadcast.IsProper e → (call : Option (BCall Bytes)) → broadcast.IsProper (broadcast_told endless e call).1
-proper-broadcast_told e proper None = proper
-proper-broadcast_told e proper (Some call) = proper-called broadcast.IsProper broadcast_outcome e (broadcast.step e call) (broadcast_waits call (broadcast.step e call).0) proper (broadcast_proper.step_proper e call proper)
+moved-seen : (r : RxId) (s : Replies (BReply Bytes) (broadcast.Endless Bytes)) → broadcast.IsProper s.1 →
+    moved pictures r (see_broadcast s) ≡ see_broadcast (moved endless r s)
+moved-seen r (Ok (BReplies.NewRx new), e) proper =
+    ap (λ s. (Ok (BReplies.NewRx new), s.1)) (broadcast_seen.answer_seen e (BCalls.DropRx r) proper)
+moved-seen r (Ok (BReplies.NewTx t), e) proper = refl
+moved-seen r (Ok (BReplies.Sent n), e) proper = refl
+moved-seen r (Ok (BReplies.NoReceivers v), e) proper = refl
+moved-seen r (Ok (BReplies.Exhausted v), e) proper = refl
+moved-seen r (Ok (BReplies.Value v), e) proper = refl
+moved-seen r (Ok BReplies.Empty, e) proper = refl
+moved-seen r (Ok BReplies.Closed, e) proper = refl
+moved-seen r (Ok (BReplies.Lagged n), e) proper = refl
+moved-seen r (Ok (BReplies.Count n), e) proper = refl
+moved-seen r (Ok BReplies.Done, e) proper = refl
+moved-seen r (Ok BReplies.TooMany, e) proper = refl
+moved-seen r (Ok (BReplies.NoHandle v), e) proper = refl
+moved-seen r (Err why, e) proper = refl
 
-proper-moved : (n : ℕ) (s : Ended (broadcast.Endless Bytes)) → broadcast.IsProper s.1 → broadcast.IsProper (moved endless n s).1
-proper-moved n (Ok (Outcomes.NewRx r), e) proper = broadcast_proper.step_proper e (BCalls.DropRx (rx n)) proper
-proper-moved n (Ok (Outcomes.NewTx t), e) proper = proper
-proper-moved n (Ok (Outcomes.Broadcast reply), e) proper = proper
-proper-moved n (Ok (Outcomes.Watch reply), e) proper = proper
-proper-moved n (Err why, e) proper = proper
+proper-moved : (r : RxId) (s : Replies (BReply Bytes) (broadcast.Endless Bytes)) → broadcast.IsProper s.1 →
+    broadcast.IsProper (moved endless r s).1
+proper-moved r (Ok (BReplies.NewRx new), e) proper = broadcast_proper.step_proper e (BCalls.DropRx r) proper
+proper-moved r (Ok (BReplies.NewTx t), e) proper = proper
+proper-moved r (Ok (BReplies.Sent n), e) proper = proper
+proper-moved r (Ok (BReplies.NoReceivers v), e) proper = proper
+proper-moved r (Ok (BReplies.Exhausted v), e) proper = proper
+proper-moved r (Ok (BReplies.Value v), e) proper = proper
+proper-moved r (Ok BReplies.Empty, e) proper = proper
+proper-moved r (Ok BReplies.Closed, e) proper = proper
+proper-moved r (Ok (BReplies.Lagged n), e) proper = proper
+proper-moved r (Ok (BReplies.Count n), e) proper = proper
+proper-moved r (Ok BReplies.Done, e) proper = proper
+proper-moved r (Ok BReplies.TooMany, e) proper = proper
+proper-moved r (Ok (BReplies.NoHandle v), e) proper = proper
+proper-moved r (Err why, e) proper = proper
 
-broadcast-seen : (e : broadcast.Endless Bytes) → broadcast.IsProper e → (n : ℕ) (verb : Verb) → broadcast_event pictures (seen_broadcast.see e) n verb ≡ see_broadcast (broadcast_event endless e n verb)
-broadcast-seen e proper n Resubscribe =
-    ap (moved pictures n) (broadcast_told-seen e proper (broadcast_call Resubscribe n))
-    ∙ moved-seen n (broadcast_told endless e (broadcast_call Resubscribe n)) (proper-broadcast_told e proper (broadcast_call Resubscribe n))
-broadcast-seen e proper n CloneTx = broadcast_told-seen e proper (broadcast_call CloneTx n)
-broadcast-seen e proper n DropTx = broadcast_told-seen e proper (broadcast_call DropTx n)
-broadcast-seen e proper n Subscribe = broadcast_told-seen e proper (broadcast_call Subscribe n)
-broadcast-seen e proper n DropRx = broadcast_told-seen e proper (broadcast_call DropRx n)
-broadcast-seen e proper n (Send v) = broadcast_told-seen e proper (broadcast_call (Send v) n)
-broadcast-seen e proper n TryRecv = broadcast_told-seen e proper (broadcast_call TryRecv n)
-broadcast-seen e proper n Recv = broadcast_told-seen e proper (broadcast_call Recv n)
-broadcast-seen e proper n Left = broadcast_told-seen e proper (broadcast_call Left n)
-broadcast-seen e proper n Queued = broadcast_told-seen e proper (broadcast_call Queued n)
-broadcast-seen e proper n Readers = broadcast_told-seen e proper (broadcast_call Readers n)
-broadcast-seen e proper n (Replace v) = broadcast_told-seen e proper (broadcast_call (Replace v) n)
-broadcast-seen e proper n (EditBy v) = broadcast_told-seen e proper (broadcast_call (EditBy v) n)
-broadcast-seen e proper n Borrow = broadcast_told-seen e proper (broadcast_call Borrow n)
-broadcast-seen e proper n Take = broadcast_told-seen e proper (broadcast_call Take n)
-broadcast-seen e proper n HasChanged = broadcast_told-seen e proper (broadcast_call HasChanged n)
-broadcast-seen e proper n TryChanged = broadcast_told-seen e proper (broadcast_call TryChanged n)
-broadcast-seen e proper n Changed = broadcast_told-seen e proper (broadcast_call Changed n)
-broadcast-seen e proper n MarkChanged = broadcast_told-seen e proper (broadcast_call MarkChanged n)
-broadcast-seen e proper n MarkUnchanged = broadcast_told-seen e proper (broadcast_call MarkUnchanged n)
+module _ (e : broadcast.Endless Bytes) (proper : broadcast.IsProper e) where
+  broadcast-seen : (event : Event) → broadcast_event pictures (seen_broadcast.see e) event ≡ see_broadcast (broadcast_event endless e event)
+  broadcast-seen (Resubscribes r) =
+      ap (moved pictures r) (broadcast_replies-seen e proper (broadcast_call (Resubscribes r)))
+      ∙ moved-seen r (broadcast_replies endless e (broadcast_call (Resubscribes r)))
+      (proper-broadcast_replies e proper (broadcast_call (Resubscribes r)))
+  broadcast-seen Binds = broadcast_replies-seen e proper (broadcast_call Binds)
+  broadcast-seen (Subscribes start by) = broadcast_replies-seen e proper (broadcast_call (Subscribes start by))
+  broadcast-seen (Sends t verb) = broadcast_replies-seen e proper (broadcast_call (Sends t verb))
+  broadcast-seen (Asks by question) = broadcast_replies-seen e proper (broadcast_call (Asks by question))
+  broadcast-seen (Receives r verb) = broadcast_replies-seen e proper (broadcast_call (Receives r verb))
+  broadcast-seen (DropsTx by) = broadcast_replies-seen e proper (broadcast_call (DropsTx by))
+  broadcast-seen (DropsRx r) = broadcast_replies-seen e proper (broadcast_call (DropsRx r))
 
-proper-broadcast : (e : broadcast.Endless Bytes) → broadcast.IsProper e → (n : ℕ) (verb : Verb) → broadcast.IsProper (broadcast_event endless e n verb).1
-proper-broadcast e proper n Resubscribe = proper-moved n (broadcast_told endless e (broadcast_call Resubscribe n)) (proper-broadcast_told e proper (broadcast_call Resubscribe n))
-proper-broadcast e proper n CloneTx = proper-broadcast_told e proper (broadcast_call CloneTx n)
-proper-broadcast e proper n DropTx = proper-broadcast_told e proper (broadcast_call DropTx n)
-proper-broadcast e proper n Subscribe = proper-broadcast_told e proper (broadcast_call Subscribe n)
-proper-broadcast e proper n DropRx = proper-broadcast_told e proper (broadcast_call DropRx n)
-proper-broadcast e proper n (Send v) = proper-broadcast_told e proper (broadcast_call (Send v) n)
-proper-broadcast e proper n TryRecv = proper-broadcast_told e proper (broadcast_call TryRecv n)
-proper-broadcast e proper n Recv = proper-broadcast_told e proper (broadcast_call Recv n)
-proper-broadcast e proper n Left = proper-broadcast_told e proper (broadcast_call Left n)
-proper-broadcast e proper n Queued = proper-broadcast_told e proper (broadcast_call Queued n)
-proper-broadcast e proper n Readers = proper-broadcast_told e proper (broadcast_call Readers n)
-proper-broadcast e proper n (Replace v) = proper-broadcast_told e proper (broadcast_call (Replace v) n)
-proper-broadcast e proper n (EditBy v) = proper-broadcast_told e proper (broadcast_call (EditBy v) n)
-proper-broadcast e proper n Borrow = proper-broadcast_told e proper (broadcast_call Borrow n)
-proper-broadcast e proper n Take = proper-broadcast_told e proper (broadcast_call Take n)
-proper-broadcast e proper n HasChanged = proper-broadcast_told e proper (broadcast_call HasChanged n)
-proper-broadcast e proper n TryChanged = proper-broadcast_told e proper (broadcast_call TryChanged n)
-proper-broadcast e proper n Changed = proper-broadcast_told e proper (broadcast_call Changed n)
-proper-broadcast e proper n MarkChanged = proper-broadcast_told e proper (broadcast_call MarkChanged n)
-proper-broadcast e proper n MarkUnchanged = proper-broadcast_told e proper (broadcast_call MarkUnchanged n)
+  proper-broadcast : (event : Event) → broadcast.IsProper (broadcast_event endless e event).1
+  proper-broadcast (Resubscribes r) =
+      proper-moved r (broadcast_replies endless e (broadcast_call (Resubscribes r)))
+      (proper-broadcast_replies e proper (broadcast_call (Resubscribes r)))
+  proper-broadcast Binds = proper-broadcast_replies e proper (broadcast_call Binds)
+  proper-broadcast (Subscribes start by) = proper-broadcast_replies e proper (broadcast_call (Subscribes start by))
+  proper-broadcast (Sends t verb) = proper-broadcast_replies e proper (broadcast_call (Sends t verb))
+  proper-broadcast (Asks by question) = proper-broadcast_replies e proper (broadcast_call (Asks by question))
+  proper-broadcast (Receives r verb) = proper-broadcast_replies e proper (broadcast_call (Receives r verb))
+  proper-broadcast (DropsTx by) = proper-broadcast_replies e proper (broadcast_call (DropsTx by))
+  proper-broadcast (DropsRx r) = proper-broadcast_replies e proper (broadcast_call (DropsRx r))
 
-watch_called-seen : (e : watch.Endless Bytes) (s : WReply Bytes × watch.Endless Bytes) (waits : Bool) → called watch_outcome waits (seen_watch.see e) (s.0, seen_watch.see s.1) ≡ see_watch (called watch_outcome waits e s)
-watch_called-seen e s true = refl
-watch_called-seen e s false = refl
+module _ (e : watch.Endless Bytes) (proper : watch.IsProper e) where
+  watch-seen : (call : Option (WCall Bytes)) → watch_replies pictures (seen_watch.see e) call ≡ see_watch (watch_replies endless e call)
+  watch-seen None = refl
+  watch-seen (Some call) =
+      ap (λ s. called (watch_waits call s.0) (seen_watch.see e) s) (watch_seen.answer_seen (pointwise nat_eq) e call proper)
+      ∙ called-seen seen_watch.see e (endless.watch e call) (watch_waits call (endless.watch e call).0)
 
-watch-seen : (e : watch.Endless Bytes) → watch.IsProper e → (call : Option (WCall Bytes)) → watch_told pictures (seen_watch.see e) call ≡ see_watch (watch_told endless e call)
-watch-seen e proper None = refl
-watch-seen e proper (Some call) =
-    ap (λ s. called watch_outcome (watch_waits call s.0) (seen_watch.see e) s) (watch_seen.answer_seen (pointwise nat_eq) e call proper)
-    ∙ watch_called-seen e (endless.watch e call) (watch_waits call (endless.watch e call).0)
+  proper-watch : (call : Option (WCall Bytes)) → watch.IsProper (watch_replies endless e call).1
+  proper-watch None = proper
+  proper-watch (Some call) =
+      proper-called watch.IsProper e (endless.watch e call) (watch_waits call (endless.watch e call).0) proper
+      (watch_proper.step_proper e proper (pointwise nat_eq) call)
 
-proper-watch : (e : watch.Endless Bytes) → watch.IsProper e → (call : Option (WCall Bytes)) → watch.IsProper (watch_told endless e call).1
-proper-watch e proper None = proper
-proper-watch e proper (Some call) = proper-called watch.IsProper watch_outcome e (endless.watch e call) (watch_waits call (endless.watch e call).0) proper (watch_proper.step_proper e proper (pointwise nat_eq) call)
+-- what is said of an event, by what was replied
+abbrev broadcast_said : {C : Type 0} → Event → Replies (BReply Bytes) C → Told
+broadcast_said event s = by_asker event (came (broadcast_outcome event) s.0)
 
-channel-seen : (c : EndlessChannel) → IsProperChannel c → (n : ℕ) (verb : Verb) → channel_told pictures (see_channel c) n verb ≡ see_told (channel_told endless c n verb)
-channel-seen (Broadcast e) proper n verb = ap (λ s. (s.0, Broadcast s.1)) (broadcast-seen e proper n verb)
-channel-seen (Watch e) proper n verb = ap (λ s. (s.0, Watch s.1)) (watch-seen e proper (watch_call verb n))
+abbrev watch_said : {C : Type 0} → Event → Replies (WReply Bytes) C → Told
+watch_said event s = by_asker event (came (watch_outcome event) s.0)
+
+channel-seen : (c : EndlessChannel) → IsProperChannel c → (event : Event) → channel_event pictures (see_channel c) event ≡ see_told (channel_event endless c event)
+channel-seen (Broadcast e) proper event = ap (λ s. (broadcast_said event s, Broadcast s.1)) (broadcast-seen e proper event)
+channel-seen (Watch e) proper event = ap (λ s. (watch_said event s, Watch s.1)) (watch-seen e proper (watch_call event))
 
 set-seen : (ts : EndlessTopics) (n : ℕ) (c : EndlessChannel) → set_value_at (see_topics ts) n (see_channel c) ≡ see_topics (set_value_at ts n c)
 set-seen [] n c = refl
@@ -260,23 +271,31 @@ proper-at [] h n c e = absurd (none-some c e)
 proper-at (t ∷ ts) h zero c e = subst IsProperChannel (same_Some t.1 c e) h.0
 proper-at (t ∷ ts) h (suc n) c e = proper-at ts h.1 n c e
 
-on_channel-seen : (ts : EndlessTopics) (n handle : ℕ) (verb : Verb) (o : Option EndlessChannel) → ((c : EndlessChannel) → o ≡ Some c → IsProperChannel c) →
-    on_channel (see_topics ts) n (λ c. channel_told pictures c handle verb) (option_map see_channel o) ≡ ((on_channel ts n (λ c. channel_told endless c handle verb) o).0, see_topics (on_channel ts n (λ c. channel_told endless c handle verb) o).1)
-on_channel-seen ts n handle verb None proper = refl
-on_channel-seen ts n handle verb (Some c) proper =
-    ap (written (see_topics ts) n) (channel-seen c (proper c refl) handle verb)
-    ∙ ap (λ rest. ((channel_told endless c handle verb).0, rest)) (set-seen ts n (channel_told endless c handle verb).1)
+module _ (event : Event) where
+  -- what happens to a topic's channel
+  abbrev step_seen : SeenChannel → Told × SeenChannel
+  step_seen c = channel_event pictures c event
 
-event-seen : (ts : EndlessTopics) → AreProper ts → (n : ℕ) (by : By) (verb : Verb) → say pictures (see_topics ts) (Event n by verb) ≡ ((say endless ts (Event n by verb)).0, see_topics (say endless ts (Event n by verb)).1)
-event-seen ts proper n by verb =
-    ap (λ o. by_handle pictures by (on_channel (see_topics ts) n (λ c. channel_told pictures c (number_of by) verb) o)) (ap (λ vs. slice_get vs n) (values-seen ts) ∙ slice_get-map see_channel (values_of ts) n)
-    ∙ ap (by_handle pictures by) (on_channel-seen ts n (number_of by) verb (slice_get (values_of ts) n) (proper-at ts proper n))
+  abbrev step : EndlessChannel → Told × EndlessChannel
+  step c = channel_event endless c event
+
+  on_channel-seen : (ts : EndlessTopics) (n : ℕ) (o : Option EndlessChannel) → ((c : EndlessChannel) → o ≡ Some c → IsProperChannel c) →
+      on_channel (see_topics ts) n step_seen (option_map see_channel o) ≡ ((on_channel ts n step o).0, see_topics (on_channel ts n step o).1)
+  on_channel-seen ts n None proper = refl
+  on_channel-seen ts n (Some c) proper =
+      ap (written (see_topics ts) n) (channel-seen c (proper c refl) event)
+      ∙ ap (λ rest. ((step c).0, rest)) (set-seen ts n (step c).1)
+
+  event-seen : (ts : EndlessTopics) → AreProper ts → (n : ℕ) → say pictures (see_topics ts) (On n event) ≡ ((say endless ts (On n event)).0, see_topics (say endless ts (On n event)).1)
+  event-seen ts proper n =
+      ap (λ o. on_channel (see_topics ts) n step_seen o) (ap (λ vs. slice_get vs n) (values-seen ts) ∙ slice_get-map see_channel (values_of ts) n)
+      ∙ on_channel-seen ts n (slice_get (values_of ts) n) (proper-at ts proper n)
 
 pub says_what_is_seen : SaysWhatIsSeen
 says_what_is_seen ts (Find name) proper = ap (λ f. (f, see_topics ts)) (find-seen ts name)
 says_what_is_seen ts List proper = ap (λ rows. (Ok rows, see_topics ts)) (list-seen ts)
 says_what_is_seen ts (Open name making) proper = open-seen ts name making
-says_what_is_seen ts (Event n by verb) proper = event-seen ts proper n by verb
+says_what_is_seen ts (On n event) proper = event-seen event ts proper n
 
 -- proper states
 
@@ -309,12 +328,16 @@ proper-made_of : (base : ℕ) (o : Option ℕ) → base < 2 ^ 64 → ((c : ℕ) 
 proper-made_of base None fits h = tt
 proper-made_of base (Some c) fits h = broadcast_proper.opened_proper c base (h c refl) fits
 
-proper-made : (making : Making) → IsProperMade (made endless making)
-proper-made (Makings.Broadcast asked base) = by (nat_lt base (2 ^ 64)) refl
+proper-broadcast-made : (asked base : ℕ) → IsProperMade (made_broadcast endless asked base)
+proper-broadcast-made asked base = by (nat_lt base (2 ^ 64)) refl
   where
     by : (b : Bool) → nat_lt base (2 ^ 64) ≡ b → IsProperMade (cond b (option_map (λ c. (c, Broadcast (endless.broadcast_opened c base))) (capacity_of asked)) None)
     by true e = proper-made_of base (capacity_of asked) (ltb-true base (2 ^ 64) e) (is_capacity asked)
     by false e = tt
+
+proper-made : (making : Making) → IsProperMade (made endless making)
+proper-made (Makings.Broadcast asked) = proper-broadcast-made asked 0
+proper-made (Makings.BroadcastAt asked base) = proper-broadcast-made asked base
 proper-made (Makings.Watch value) = watch_proper.opened_proper value 1 (omega arith) (omega arith)
 
 proper-append : (ts : EndlessTopics) (name : Bytes) (c : EndlessChannel) → AreProper ts → IsProperChannel c → AreProper (ts ++ (name, c) ∷ [])
@@ -337,21 +360,22 @@ proper-open ts name making h = elim (is_some (find ts name)) as (λ b. AreProper
   | false ↦ proper-added ts name (made endless making) h (proper-made making)
 ]
 
-proper-channel : (c : EndlessChannel) → IsProperChannel c → (n : ℕ) (verb : Verb) → IsProperChannel (channel_told endless c n verb).1
-proper-channel (Broadcast e) h n verb = proper-broadcast e h n verb
-proper-channel (Watch e) h n verb = proper-watch e h (watch_call verb n)
+proper-channel : (c : EndlessChannel) → IsProperChannel c → (event : Event) → IsProperChannel (channel_event endless c event).1
+proper-channel (Broadcast e) h event = proper-broadcast e h event
+proper-channel (Watch e) h event = proper-watch e h (watch_call event)
 
 proper-set : (ts : EndlessTopics) (n : ℕ) (c : EndlessChannel) → AreProper ts → IsProperChannel c → AreProper (set_value_at ts n c)
 proper-set [] n c h p = tt
 proper-set (t ∷ ts) zero c h p = (p, h.1)
 proper-set (t ∷ ts) (suc n) c h p = (h.0, proper-set ts n c h.1 p)
 
-proper-on : (ts : EndlessTopics) (n handle : ℕ) (verb : Verb) (o : Option EndlessChannel) → AreProper ts → ((c : EndlessChannel) → o ≡ Some c → IsProperChannel c) → AreProper (on_channel ts n (λ c. channel_told endless c handle verb) o).1
-proper-on ts n handle verb None h p = h
-proper-on ts n handle verb (Some c) h p = proper-set ts n _ h (proper-channel c (p c refl) handle verb)
+proper-on : (event : Event) (ts : EndlessTopics) (n : ℕ) (o : Option EndlessChannel) → AreProper ts → ((c : EndlessChannel) → o ≡ Some c → IsProperChannel c) →
+    AreProper (on_channel ts n (step event) o).1
+proper-on event ts n None h p = h
+proper-on event ts n (Some c) h p = proper-set ts n _ h (proper-channel c (p c refl) event)
 
 pub stays_proper : StaysProper
 stays_proper ts (Find name) proper = proper
 stays_proper ts List proper = proper
 stays_proper ts (Open name making) proper = proper-open ts name making proper
-stays_proper ts (Event n by verb) proper = proper-on ts n (number_of by) verb (slice_get (values_of ts) n) proper (proper-at ts proper n)
+stays_proper ts (On n event) proper = proper-on event ts n (slice_get (values_of ts) n) proper (proper-at ts proper n)

@@ -5,27 +5,28 @@ use Rattle.std.specs.Option.{option_map}
 use Rattle.std.specs.Map.{keys_of, values_of}
 use Rattle.std.specs.Cmp.Lexicographic.{pointwise}
 use Rattle.indexmap.specs.IndexMap.{set_value_at}
+use Rattle.th_model.specs.declared.handles.RxId.{RxId}
 use Rattle.th_model.specs.declared.broadcast.BCall.{BCall}
 use Rattle.th_model.specs.declared.broadcast.BCall.TheVariants as BCalls
 use Rattle.th_model.specs.declared.broadcast.BReply.{BReply}
+use Rattle.th_model.specs.declared.broadcast.BReply.TheVariants.{NewRx}
 use Rattle.th_model.specs.declared.watch.WCall.{WCall}
 use Rattle.th_model.specs.declared.watch.WReply.{WReply}
 use Rattle.th_model.specs.declared.listing.Listed.{Listed}
+use Rattle.th_model.specs.declared.making.Making.{Making}
+use Rattle.th_model.specs.declared.making.Making.TheVariants as Makings
 use Rattle.th_model.specs.declared.short.Short.{Short}
 use Rattle.th_model.specs.Limits.{capacity_of}
 use Rattle.th_registry.specs.declared.channel.Channel.{Channel}
 use Rattle.th_registry.specs.declared.channel.Channel.TheVariants.{Broadcast, Watch}
-use Rattle.th_registry.specs.declared.opening.Making.{Making}
-use Rattle.th_registry.specs.declared.opening.Making.TheVariants as Makings
 use Rattle.th_registry.specs.declared.opening.Refusal.{Refusal}
 use Rattle.th_registry.specs.declared.opening.Refusal.TheVariants as Refusals
 use Rattle.th_registry.specs.declared.opening.Found.{Found}
-use Rattle.th_registry.specs.declared.verb.Verb.{Verb}
-use Rattle.th_registry.specs.declared.verb.Verb.TheVariants.{Resubscribe}
-use Rattle.th_registry.specs.declared.verb.NoEvent.TheVariants as NoEvents
-use Rattle.th_registry.specs.declared.verb.Outcome.TheVariants.{NewRx}
+use Rattle.th_registry.specs.declared.outcome.NoEvent.{NoEvent}
+use Rattle.th_registry.specs.declared.outcome.NoEvent.TheVariants as NoEvents
 use Rattle.th_registry.specs.Kinds.{kind_of}
-use Rattle.th_registry.specs.Calls.{Bytes, Told, rx, broadcast_call, broadcast_outcome, broadcast_waits, watch_call, watch_outcome, watch_waits, through_hub, TakesMemory}
+use Rattle.th_registry.specs.Calls.{Bytes}
+use Rattle.th_registry.specs.Events.{Event, Resubscribes, Outcome, Told, broadcast_call, broadcast_outcome, broadcast_waits, watch_call, watch_outcome, watch_waits, by_asker, TakesMemory}
 
 -- the most topics of a hub
 abbrev pub most_topics : ℕ
@@ -38,41 +39,33 @@ pub record Machines (B W : Type 0) : Type 0 where
   pub watch : W → WCall Bytes → WReply Bytes × W
   pub watch_opened : Bytes → W
 
--- by which handle: the hub's own sender, which is sender 1 of each topic, or the asker's of this number
-pub data By : Type 0 where
-  Hub : By
-  Own : ℕ → By
-
 -- what is asked of a hub
 pub data Query : Type 0 where
   Find : Bytes → Query
   List : Query
   Open : Bytes → Making → Query
-  Event : ℕ → By → Verb → Query
+  On : ℕ → Event → Query
 
 -- what is said to it: the topic of the name; the topics; the number that is told of a new topic; what came of the event
 abbrev pub Said : Query → Type 0
 Said (Find name) = Option Found
 Said List = Result (prelude.List Listed) (Short Unit)
 Said (Open name making) = Result ℕ Refusal
-Said (Event topic by verb) = Told
+Said (On topic event) = Told
+
+-- what came of an event, by the reply to its call
+abbrev pub came : {R : Type 0} → (R → Outcome) → Result R NoEvent → Told
+came outcome (Ok reply) = Ok (outcome reply)
+came outcome (Err why) = Err why
 
 -- topics in order of opening, each with its name
 abbrev pub Topics : Type 0 → Type 0 → Type 0
 Topics B W = prelude.List (Bytes × Channel B W)
 
-abbrev pub number_of : By → ℕ
-number_of Hub = 1
-number_of (Own n) = n
-
-abbrev pub by_told : By → Told → Told
-by_told Hub told = through_hub told
-by_told (Own n) told = told
-
 module _ {B W : Type 0} where
   abbrev pub found_in : ℕ → Option (Bytes × Channel B W) → Option Found
   found_in n None = None
-  found_in n (Some topic) = Some (record { number = n; kind = kind_of topic.1 })
+  found_in n (Some topic) = Some (record { topic = record { 0 = n }; kind = kind_of topic.1 })
 
   abbrev pub found_at : Topics B W → Option ℕ → Option Found
   found_at ts None = None
@@ -104,76 +97,86 @@ module _ {B W : Type 0} where
   -- a new topic at the end, if there is room for one
   abbrev pub added : Topics B W → Bytes → Option (ℕ × Channel B W) → Result ℕ Refusal × Topics B W
   added ts name None = (Err Refusals.BadCapacity, ts)
-  added ts name (Some made) = if nat_le most_topics (length ts) then (Err Refusals.TooManyTopics, ts) else (Ok made.0, ts ++ (name, made.1) ∷ [])
+  added ts name (Some made) =
+      if nat_le most_topics (length ts) then (Err Refusals.TooManyTopics, ts)
+      else (Ok made.0, ts ++ (name, made.1) ∷ [])
 
 module _ {B W : Type 0} (m : Machines B W) where
+  -- a broadcast channel and its capacity in force. None for a capacity out of range, nor for a base past the last
+  -- position, which no number of a line is.
+  abbrev pub made_broadcast : ℕ → ℕ → Option (ℕ × Channel B W)
+  made_broadcast asked base =
+      if nat_lt base (2 ^ 64)
+      then option_map (λ c. (c, Broadcast (m.broadcast_opened c base))) (capacity_of asked)
+      else None
+
   -- the channel of a making, and the number that is told: of a broadcast channel its capacity in force, of a watch
-  -- channel 1. None for a capacity out of range, nor for a base past the last position, which no number of a line is.
+  -- channel 1
   abbrev pub made : Making → Option (ℕ × Channel B W)
-  made (Makings.Broadcast asked base) = if nat_lt base (2 ^ 64) then option_map (λ c. (c, Broadcast (m.broadcast_opened c base))) (capacity_of asked) else None
+  made (Makings.Broadcast asked) = made_broadcast asked 0
+  made (Makings.BroadcastAt asked base) = made_broadcast asked base
   made (Makings.Watch value) = Some (1, Watch (m.watch_opened value))
 
   -- a topic is opened, or the first refusal that holds: the name is there, the capacity is out of range, there are
   -- as many topics as there may be
   abbrev pub open_topic : Topics B W → Bytes → Making → Result ℕ Refusal × Topics B W
-  open_topic ts name making = if is_some (find ts name) then (Err Refusals.Exists, ts) else added ts name (made making)
+  open_topic ts name making =
+      if is_some (find ts name) then (Err Refusals.Exists, ts) else added ts name (made making)
 
   -- one call of a broadcast channel, if it has the call; one that would wait is no event
-  abbrev pub broadcast_told : B → Option (BCall Bytes) → Told × B
-  broadcast_told c None = (Err NoEvents.WrongKind, c)
-  broadcast_told c (Some call) =
+  abbrev pub broadcast_replies : B → Option (BCall Bytes) → Result (BReply Bytes) NoEvent × B
+  broadcast_replies c None = (Err NoEvents.WrongKind, c)
+  broadcast_replies c (Some call) =
       if broadcast_waits call (m.broadcast c call).0 then (Err NoEvents.Blocked, c)
-      else (Ok (broadcast_outcome (m.broadcast c call).0), (m.broadcast c call).1)
+      else (Ok (m.broadcast c call).0, (m.broadcast c call).1)
 
   -- once there is a new receiver, the old one is spent
-  abbrev pub moved : ℕ → Told × B → Told × B
-  moved n (Ok (NewRx r), c) = (Ok (NewRx r), (m.broadcast c (BCalls.DropRx (rx n))).1)
-  moved n (told, c) = (told, c)
+  abbrev pub moved : RxId → Result (BReply Bytes) NoEvent × B → Result (BReply Bytes) NoEvent × B
+  moved r (Ok (NewRx new), c) = (Ok (NewRx new), (m.broadcast c (BCalls.DropRx r)).1)
+  moved r (said, c) = (said, c)
 
-  -- what a broadcast channel says of a verb by its handle n
-  abbrev pub broadcast_event : B → ℕ → Verb → Told × B
-  broadcast_event c n Resubscribe = moved n (broadcast_told c (broadcast_call Resubscribe n))
-  broadcast_event c n verb = broadcast_told c (broadcast_call verb n)
+  -- what a broadcast channel replies to an event
+  abbrev pub broadcast_event : B → Event → Result (BReply Bytes) NoEvent × B
+  broadcast_event c (Resubscribes r) = moved r (broadcast_replies c (broadcast_call (Resubscribes r)))
+  broadcast_event c event = broadcast_replies c (broadcast_call event)
 
   -- the same of a watch channel
-  abbrev pub watch_told : W → Option (WCall Bytes) → Told × W
-  watch_told c None = (Err NoEvents.WrongKind, c)
-  watch_told c (Some call) =
+  abbrev pub watch_replies : W → Option (WCall Bytes) → Result (WReply Bytes) NoEvent × W
+  watch_replies c None = (Err NoEvents.WrongKind, c)
+  watch_replies c (Some call) =
       if watch_waits call (m.watch c call).0 then (Err NoEvents.Blocked, c)
-      else (Ok (watch_outcome (m.watch c call).0), (m.watch c call).1)
+      else (Ok (m.watch c call).0, (m.watch c call).1)
 
-  abbrev pub as_broadcast : Told × B → Told × Channel B W
-  as_broadcast s = (s.0, Broadcast s.1)
+  abbrev pub as_broadcast : Event → Result (BReply Bytes) NoEvent × B → Told × Channel B W
+  as_broadcast event s = (by_asker event (came (broadcast_outcome event) s.0), Broadcast s.1)
 
-  abbrev pub as_watch : Told × W → Told × Channel B W
-  as_watch s = (s.0, Watch s.1)
+  abbrev pub as_watch : Event → Result (WReply Bytes) NoEvent × W → Told × Channel B W
+  as_watch event s = (by_asker event (came (watch_outcome event) s.0), Watch s.1)
 
-  -- what a channel says of a verb by its handle n
-  abbrev pub channel_told : Channel B W → ℕ → Verb → Told × Channel B W
-  channel_told (Broadcast c) n verb = as_broadcast (broadcast_event c n verb)
-  channel_told (Watch c) n verb = as_watch (watch_told c (watch_call verb n))
-
-  abbrev pub by_handle : By → Told × Topics B W → Told × Topics B W
-  by_handle by s = (by_told by s.0, s.1)
+  -- what a channel says of an event
+  abbrev pub channel_event : Channel B W → Event → Told × Channel B W
+  channel_event (Broadcast c) event = as_broadcast event (broadcast_event c event)
+  channel_event (Watch c) event = as_watch event (watch_replies c (watch_call event))
 
   -- one event of the hub, or why there was none
-  abbrev pub event : Topics B W → ℕ → By → Verb → Told × Topics B W
-  event ts n by verb = by_handle by (at_topic ts n (λ c. channel_told c (number_of by) verb))
+  abbrev pub event : Topics B W → ℕ → Event → Told × Topics B W
+  event ts n e = at_topic ts n (λ c. channel_event c e)
 
   -- what the hub says to a query, and the topics after it
   abbrev pub say : Topics B W → (q : Query) → Said q × Topics B W
   say ts (Find name) = (find ts name, ts)
   say ts List = (Ok (list ts), ts)
   say ts (Open name making) = open_topic ts name making
-  say ts (Event n by verb) = event ts n by verb
+  say ts (On n e) = event ts n e
 
-  -- memory was refused and nothing has changed: to a list, to an opening that nothing else refuses, or to a verb that
+  -- memory was refused and nothing has changed: to a list, to an opening that nothing else refuses, or to an event that
   -- takes memory
   abbrev pub IsShort : Topics B W → (q : Query) → Said q → Topics B W → Type 0
   IsShort ts (Find name) said after = ⊥
   IsShort ts List said after = (said ≡ Err (record { call = tt })) × (after ≡ ts)
-  IsShort ts (Open name making) said after = (said ≡ Err Refusals.Short) × (after ≡ ts) × IsOk (open_topic ts name making).0
-  IsShort ts (Event n by verb) said after = (said ≡ Err NoEvents.Short) × (after ≡ ts) × TakesMemory verb
+  IsShort ts (Open name making) said after =
+      (said ≡ Err Refusals.Short) × (after ≡ ts) × IsOk (open_topic ts name making).0
+  IsShort ts (On n e) said after = (said ≡ Err NoEvents.Short) × (after ≡ ts) × TakesMemory e
 
   -- a desk that holds these topics says what the hub says, or that memory was refused
   abbrev pub Says : Topics B W → (q : Query) → Said q → Topics B W → Type 0

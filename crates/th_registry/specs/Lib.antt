@@ -1,7 +1,8 @@
 pub mod Kinds
 pub mod Calls
+pub mod Events
 pub mod Hub
-pub mod Handles
+pub mod Typed
 pub mod Endless
 pub mod Pictures
 pub mod Outcomes

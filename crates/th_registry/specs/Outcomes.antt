@@ -1,21 +1,57 @@
--- What one channel, and one event at a topic, may say: the picture's answer, or want of memory with nothing changed.
-use Rattle.std.specs.Prelude.{◌≡◌, ℕ, ◌⊎◌, Err}
+-- What one channel may say of a call and of an event: the picture's answer, or want of memory with nothing changed.
+use Rattle.std.specs.Prelude.{◌≡◌, ◌⊎◌, Option, Some, None, Result, Err}
+use Rattle.th_model.specs.declared.handles.RxId.{RxId}
 use Rattle.th_model.specs.BroadcastPicture as broadcast
 use Rattle.th_model.specs.WatchPicture as watch
-use Rattle.th_registry.specs.declared.verb.Verb.{Verb}
-use Rattle.th_registry.specs.declared.verb.NoEvent.TheVariants.{Short}
-use Rattle.th_registry.specs.Calls.{Bytes, Told, TakesMemory, watch_call}
-use Rattle.th_registry.specs.Hub.{at_topic, broadcast_event, watch_told, channel_told}
-use Rattle.th_registry.specs.Pictures.{SeenChannel, SeenTopics, pictures}
+use Rattle.th_model.specs.declared.broadcast.BCall.{BCall}
+use Rattle.th_model.specs.declared.broadcast.BReply.{BReply}
+use Rattle.th_model.specs.declared.watch.WCall.{WCall}
+use Rattle.th_model.specs.declared.watch.WReply.{WReply}
+use Rattle.th_registry.specs.declared.outcome.ChannelReply.TheVariants.{Broadcast, Watch}
+use Rattle.th_registry.specs.declared.outcome.NoEvent.{NoEvent}
+use Rattle.th_registry.specs.declared.outcome.NoEvent.TheVariants.{Short}
+use Rattle.th_registry.specs.Calls.{Bytes}
+use Rattle.th_registry.specs.Events.{Event, Replied, Resubscribes, Told, TakesMemory}
+use Rattle.th_registry.specs.Hub.{broadcast_event, broadcast_replies, came, channel_event, watch_replies}
+use Rattle.th_registry.specs.Pictures.{SeenChannel, pictures}
 
-abbrev pub ChannelTells : SeenChannel → ℕ → Verb → Told → SeenChannel → Type 0
-ChannelTells old n verb told new = (channel_told pictures old n verb ≡ (told, new)) ⊎ ((told ≡ Err Short) × (new ≡ old) × TakesMemory verb)
+-- this is said; or that there was no memory, where the call takes some, and nothing has changed
+abbrev pub SaysOrShort : {R C : Type 0} → Result R NoEvent × C → Type 0 → C → Result R NoEvent → C → Type 0
+SaysOrShort s takes old said new = (s ≡ (said, new)) ⊎ ((said ≡ Err Short) × (new ≡ old) × takes)
 
-abbrev pub TopicTells : SeenTopics → ℕ → ℕ → Verb → Told → SeenTopics → Type 0
-TopicTells old topic n verb told new = (at_topic old topic (λ c. channel_told pictures c n verb) ≡ (told, new)) ⊎ ((told ≡ Err Short) × (new ≡ old) × TakesMemory verb)
+-- a call that is there may take memory
+abbrev pub BroadcastTakes : Option (BCall Bytes) → Type 0
+BroadcastTakes None = ⊥
+BroadcastTakes (Some call) = broadcast.TakesNoMemory call → ⊥
 
-abbrev pub BroadcastTells : broadcast.Picture Bytes → ℕ → Verb → Told → broadcast.Picture Bytes → Type 0
-BroadcastTells old n verb told new = (broadcast_event pictures old n verb ≡ (told, new)) ⊎ ((told ≡ Err Short) × (new ≡ old) × TakesMemory verb)
+abbrev pub WatchTakes : Option (WCall Bytes) → Type 0
+WatchTakes None = ⊥
+WatchTakes (Some call) = watch.TakesNoMemory call → ⊥
 
-abbrev pub WatchTells : watch.Picture Bytes → ℕ → Verb → Told → watch.Picture Bytes → Type 0
-WatchTells old n verb told new = (watch_told pictures old (watch_call verb n) ≡ (told, new)) ⊎ ((told ≡ Err Short) × (new ≡ old) × TakesMemory verb)
+abbrev pub BroadcastSays : broadcast.Picture Bytes → Option (BCall Bytes) → Result (BReply Bytes) NoEvent → broadcast.Picture Bytes → Type 0
+BroadcastSays old call said new =
+    SaysOrShort (broadcast_replies pictures old call) (BroadcastTakes call) old said new
+
+abbrev pub WatchSays : watch.Picture Bytes → Option (WCall Bytes) → Result (WReply Bytes) NoEvent → watch.Picture Bytes → Type 0
+WatchSays old call said new =
+    SaysOrShort (watch_replies pictures old call) (WatchTakes call) old said new
+
+-- the same, as what comes of an event that makes no handle
+abbrev pub BroadcastTells : broadcast.Picture Bytes → Option (BCall Bytes) → Told → broadcast.Picture Bytes → Type 0
+BroadcastTells old call told new =
+    let s = broadcast_replies pictures old call in
+    SaysOrShort (came (λ reply. Replied (Broadcast reply)) s.0, s.1) (BroadcastTakes call) old told new
+
+abbrev pub WatchTells : watch.Picture Bytes → Option (WCall Bytes) → Told → watch.Picture Bytes → Type 0
+WatchTells old call told new =
+    let s = watch_replies pictures old call in
+    SaysOrShort (came (λ reply. Replied (Watch reply)) s.0, s.1) (WatchTakes call) old told new
+
+-- a new receiver, and then the end of the old one
+abbrev pub BroadcastMoves : broadcast.Picture Bytes → RxId → Result (BReply Bytes) NoEvent → broadcast.Picture Bytes → Type 0
+BroadcastMoves old r said new =
+    SaysOrShort (broadcast_event pictures old (Resubscribes r)) (Unit {0}) old said new
+
+-- what a channel may say of an event
+abbrev pub ChannelTells : SeenChannel → Event → Told → SeenChannel → Type 0
+ChannelTells old e told new = SaysOrShort (channel_event pictures old e) (TakesMemory e) old told new

@@ -1,16 +1,19 @@
 //! What a session asks of the hub.
 ghost use Rattle.std.specs.Prelude.{◌≡◌, IfErr};
+ghost use Rattle.std.specs.Option.{option_map};
 ghost use Rattle.th_model.specs.declared.handles.TxId.{TxId};
 ghost use Rattle.th_model.specs.declared.handles.RxId.{RxId};
-ghost use Rattle.th_registry.specs.Hub.{Query, Said, Find, List, Open, Event, Hub, Own};
-ghost use Rattle.th_registry.specs.Handles.{numbered, spent_numbered};
+ghost use Rattle.th_registry.specs.Events.{Asks, Binds, DropsRx, DropsTx, Hub, Own, Receives, Resubscribes, Sends, Subscribes, any_sender};
+ghost use Rattle.th_registry.specs.Hub.{Query, Said, Find, List, Open, On};
+ghost use Rattle.th_registry.specs.Typed.{made_rx, made_tx, replied, spent};
 
-use crate::opening::{Found, Making, Refusal};
-use crate::verb::{NoEvent, Outcome, Unspent, Verb};
-use th_model::{Listing, Name, Short};
+use crate::opening::{Found, Refusal, TopicId};
+use crate::outcome::{ChannelReply, Made, NoEvent, Unspent};
+use th_model::{Listing, Making, NameRef, Question, ReceiverVerb, SenderVerb, Short, Start};
 
 /// Topics by name. Each call but `find` and `list` is one event, on the topic of that number or of the registry, or
-/// none; `resubscribe` is both of its events, or none.
+/// none; `resubscribe` is both of its events, or none. By which side of handles an event is made is the call's name and
+/// the type of its verb.
 pub trait Desk: Drop {
     /// A sender of a topic.
     type Tx: Drop;
@@ -28,7 +31,7 @@ pub trait Desk: Drop {
     ghost says: { Self → (q : Query) → Said q → Self → Type 0 };
 
     /// The topic of this name.
-    fn find(&self, name: &Name) -> Option<Found>
+    fn find(&self, name: &NameRef<'_>) -> Option<Found>
         ensures { says self.now (Find name.now) result self.now };
 
     /// The topics in order of opening.
@@ -36,58 +39,89 @@ pub trait Desk: Drop {
         ensures { says self.now List result self.now };
 
     /// Opens a topic, and answers the number that is told of it.
-    fn open_topic(&mut self, name: Name, making: Making) -> Result<u64, Refusal>
-        ensures { says self.old (Open name making) result self.new };
+    fn open_topic(&mut self, name: NameRef<'_>, making: Making) -> Result<u64, Refusal>
+        ensures { says self.old (Open name.entry making) result self.new };
 
-    /// An event by the hub's own sender, sender 1 of the topic.
-    fn by_hub(&mut self, topic: u64, verb: Verb) -> Result<Outcome<Self::Tx, Self::Rx>, NoEvent>
-        ensures { says self.old (Event topic Hub verb) (numbered tx rx result) self.new };
+    /// A new sender, by the hub's own, which is sender 1 of the topic.
+    fn bind(&mut self, topic: TopicId) -> Result<Made<Self::Tx>, NoEvent>
+        ensures { says self.old (On topic.0 Binds) (made_tx tx result) self.new };
 
-    /// An event by a sender, which keeps its number.
+    /// A new receiver that begins so, by this sender, or by the hub's own where there is none. The sender keeps its
+    /// number.
+    fn subscribe(
+        &mut self,
+        topic: TopicId,
+        start: Start,
+        sender: &mut Option<Self::Tx>,
+    ) -> Result<Made<Self::Rx>, NoEvent>
+        ensures event { let by = any_sender (option_map tx sender.old) in
+            says self.old (On topic.0 (Subscribes start by)) (made_rx rx result) self.new }
+        ensures sender { option_map tx sender.new ≡ option_map tx sender.old };
+
+    /// What a sender does. It keeps its number.
     fn by_sender(
         &mut self,
-        topic: u64,
+        topic: TopicId,
         sender: &mut Self::Tx,
-        verb: Verb,
-    ) -> Result<Outcome<Self::Tx, Self::Rx>, NoEvent>
-        ensures event { says self.old (Event topic (Own (tx sender.old).0) verb) (numbered tx rx result) self.new }
+        verb: SenderVerb,
+    ) -> Result<ChannelReply, NoEvent>
+        ensures event { let event = Sends (tx sender.old) verb in
+            says self.old (On topic.0 event) (replied result) self.new }
         ensures sender { tx sender.new ≡ tx sender.old };
 
-    /// An event by a receiver, which keeps its number.
+    /// A question through this sender, or through the hub's own where there is none. The sender keeps its number.
+    fn ask(
+        &mut self,
+        topic: TopicId,
+        sender: &mut Option<Self::Tx>,
+        question: Question,
+    ) -> Result<ChannelReply, NoEvent>
+        ensures event { let by = any_sender (option_map tx sender.old) in
+            says self.old (On topic.0 (Asks by question)) (replied result) self.new }
+        ensures sender { option_map tx sender.new ≡ option_map tx sender.old };
+
+    /// What a receiver does. It keeps its number.
     fn by_receiver(
         &mut self,
-        topic: u64,
+        topic: TopicId,
         receiver: &mut Self::Rx,
-        verb: Verb,
-    ) -> Result<Outcome<Self::Tx, Self::Rx>, NoEvent>
-        ensures event { says self.old (Event topic (Own (rx receiver.old).0) verb) (numbered tx rx result) self.new }
+        verb: ReceiverVerb,
+    ) -> Result<ChannelReply, NoEvent>
+        ensures event { let event = Receives (rx receiver.old) verb in
+            says self.old (On topic.0 event) (replied result) self.new }
         ensures receiver { rx receiver.new ≡ rx receiver.old };
 
     /// A new receiver for this one, which is spent then: both events, or none. Where the new one is refused, that one
     /// event stands, and this receiver stays.
     fn resubscribe(
         &mut self,
-        topic: u64,
+        topic: TopicId,
         receiver: &mut Self::Rx,
-    ) -> Result<Outcome<Self::Tx, Self::Rx>, NoEvent>
-        ensures event { says self.old (Event topic (Own (rx receiver.old).0) Verb.Resubscribe) (numbered tx rx result) self.new }
+    ) -> Result<Made<Self::Rx>, NoEvent>
+        ensures event { let event = Resubscribes (rx receiver.old) in
+            says self.old (On topic.0 event) (made_rx rx result) self.new }
         ensures receiver { rx receiver.new ≡ rx receiver.old };
 
     /// The last event of a sender. Where there was none, it comes back.
     fn spend_sender(
         &mut self,
-        topic: u64,
+        topic: TopicId,
         sender: Self::Tx,
-    ) -> Result<Outcome<Self::Tx, Self::Rx>, Unspent<Self::Tx>>
-        ensures event { says self.old (Event topic (Own (tx sender).0) Verb.DropTx) (spent_numbered tx rx result) self.new }
+    ) -> Result<ChannelReply, Unspent<Self::Tx>>
+        ensures event { let event = DropsTx (Own (tx sender)) in
+            says self.old (On topic.0 event) (spent result) self.new }
         ensures back { IfErr result (λ unspent. tx unspent.handle ≡ tx sender) };
 
     /// The last event of a receiver. Where there was none, it comes back.
     fn spend_receiver(
         &mut self,
-        topic: u64,
+        topic: TopicId,
         receiver: Self::Rx,
-    ) -> Result<Outcome<Self::Tx, Self::Rx>, Unspent<Self::Rx>>
-        ensures event { says self.old (Event topic (Own (rx receiver).0) Verb.DropRx) (spent_numbered tx rx result) self.new }
+    ) -> Result<ChannelReply, Unspent<Self::Rx>>
+        ensures event { says self.old (On topic.0 (DropsRx (rx receiver))) (spent result) self.new }
         ensures back { IfErr result (λ unspent. rx unspent.handle ≡ rx receiver) };
+
+    /// The last event of the hub's own sender.
+    fn end(&mut self, topic: TopicId) -> Result<ChannelReply, NoEvent>
+        ensures { says self.old (On topic.0 (DropsTx Hub)) (replied result) self.new };
 }

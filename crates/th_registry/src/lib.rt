@@ -2,26 +2,27 @@
 //!
 //! ```text
 //! let mut desk = LocalDesk::new(alloc);
-//! desk.open_topic(Name::new(b"news")?, Making::Broadcast(10, 0))?;   // 16, the capacity in force
-//! desk.find(&Name::new(b"news")?);                                   // topic 0, of kind Broadcast
-//! desk.by_hub(0, Verb::Subscribe)?;                                  // receiver 2
+//! desk.open_topic(NameRef::new(b"news")?, Making::Broadcast(10))?;   // 16, the capacity in force
+//! let news = desk.find(&NameRef::new(b"news")?);                     // topic 0, of kind Broadcast
+//! desk.subscribe(TopicId(0), Start::Tail, &mut None)?;               // receiver 2, by the hub's own sender
 //! ```
 #![tactic(auto)]
 
+pub mod calls;
 pub mod channel;
 pub mod desk;
 mod event;
 pub mod laws;
 pub mod local;
 pub mod opening;
+pub mod outcome;
 #[cfg(test)]
 mod tests;
 pub mod topics;
-pub mod verb;
 
 pub use channel::Channel;
 pub use desk::Desk;
 pub use local::LocalDesk;
-pub use opening::{Found, Making, Refusal};
+pub use opening::{Found, Refusal, TopicId};
+pub use outcome::{ChannelReply, Made, NoEvent, Unspent};
 pub use topics::Topics;
-pub use verb::{NoEvent, Outcome, Unspent, Verb};

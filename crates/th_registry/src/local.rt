@@ -4,16 +4,15 @@ ghost use Rattle.th_registry.specs.Hub.{Says};
 ghost use Rattle.th_registry.specs.Pictures.{pictures};
 
 use crate::desk::Desk;
-use crate::event::through_hub;
-use crate::opening::{Found, Making, Refusal};
+use crate::event;
+use crate::opening::{Found, Refusal, TopicId};
+use crate::outcome::{ChannelReply, Made, NoEvent, Unspent};
 use crate::topics::Topics;
-use crate::verb::{NoEvent, Outcome, Unspent, Verb};
 use std::alloc::Global;
 use std::marker::Model;
-use th_model::{Listing, Name, RxId, Short, TxId};
-
-/// The hub's own sender is the first handle of each topic.
-const HUB_SENDER: u64 = 1;
+use th_model::{
+    Listing, Making, NameRef, Question, ReceiverVerb, RxId, SenderVerb, Short, Start, TxId,
+};
 
 /// Topics that hold their channels plainly.
 #[derive(Drop)]
@@ -40,6 +39,14 @@ impl LocalDesk {
     }
 }
 
+// A handle that was not spent.
+fn unspent<H>(handle: H, why: NoEvent) -> Unspent<H>
+    ensures handle { result.handle ≡ handle }
+    ensures why { result.why ≡ why }
+{
+    Unspent { handle, why }
+}
+
 impl Desk for LocalDesk {
     type Tx = TxId;
 
@@ -51,7 +58,7 @@ impl Desk for LocalDesk {
 
     ghost says = { Says pictures };
 
-    fn find(&self, name: &Name) -> Option<Found> {
+    fn find(&self, name: &NameRef<'_>) -> Option<Found> {
         self.topics.find(name)
     }
 
@@ -59,65 +66,115 @@ impl Desk for LocalDesk {
         self.topics.list()
     }
 
-    fn open_topic(&mut self, name: Name, making: Making) -> Result<u64, Refusal> {
+    fn open_topic(&mut self, name: NameRef<'_>, making: Making) -> Result<u64, Refusal> {
         self.topics.open_topic(name, making)
     }
 
-    fn by_hub(&mut self, topic: u64, verb: Verb) -> Result<Outcome<TxId, RxId>, NoEvent> {
-        through_hub(self.topics.event(topic, HUB_SENDER, verb))
+    fn bind(&mut self, topic: TopicId) -> Result<Made<TxId>, NoEvent> {
+        let topics = &mut self.topics;
+        let Some(channel) = topics.channels.get_index_mut(topic.0 as usize) else {
+            return Err(NoEvent::NoTopic);
+        };
+        event::bind(channel)
     }
 
+    fn subscribe(
+        &mut self,
+        topic: TopicId,
+        start: Start,
+        sender: &mut Option<TxId>,
+    ) -> Result<Made<RxId>, NoEvent> {
+        let topics = &mut self.topics;
+        let Some(channel) = topics.channels.get_index_mut(topic.0 as usize) else {
+            return Err(NoEvent::NoTopic);
+        };
+        event::subscribe(channel, start, *sender)
+    }
+
+    #[inline(always)]
     fn by_sender(
         &mut self,
-        topic: u64,
+        topic: TopicId,
         sender: &mut TxId,
-        verb: Verb,
-    ) -> Result<Outcome<TxId, RxId>, NoEvent> {
-        self.topics.event(topic, sender.0, verb)
+        verb: SenderVerb,
+    ) -> Result<ChannelReply, NoEvent> {
+        let topics = &mut self.topics;
+        let Some(channel) = topics.channels.get_index_mut(topic.0 as usize) else {
+            return Err(NoEvent::NoTopic);
+        };
+        event::by_sender(channel, *sender, verb)
     }
 
+    fn ask(
+        &mut self,
+        topic: TopicId,
+        sender: &mut Option<TxId>,
+        question: Question,
+    ) -> Result<ChannelReply, NoEvent> {
+        let topics = &mut self.topics;
+        let Some(channel) = topics.channels.get_index_mut(topic.0 as usize) else {
+            return Err(NoEvent::NoTopic);
+        };
+        event::ask(channel, *sender, question)
+    }
+
+    #[inline(always)]
     fn by_receiver(
         &mut self,
-        topic: u64,
+        topic: TopicId,
         receiver: &mut RxId,
-        verb: Verb,
-    ) -> Result<Outcome<TxId, RxId>, NoEvent> {
-        self.topics.event(topic, receiver.0, verb)
+        verb: ReceiverVerb,
+    ) -> Result<ChannelReply, NoEvent> {
+        let topics = &mut self.topics;
+        let Some(channel) = topics.channels.get_index_mut(topic.0 as usize) else {
+            return Err(NoEvent::NoTopic);
+        };
+        event::by_receiver(channel, *receiver, verb)
     }
 
-    fn resubscribe(
-        &mut self,
-        topic: u64,
-        receiver: &mut RxId,
-    ) -> Result<Outcome<TxId, RxId>, NoEvent> {
-        self.topics.event(topic, receiver.0, Verb::Resubscribe)
+    fn resubscribe(&mut self, topic: TopicId, receiver: &mut RxId) -> Result<Made<RxId>, NoEvent> {
+        let topics = &mut self.topics;
+        let Some(channel) = topics.channels.get_index_mut(topic.0 as usize) else {
+            return Err(NoEvent::NoTopic);
+        };
+        event::resubscribe(channel, *receiver)
     }
 
     fn spend_sender(
         &mut self,
-        topic: u64,
+        topic: TopicId,
         sender: TxId,
-    ) -> Result<Outcome<TxId, RxId>, Unspent<TxId>> {
-        match self.topics.event(topic, sender.0, Verb::DropTx) {
-            Ok(outcome) => Ok(outcome),
-            Err(why) => Err(Unspent {
-                handle: sender,
-                why,
-            }),
+    ) -> Result<ChannelReply, Unspent<TxId>> {
+        let topics = &mut self.topics;
+        let Some(channel) = topics.channels.get_index_mut(topic.0 as usize) else {
+            return Err(unspent(sender, NoEvent::NoTopic));
+        };
+        match event::drop_tx(channel, sender) {
+            Ok(reply) => Ok(reply),
+            Err(why) => Err(unspent(sender, why)),
         }
     }
 
     fn spend_receiver(
         &mut self,
-        topic: u64,
+        topic: TopicId,
         receiver: RxId,
-    ) -> Result<Outcome<TxId, RxId>, Unspent<RxId>> {
-        match self.topics.event(topic, receiver.0, Verb::DropRx) {
-            Ok(outcome) => Ok(outcome),
-            Err(why) => Err(Unspent {
-                handle: receiver,
-                why,
-            }),
+    ) -> Result<ChannelReply, Unspent<RxId>> {
+        let topics = &mut self.topics;
+        let Some(channel) = topics.channels.get_index_mut(topic.0 as usize) else {
+            return Err(unspent(receiver, NoEvent::NoTopic));
+        };
+        match event::drop_rx(channel, receiver) {
+            Ok(reply) => Ok(reply),
+            Err(why) => Err(unspent(receiver, why)),
         }
+    }
+
+    fn end(&mut self, topic: TopicId) -> Result<ChannelReply, NoEvent> {
+        let topics = &mut self.topics;
+        let Some(channel) = topics.channels.get_index_mut(topic.0 as usize) else {
+            return Err(NoEvent::NoTopic);
+        };
+        event::end(channel)
     }
 }

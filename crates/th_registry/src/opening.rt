@@ -1,21 +1,15 @@
-//! The making of a topic.
-use th_model::{Kind, Value};
+//! The topics of a hub, and why one is not opened.
+use th_model::Kind;
 use thiserror::Error;
 
-/// How a topic is made.
-#[derive(Drop)]
-pub enum Making {
-    /// A broadcast channel of the capacity asked for, whose first value stands at the second number.
-    Broadcast(u64, u64),
-    /// A watch channel with this value.
-    Watch(Value),
-}
+/// The number of a topic: its place in the order of opening, from 0.
+#[derive(Clone, Copy, Debug, Drop, PartialEq, Eq)]
+pub struct TopicId(pub u64);
 
 /// A topic that is there.
 #[derive(Clone, Copy, Debug, Drop, PartialEq, Eq)]
 pub struct Found {
-    /// Its place in the order of opening, from 0.
-    pub number: u64,
+    pub topic: TopicId,
     pub kind: Kind,
 }
 

@@ -1,7 +1,7 @@
 pub mod SessionLemmas
-pub mod LineLemmas
-pub mod OutputLemmas
-pub mod ProgressLemmas
+pub mod Turning
+pub mod RunLemmas
+pub mod Endings
 pub mod OutcomeLemmas
 pub mod Orders
 pub mod Seeing

@@ -35,9 +35,13 @@ impl<D: Desk> Session<D> {
         line: &[u8],
         out: &mut Vec<u8>,
     ) -> Result<(), Reply>
-        ensures ok { OnOk result (Appends D.says self.old desk.old line.now self.new desk.new out.old.items out.new.items) }
-        ensures err { IfErr result (λ reply. Answers D.says self.old desk.old line.now reply self.new desk.new × (out.new.items ≡ out.old.items)) }
-        ensures fits { IfErr result (λ reply. vec_capacity out.old < vec_len out.old + 4096 * length (reply_lines reply)) }
+        ensures ok { OnOk result (Appends D.says self.old desk.old line.now self.new desk.new
+            out.old.items out.new.items) }
+        ensures err { IfErr result (λ reply.
+            Answers D.says self.old desk.old line.now reply self.new desk.new
+            × (out.new.items ≡ out.old.items)) }
+        ensures fits { IfErr result (λ reply.
+            vec_capacity out.old < vec_len out.old + 4096 * length (reply_lines reply)) }
     {
         let reply = self.reply_to(alloc, desk, line);
         match print_reply(&reply, out) {

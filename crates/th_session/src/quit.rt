@@ -6,11 +6,13 @@ ghost use Rattle.th_session.specs.Script.{Plays, Script, spend_all, spend_receiv
 use crate::seats::Seats;
 use std::collections::BTreeMap;
 use th_lines::Reply;
-use th_registry::Desk;
+use th_registry::{Desk, TopicId};
 
 // The last event of a sender, if there is one.
-fn leave_sender<D: Desk>(desk: &mut D, topic: u64, sender: Option<D::Tx>)
-    ensures { (next : Script) (reply : Reply) (after : Holding) (end : D) → Plays D.says next desk.new reply after end → Plays D.says (spend_sender topic (option_map D.tx sender) next) desk.old reply after end }
+fn leave_sender<D: Desk>(desk: &mut D, topic: TopicId, sender: Option<D::Tx>)
+    ensures { (next : Script) (reply : Reply) (after : Holding) (end : D) →
+        Plays D.says next desk.new reply after end →
+        Plays D.says (spend_sender topic.0 (option_map D.tx sender) next) desk.old reply after end }
 {
     if let Some(sender) = sender {
         let _ = desk.spend_sender(topic, sender);
@@ -18,8 +20,11 @@ fn leave_sender<D: Desk>(desk: &mut D, topic: u64, sender: Option<D::Tx>)
 }
 
 // The last event of a receiver, if there is one.
-fn leave_receiver<D: Desk>(desk: &mut D, topic: u64, receiver: Option<D::Rx>)
-    ensures { (next : Script) (reply : Reply) (after : Holding) (end : D) → Plays D.says next desk.new reply after end → Plays D.says (spend_receiver topic (option_map D.rx receiver) next) desk.old reply after end }
+fn leave_receiver<D: Desk>(desk: &mut D, topic: TopicId, receiver: Option<D::Rx>)
+    ensures { (next : Script) (reply : Reply) (after : Holding) (end : D) →
+        Plays D.says next desk.new reply after end →
+        let receivers = spend_receiver topic.0 (option_map D.rx receiver) next in
+        Plays D.says receivers desk.old reply after end }
 {
     if let Some(receiver) = receiver {
         let _ = desk.spend_receiver(topic, receiver);
@@ -27,8 +32,11 @@ fn leave_receiver<D: Desk>(desk: &mut D, topic: u64, receiver: Option<D::Rx>)
 }
 
 // The last events of the handles on one topic, the sender's first.
-fn leave<D: Desk>(desk: &mut D, topic: u64, seats: Seats<D::Tx, D::Rx>)
-    ensures { let s = numbers D.tx D.rx seats in (next : Script) (reply : Reply) (after : Holding) (end : D) → Plays D.says next desk.new reply after end → Plays D.says (spend_sender topic s.sender (spend_receiver topic s.receiver next)) desk.old reply after end }
+fn leave<D: Desk>(desk: &mut D, topic: TopicId, seats: Seats<D::Tx, D::Rx>)
+    ensures { (next : Script) (reply : Reply) (after : Holding) (end : D) →
+        let s = numbers D.tx D.rx seats in
+        let both = spend_sender topic.0 s.sender (spend_receiver topic.0 s.receiver next) in
+        Plays D.says next desk.new reply after end → Plays D.says both desk.old reply after end }
 {
     let Seats { sender, receiver } = seats;
     leave_sender(desk, topic, sender);
@@ -37,10 +45,11 @@ fn leave<D: Desk>(desk: &mut D, topic: u64, seats: Seats<D::Tx, D::Rx>)
 
 // Spends each handle, topics in order of opening, whatever is said of it.
 pub(crate) fn quit<D: Desk>(seats: &mut BTreeMap<u64, Seats<D::Tx, D::Rx>>, desk: &mut D) -> Reply
-    ensures { Plays D.says (spend_all (held D.tx D.rx seats.old.entries)) desk.old result (held D.tx D.rx seats.new.entries) desk.new }
+    ensures { Plays D.says (spend_all (held D.tx D.rx seats.old.entries)) desk.old
+        result (held D.tx D.rx seats.new.entries) desk.new }
 {
     while let Some((topic, both)) = seats.pop_first() {
-        leave(desk, topic, both);
+        leave(desk, TopicId(topic), both);
     }
     Reply::Bye
 }

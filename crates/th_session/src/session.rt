@@ -4,19 +4,17 @@ ghost use Rattle.th_registry.specs.Hub.{Find};
 ghost use Rattle.th_session.specs.Held.{held};
 ghost use Rattle.th_session.specs.Script.{Ask, at_topic};
 ghost use Rattle.th_session.specs.Step.{IsStep, PlaysOrLacksRoom, NeedsRoom};
-ghost use Rattle.th_session.specs.Table.{NeedsFit};
 
-use crate::asked::{Asked, Needs};
-use crate::events::event;
+use crate::action::act;
 use crate::quit::quit;
 use crate::seats::Seats;
-use crate::table::{asked, replied_list, replied_opening};
+use crate::table::{is_for, replied_list, replied_opening};
 use std::alloc::Global;
 use std::collections::BTreeMap;
 use std::marker::Model;
-use th_lines::{Code, Command, Reply};
-use th_model::Name;
-use th_registry::{Desk, Verb};
+use th_lines::{Action, Code, Command, Reply};
+use th_model::NameRef;
+use th_registry::Desk;
 
 /// One actor's handles: at most one sender and one receiver of each topic.
 ///
@@ -34,24 +32,25 @@ impl<D: Desk> Model for Session<D> {
     ghost view = { λ s. held D.tx D.rx s.seats.entries };
 }
 
-// A command on the topic of this name.
+// An action on the topic of this name.
+#[inline(always)]
 fn on_topic<D: Desk>(
     seats: &mut BTreeMap<u64, Seats<D::Tx, D::Rx>>,
     desk: &mut D,
-    name: &Name,
-    needs: Needs,
-    verb: Verb,
+    name: &NameRef<'_>,
+    action: Action,
 ) -> Reply
-    requires { NeedsFit needs verb }
-    ensures { let h = held D.tx D.rx seats.old.entries in PlaysOrLacksRoom D.says (NeedsRoom needs) (Ask (Find name.now) (at_topic needs verb h)) h desk.old result (held D.tx D.rx seats.new.entries) desk.new }
+    ensures { let h = held D.tx D.rx seats.old.entries in
+        PlaysOrLacksRoom D.says (NeedsRoom action) (Ask (Find name.now) (at_topic action h))
+        h desk.old result (held D.tx D.rx seats.new.entries) desk.new }
 {
     let Some(found) = desk.find(name) else {
         return Reply::Refused(Code::NoTopic);
     };
-    if !verb.is_for(found.kind) {
+    if !is_for(found.kind, &action) {
         return Reply::Refused(Code::WrongKind);
     }
-    event(seats, desk, found.number, needs, verb)
+    act(seats, desk, found.topic, action)
 }
 
 impl<D: Desk> Session<D> {
@@ -71,14 +70,15 @@ impl<D: Desk> Session<D> {
     ///
     /// It costs one look-up of the topic's name, and a few of what is held on it, each at most the logarithm of the
     /// number of topics of which the actor once held a handle. Only a new handle, and what the desk does, takes memory.
-    pub fn step(&mut self, desk: &mut D, command: Command) -> Reply
-        ensures { IsStep D.says self.old desk.old command result self.new desk.new }
+    #[inline(always)]
+    pub fn step(&mut self, desk: &mut D, command: Command<'_>) -> Reply
+        ensures { IsStep D.says self.old desk.old command.entry result self.new desk.new }
     {
-        match asked(command) {
-            Asked::Open(name, making) => replied_opening(desk.open_topic(name, making)),
-            Asked::On(name, needs, verb) => on_topic(&mut self.seats, desk, &name, needs, verb),
-            Asked::List => replied_list(desk.list()),
-            Asked::Quit => quit(&mut self.seats, desk),
+        match command {
+            Command::Open(name, making) => replied_opening(desk.open_topic(name, making)),
+            Command::On(name, action) => on_topic(&mut self.seats, desk, &name, action),
+            Command::List => replied_list(desk.list()),
+            Command::Quit => quit(&mut self.seats, desk),
         }
     }
 }

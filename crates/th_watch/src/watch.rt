@@ -1,32 +1,39 @@
 //! The channel's state and its calls.
-ghost use Rattle.std.specs.Prelude.{◌≡◌, ◌≢◌, ◌+◌, nat_lt, ◌↔◌, ◌≤◌, ◌<◌, ◌-◌, ◌^◌, ℕ, Bool, true, false, List, [], ◌∷◌, IsTrue, IsOk, IfOk, IfErr, OnOk, OnErr, Some, is_some};
-ghost use Rattle.std.specs.Fn.{FnOnceTakesAtMut};
+ghost use Rattle.std.specs.Prelude.{◌≡◌, ◌≢◌, nat_lt, ◌↔◌, ◌≤◌, ◌<◌, ◌-◌, ◌^◌, Bool, true, false, [], ◌∷◌, IsTrue, IsOk, IfOk, IfErr, OnOk, OnErr, is_some};
 ghost use Rattle.th_model.specs.Limits.{ClonesAreEqual};
 ghost use Rattle.th_model.specs.WatchMachine.{IsExact, reader_of, with_reader, opened, paired};
-ghost use Rattle.th_model.specs.WatchPicture.{IsSound, picture_of, see, answer, uncompared, marked, subscribe, with_version, is_ready, WouldWait, Meets, TakesNoMemory};
-ghost use Rattle.th_watch.specs.Edited.{IsEdited, IsModified, IsRefused};
+ghost use Rattle.th_model.specs.WatchPicture.{IsSound, IsRefused, picture_of, see, answer, uncompared, marked, subscribe, with_version, is_ready, WouldWait, Meets, TakesMemory, TakesNoMemory};
+ghost use Rattle.th_model.specs.declared.watch.WCall.TheVariants.{Send, Replace, EditBy, Borrow, Take, HasChanged, TryChanged, Changed, MarkChanged, MarkUnchanged, Subscribe, CloneRx, CloneTx, DropTx, DropRx, IsClosed, Readers};
 
-use crate::refused::EditRefused;
+mod modify;
+mod picture;
+
 use std::alloc::Global;
 use std::collections::{BTreeMap, BTreeSet};
 use std::marker::Model;
-use th_model::{Edit, RxId, Short, TxId, WCall, WReply};
+use th_model::{Edit, MOST_HANDLES, RxId, Short, TxId, WCall, WReply};
 
-/// The most live handles of one kind.
-const MOST_HANDLES: usize = 65_535;
-
-/// A watch channel: the newest value, and for each reader whether it has seen it.
+/// A watch channel, seen as its picture: the newest value and its version, whether it is unseen by
+/// each live reader, the live senders, and the next handle number.
 ///
-/// A publication costs the same for one reader as for 65,535. Every call costs at most the logarithm of the number of
-/// live handles, and a clone of the value where it shows one.
+/// Every call first looks its handle up; a number that is not live on its side is answered
+/// `NoHandle`. A call is at most logarithmic in the live handles of its side, so a publication
+/// costs the same for one reader as for 65,535; beside that, one that shows the newest value clones
+/// it. Memory is taken for such a clone and for a new handle alone. A call that is refused it is
+/// `Short`: the call comes back, and nothing has changed.
 #[derive(Drop)]
 pub struct Watch<T> {
+    // The number of the newest version: 1 or more, and one more at each publication.
     version: u64,
+    // The newest value, put in the place of the one before it. A quiet edit changes it within its
+    // version.
     last: T,
-    // The version that each live reader saw last, or 0. One below the newest is unseen, so a publication leaves the
-    // marks alone.
+    // The version that each live reader saw last, or 0. One below the newest is unseen, so a
+    // publication leaves the marks alone.
     marks: BTreeMap<u64, u64>,
+    // The numbers of the live senders.
     senders: BTreeSet<u64>,
+    // The number that the next handle gets, on either side. It rises, so no number is given twice.
     next: u64,
 }
 
@@ -70,7 +77,8 @@ impl<T: Drop> Watch<T> {
     pub fn starting_at(alloc: Global, value: T, version: u64) -> Result<Self, Short<T>>
         requires { 1 ≤ version }
         ensures opened { IfOk result (λ channel. channel ≡ see (opened value version)) }
-        ensures picture { IfOk result (λ channel. channel ≡ picture_of version value [] (1 ∷ []) 2) }
+        ensures picture { IfOk result (λ channel.
+            channel ≡ picture_of version value [] (1 ∷ []) 2) }
         ensures short { IfErr result (λ short. short.call ≡ value) }
     {
         let mut senders = BTreeSet::new(alloc);
@@ -102,7 +110,8 @@ impl<T: Drop> Watch<T> {
     /// `Short` hands the value back.
     pub fn channel(alloc: Global, value: T) -> Result<Self, Short<T>>
         ensures paired { IfOk result (λ channel. channel ≡ see (paired value)) }
-        ensures picture { IfOk result (λ channel. channel ≡ picture_of 1 value ((2, 1) ∷ []) (1 ∷ []) 3) }
+        ensures picture { IfOk result (λ channel.
+            channel ≡ picture_of 1 value ((2, 1) ∷ []) (1 ∷ []) 3) }
         ensures short { IfErr result (λ short. short.call ≡ value) }
     {
         let mut senders = BTreeSet::new(alloc);
@@ -132,46 +141,9 @@ impl<T: Drop> Watch<T> {
         }
     }
 
-    // Makes the newest value unseen or seen by the reader; `false` where it is not live.
-    fn mark(&mut self, rx: RxId, unseen: bool) -> bool
-        ensures found { result ≡ is_some (reader_of self.old.readers rx.0) }
-        ensures live { IsTrue result → self.new ≡ marked self.old rx.0 unseen }
-        ensures none { result ≡ false → self.new ≡ self.old }
-    {
-        let mark = mark_for(self.version, unseen);
-        set_mark(&mut self.marks, rx.0, mark)
-    }
-
-    // Publishes the value, for the one before it; at the last version hands it back.
-    fn publish(&mut self, value: T) -> Result<T, T>
-        ensures ok { IfOk result (λ was. (was ≡ self.old.last) × (self.new ≡ with_version self.old value) × (self.old.version ≢ 2 ^ 64 - 1)) }
-        ensures exhausted { IfErr result (λ back. (back ≡ value) × (self.new ≡ self.old) × (self.old.version ≡ 2 ^ 64 - 1)) }
-    {
-        if self.version == u64::MAX {
-            return Err(value);
-        }
-        self.version += 1;
-        Ok(std::mem::replace(&mut self.last, value))
-    }
-
-    // A new reader, to whom the newest value is unseen or seen. `Err` is want of memory.
-    fn join(&mut self, unseen: bool) -> Result<WReply<T>, Short<()>>
-        ensures step { IfOk result (λ reply. subscribe self.old unseen ≡ (reply, self.new)) }
-        ensures short { OnErr result (self.new ≡ self.old) }
-    {
-        if self.marks.len() >= MOST_HANDLES || self.next == u64::MAX {
-            return Ok(WReply::TooMany);
-        }
-        let number = self.next;
-        let mark = mark_for(self.version, unseen);
-        let Ok(_) = self.marks.insert(number, mark) else {
-            return Err(Short { call: () });
-        };
-        self.next += 1;
-        Ok(WReply::NewRx(RxId(number)))
-    }
-
-    /// Whether a call has its answer now: every call but a `Changed` that would be answered `NotYet`.
+    /// Whether a call has its answer now: every call but a `Changed` that would be answered
+    /// `NotYet`.
+    #[inline(always)]
     pub fn ready(&self, call: &WCall<T>) -> bool
         ensures ready { result ≡ is_ready self.now call.now }
         ensures waits { (eq : T → T → Bool) → (result ≡ false) ↔ WouldWait eq self.now call.now }
@@ -186,9 +158,25 @@ impl<T: Drop> Watch<T> {
         }
     }
 
+    // Publishes the value, for the one before it; at the last version hands it back.
+    fn publish(&mut self, value: T) -> Result<T, T>
+        ensures was { IfOk result (λ was. was ≡ self.old.last) }
+        ensures published { OnOk result (self.new ≡ with_version self.old value) }
+        ensures room { OnOk result (self.old.version ≢ 2 ^ 64 - 1) }
+        ensures back { IfErr result (λ back. back ≡ value) }
+        ensures same { OnErr result (self.new ≡ self.old) }
+        ensures exhausted { OnErr result (self.old.version ≡ 2 ^ 64 - 1) }
+    {
+        if self.version == u64::MAX {
+            return Err(value);
+        }
+        self.version += 1;
+        Ok(std::mem::replace(&mut self.last, value))
+    }
+
     /// Publishes a value where there is a reader, and answers `Done`.
     pub fn send(&mut self, tx: TxId, value: T) -> WReply<T>
-        ensures { answer uncompared self.old (WCall.Send tx value) ≡ (result, self.new) }
+        ensures { answer uncompared self.old (Send tx value) ≡ (result, self.new) }
     {
         if !self.senders.contains(&tx.0) {
             return WReply::NoHandle(Some(value));
@@ -204,7 +192,7 @@ impl<T: Drop> Watch<T> {
 
     /// Publishes a value, readers or not, and answers the value before it.
     pub fn replace(&mut self, tx: TxId, value: T) -> WReply<T>
-        ensures { answer uncompared self.old (WCall.Replace tx value) ≡ (result, self.new) }
+        ensures { answer uncompared self.old (Replace tx value) ≡ (result, self.new) }
     {
         if !self.senders.contains(&tx.0) {
             return WReply::NoHandle(Some(value));
@@ -215,56 +203,9 @@ impl<T: Drop> Watch<T> {
         }
     }
 
-    /// Changes the newest value by a closure, readers or not. Where the closure answers true that is a publication,
-    /// else no reader is told.
-    ///
-    /// The closure is not called, and comes back, where `tx` is no live sender or the last version was published.
-    pub fn send_if_modified<F: FnOnce(&mut T) -> bool>(
-        &mut self,
-        tx: TxId,
-        f: F,
-    ) -> Result<bool, EditRefused<F>>
-        requires { FnOnceTakesAtMut F.FnOnce f self.old.last }
-        ensures edited { IfOk result (λ told. IsEdited F.FnOnce f self.old tx told self.new) }
-        ensures refused { IfErr result (λ refused. IsRefused f self.old tx refused) }
-        ensures same { OnErr result (self.new ≡ self.old) }
-    {
-        if !self.senders.contains(&tx.0) {
-            return Err(EditRefused::NoHandle(f));
-        }
-        if self.version == u64::MAX {
-            return Err(EditRefused::Exhausted(f));
-        }
-        let told = f(&mut self.last);
-        if told {
-            self.version += 1;
-        }
-        Ok(told)
-    }
-
-    /// Changes the newest value by a closure, readers or not, and publishes what it leaves.
-    ///
-    /// The closure is not called, and comes back, where `tx` is no live sender or the last version was published.
-    pub fn send_modify<F: FnOnce(&mut T)>(&mut self, tx: TxId, f: F) -> Result<(), EditRefused<F>>
-        requires { FnOnceTakesAtMut F.FnOnce f self.old.last }
-        ensures modified { OnOk result (IsModified F.FnOnce f self.old tx self.new) }
-        ensures refused { IfErr result (λ refused. IsRefused f self.old tx refused) }
-        ensures same { OnErr result (self.new ≡ self.old) }
-    {
-        if !self.senders.contains(&tx.0) {
-            return Err(EditRefused::NoHandle(f));
-        }
-        if self.version == u64::MAX {
-            return Err(EditRefused::Exhausted(f));
-        }
-        f(&mut self.last);
-        self.version += 1;
-        Ok(())
-    }
-
     /// Whether the newest value is unseen; `Closed` where no sender is left.
     pub fn has_changed(&self, rx: RxId) -> WReply<T>
-        ensures { answer uncompared self.now (WCall.HasChanged rx) ≡ (result, self.now) }
+        ensures { answer uncompared self.now (HasChanged rx) ≡ (result, self.now) }
     {
         match self.unseen(rx) {
             None => WReply::NoHandle(None),
@@ -273,9 +214,20 @@ impl<T: Drop> Watch<T> {
         }
     }
 
-    /// Marks an unseen value seen, and answers `Marked`; where it is seen, `Closed` without senders, else `NotYet`.
+    // Makes the newest value unseen or seen by the reader; `false` where it is not live.
+    fn mark(&mut self, rx: RxId, unseen: bool) -> bool
+        ensures found { result ≡ is_some (reader_of self.old.readers rx.0) }
+        ensures live { IsTrue result → self.new ≡ marked self.old rx.0 unseen }
+        ensures none { result ≡ false → self.new ≡ self.old }
+    {
+        let mark = mark_for(self.version, unseen);
+        set_mark(&mut self.marks, rx.0, mark)
+    }
+
+    /// Marks an unseen value seen, and answers `Marked`; where it is seen, `Closed` without
+    /// senders, else `NotYet`.
     pub fn try_changed(&mut self, rx: RxId) -> WReply<T>
-        ensures { answer uncompared self.old (WCall.TryChanged rx) ≡ (result, self.new) }
+        ensures { answer uncompared self.old (TryChanged rx) ≡ (result, self.new) }
     {
         match self.unseen(rx) {
             None => WReply::NoHandle(None),
@@ -290,14 +242,14 @@ impl<T: Drop> Watch<T> {
 
     /// As `try_changed`: a caller waits while the channel is not `ready` for it.
     pub fn changed(&mut self, rx: RxId) -> WReply<T>
-        ensures { answer uncompared self.old (WCall.Changed rx) ≡ (result, self.new) }
+        ensures { answer uncompared self.old (Changed rx) ≡ (result, self.new) }
     {
         self.try_changed(rx)
     }
 
     /// Makes the newest value unseen by the reader, with nothing sent.
     pub fn mark_changed(&mut self, rx: RxId) -> WReply<T>
-        ensures { answer uncompared self.old (WCall.MarkChanged rx) ≡ (result, self.new) }
+        ensures { answer uncompared self.old (MarkChanged rx) ≡ (result, self.new) }
     {
         if self.mark(rx, true) {
             WReply::Done
@@ -308,7 +260,7 @@ impl<T: Drop> Watch<T> {
 
     /// Marks the newest value seen by the reader.
     pub fn mark_unchanged(&mut self, rx: RxId) -> WReply<T>
-        ensures { answer uncompared self.old (WCall.MarkUnchanged rx) ≡ (result, self.new) }
+        ensures { answer uncompared self.old (MarkUnchanged rx) ≡ (result, self.new) }
     {
         if self.mark(rx, false) {
             WReply::Done
@@ -317,15 +269,35 @@ impl<T: Drop> Watch<T> {
         }
     }
 
+    // A new reader, to whom the newest value is unseen or seen.
+    fn add_receiver(&mut self, unseen: bool) -> Result<WReply<T>, Short<()>>
+        ensures step { IfOk result (λ reply. subscribe self.old unseen ≡ (reply, self.new)) }
+        ensures same { OnErr result (self.new ≡ self.old) }
+        ensures short { OnErr result (TakesMemory (subscribe self.old unseen).0) }
+    {
+        if self.marks.len() >= MOST_HANDLES || self.next == u64::MAX {
+            return Ok(WReply::TooMany);
+        }
+        let rx = RxId(self.next);
+        let mark = mark_for(self.version, unseen);
+        let Ok(_) = self.marks.insert(rx.0, mark) else {
+            return Err(Short { call: () });
+        };
+        self.next += 1;
+        Ok(WReply::NewRx(rx))
+    }
+
     /// A new reader, to whom the newest value is seen.
     pub fn subscribe(&mut self, tx: TxId) -> Result<WReply<T>, Short<WCall<T>>>
-        ensures step { IfOk result (λ reply. answer uncompared self.old (WCall.Subscribe tx) ≡ (reply, self.new)) }
-        ensures short { IfErr result (λ short. (short.call ≡ WCall.Subscribe tx) × (self.new ≡ self.old)) }
+        ensures step { IfOk result (λ reply.
+            answer uncompared self.old (Subscribe tx) ≡ (reply, self.new)) }
+        ensures short { IfErr result (λ short.
+            IsRefused uncompared self.old (Subscribe tx) short.call self.new) }
     {
         if !self.senders.contains(&tx.0) {
             return Ok(WReply::NoHandle(None));
         }
-        match self.join(false) {
+        match self.add_receiver(false) {
             Ok(reply) => Ok(reply),
             Err(_) => Err(Short {
                 call: WCall::Subscribe(tx),
@@ -335,13 +307,15 @@ impl<T: Drop> Watch<T> {
 
     /// A new reader, to whom the newest value is unseen where it is to this one.
     pub fn clone_rx(&mut self, rx: RxId) -> Result<WReply<T>, Short<WCall<T>>>
-        ensures step { IfOk result (λ reply. answer uncompared self.old (WCall.CloneRx rx) ≡ (reply, self.new)) }
-        ensures short { IfErr result (λ short. (short.call ≡ WCall.CloneRx rx) × (self.new ≡ self.old)) }
+        ensures step { IfOk result (λ reply.
+            answer uncompared self.old (CloneRx rx) ≡ (reply, self.new)) }
+        ensures short { IfErr result (λ short.
+            IsRefused uncompared self.old (CloneRx rx) short.call self.new) }
     {
         let Some(unseen) = self.unseen(rx) else {
             return Ok(WReply::NoHandle(None));
         };
-        match self.join(unseen) {
+        match self.add_receiver(unseen) {
             Ok(reply) => Ok(reply),
             Err(_) => Err(Short {
                 call: WCall::CloneRx(rx),
@@ -351,8 +325,10 @@ impl<T: Drop> Watch<T> {
 
     /// A new sender.
     pub fn clone_tx(&mut self, tx: TxId) -> Result<WReply<T>, Short<WCall<T>>>
-        ensures step { IfOk result (λ reply. answer uncompared self.old (WCall.CloneTx tx) ≡ (reply, self.new)) }
-        ensures short { IfErr result (λ short. (short.call ≡ WCall.CloneTx tx) × (self.new ≡ self.old)) }
+        ensures step { IfOk result (λ reply.
+            answer uncompared self.old (CloneTx tx) ≡ (reply, self.new)) }
+        ensures short { IfErr result (λ short.
+            IsRefused uncompared self.old (CloneTx tx) short.call self.new) }
     {
         if !self.senders.contains(&tx.0) {
             return Ok(WReply::NoHandle(None));
@@ -360,30 +336,30 @@ impl<T: Drop> Watch<T> {
         if self.senders.len() >= MOST_HANDLES || self.next == u64::MAX {
             return Ok(WReply::TooMany);
         }
-        let number = self.next;
-        let Ok(_) = self.senders.insert(number) else {
+        let new = self.next;
+        let Ok(_) = self.senders.insert(new) else {
             return Err(Short {
                 call: WCall::CloneTx(tx),
             });
         };
         self.next += 1;
-        Ok(WReply::NewTx(TxId(number)))
+        Ok(WReply::NewTx(TxId(new)))
     }
 
     /// Spends the sender.
     pub fn drop_tx(&mut self, tx: TxId) -> WReply<T>
-        ensures { answer uncompared self.old (WCall.DropTx tx) ≡ (result, self.new) }
+        ensures { answer uncompared self.old (DropTx tx) ≡ (result, self.new) }
     {
-        if self.senders.remove(&tx.0) {
-            WReply::Done
-        } else {
-            WReply::NoHandle(None)
+        if !self.senders.contains(&tx.0) {
+            return WReply::NoHandle(None);
         }
+        self.senders.remove(&tx.0);
+        WReply::Done
     }
 
     /// Spends the reader.
     pub fn drop_rx(&mut self, rx: RxId) -> WReply<T>
-        ensures { answer uncompared self.old (WCall.DropRx rx) ≡ (result, self.new) }
+        ensures { answer uncompared self.old (DropRx rx) ≡ (result, self.new) }
     {
         let Some(_) = self.marks.remove(&rx.0) else {
             return WReply::NoHandle(None);
@@ -393,7 +369,7 @@ impl<T: Drop> Watch<T> {
 
     /// Whether no reader is left.
     pub fn is_closed(&self, tx: TxId) -> WReply<T>
-        ensures { answer uncompared self.now (WCall.IsClosed tx) ≡ (result, self.now) }
+        ensures { answer uncompared self.now (IsClosed tx) ≡ (result, self.now) }
     {
         if !self.senders.contains(&tx.0) {
             return WReply::NoHandle(None);
@@ -403,7 +379,7 @@ impl<T: Drop> Watch<T> {
 
     /// How many readers are live.
     pub fn readers(&self, tx: TxId) -> WReply<T>
-        ensures { answer uncompared self.now (WCall.Readers tx) ≡ (result, self.now) }
+        ensures { answer uncompared self.now (Readers tx) ≡ (result, self.now) }
     {
         if !self.senders.contains(&tx.0) {
             return WReply::NoHandle(None);
@@ -416,8 +392,10 @@ impl<T: Clone + Drop> Watch<T> {
     /// Shows a clone of the newest value, and whether it is unseen.
     pub fn borrow(&self, rx: RxId) -> Result<WReply<T>, Short<WCall<T>>>
         requires { ClonesAreEqual T.is_clone }
-        ensures step { IfOk result (λ reply. answer uncompared self.now (WCall.Borrow rx) ≡ (reply, self.now)) }
-        ensures short { IfErr result (λ short. short.call ≡ WCall.Borrow rx) }
+        ensures step { IfOk result (λ reply.
+            answer uncompared self.now (Borrow rx) ≡ (reply, self.now)) }
+        ensures short { IfErr result (λ short.
+            IsRefused uncompared self.now (Borrow rx) short.call self.now) }
     {
         let Some(unseen) = self.unseen(rx) else {
             return Ok(WReply::NoHandle(None));
@@ -433,8 +411,10 @@ impl<T: Clone + Drop> Watch<T> {
     /// Shows a clone of the newest value, and whether it was unseen, and marks it seen.
     pub fn take(&mut self, rx: RxId) -> Result<WReply<T>, Short<WCall<T>>>
         requires { ClonesAreEqual T.is_clone }
-        ensures step { IfOk result (λ reply. answer uncompared self.old (WCall.Take rx) ≡ (reply, self.new)) }
-        ensures short { IfErr result (λ short. (short.call ≡ WCall.Take rx) × (self.new ≡ self.old)) }
+        ensures step { IfOk result (λ reply.
+            answer uncompared self.old (Take rx) ≡ (reply, self.new)) }
+        ensures short { IfErr result (λ short.
+            IsRefused uncompared self.old (Take rx) short.call self.new) }
     {
         let Some(was_unseen) = self.unseen(rx) else {
             return Ok(WReply::NoHandle(None));
@@ -455,7 +435,7 @@ impl<T: PartialEq + Drop> Watch<T> {
     /// Changes the newest value, readers or not, and answers whether that was a publication.
     pub fn edit_by(&mut self, tx: TxId, edit: Edit<T>) -> WReply<T>
         requires { IsExact T.eq }
-        ensures { answer T.eq self.old (WCall.EditBy tx edit) ≡ (result, self.new) }
+        ensures { answer T.eq self.old (EditBy tx edit) ≡ (result, self.new) }
     {
         if !self.senders.contains(&tx.0) {
             return WReply::NoHandle(Some(edit.into_value()));
@@ -476,11 +456,13 @@ impl<T: PartialEq + Drop> Watch<T> {
 
 impl<T: Clone + PartialEq + Drop> Watch<T> {
     // One call, by the picture alone.
+    #[inline(always)]
     fn answer(&mut self, call: WCall<T>) -> Result<WReply<T>, Short<WCall<T>>>
         requires clones { ClonesAreEqual T.is_clone }
         requires exact { IsExact T.eq }
         ensures step { IfOk result (λ reply. answer T.eq self.old call ≡ (reply, self.new)) }
-        ensures short { IfErr result (λ short. (short.call ≡ call) × (self.new ≡ self.old)) }
+        ensures short { IfErr result (λ short.
+            IsRefused T.eq self.old call short.call self.new) }
         ensures always { TakesNoMemory call → IsOk result }
     {
         match call {
@@ -504,17 +486,17 @@ impl<T: Clone + PartialEq + Drop> Watch<T> {
         }
     }
 
-    /// One call. Of every machine that remembers all versions and looks like this channel, the reply is the machine's,
-    /// and the channel looks like what the machine becomes.
-    ///
-    /// `Short` is want of memory: the call comes back, and nothing has changed. A call that takes no memory is always
-    /// answered. A `Changed` that is not `ready` is answered `NotYet`.
+    /// One call. Of every proper endless state that looks like the channel, the reply is the
+    /// machine's reply, and the channel then looks like the state after the machine's step. All
+    /// calls are always answered but those that show a value and those that make a handle.
+    #[inline(always)]
     pub fn apply(&mut self, call: WCall<T>) -> Result<WReply<T>, Short<WCall<T>>>
         requires clones { ClonesAreEqual T.is_clone }
         requires exact { IsExact T.eq }
         ensures meets { IfOk result (λ reply. Meets T.eq self.old call reply self.new) }
         ensures step { IfOk result (λ reply. answer T.eq self.old call ≡ (reply, self.new)) }
-        ensures short { IfErr result (λ short. (short.call ≡ call) × (self.new ≡ self.old)) }
+        ensures short { IfErr result (λ short.
+            IsRefused T.eq self.old call short.call self.new) }
         ensures always { TakesNoMemory call → IsOk result }
     {
         self.answer(call)

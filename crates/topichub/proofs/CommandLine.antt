@@ -12,7 +12,8 @@ pub replay_passes : (name : List ℕ) → fault_of command_line (name ∷ codes 
 unfolding clap_on_literals
 replay_passes name = refl
 
-pub help_fails : (name : List ℕ) → fault_of command_line (name ∷ codes "--help" ∷ []) ≡ kind.DisplayHelp ∷ []
+pub help_fails : (name : List ℕ)
+    → fault_of command_line (name ∷ codes "--help" ∷ []) ≡ kind.DisplayHelp ∷ []
 unfolding clap_on_literals
 help_fails name = refl
 

@@ -1,1 +1,3 @@
 mod CommandLine
+mod Endings
+mod Writing

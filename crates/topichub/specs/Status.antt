@@ -1,9 +1,7 @@
 -- How the program ends, and what it says of that.
-use Rattle.std.specs.Prelude.{ℕ, List, Option, Some, None, Result, Ok, Err, codes}
-use Rattle.th_replay.specs.declared.fault.ReplayFault.{ReplayFault}
-use Rattle.th_replay.specs.declared.fault.ReplayFault.TheVariants as replay
-use Rattle.topichub.specs.declared.status.End.{End}
-use Rattle.topichub.specs.declared.status.End.TheVariants.{Done, Help, Read, Write, TooLong, Short, Socket, Usage, Illegal, Bad}
+use Rattle.std.specs.Prelude.{ℕ, List, Option, Some, None, codes}
+use Rattle.topichub.specs.declared.end.End.{End}
+use Rattle.topichub.specs.declared.end.End.TheVariants.{Done, Help, Read, Write, TooLong, Short, Socket, Usage, Illegal, Bad}
 
 -- 0: done; 1: stopped by the machine or a limit; 2: wrong words; 3: a fault found in a trace
 abbrev pub status_of : End → ℕ
@@ -17,14 +15,6 @@ status_of Socket = 1
 status_of Usage = 2
 status_of Illegal = 3
 status_of Bad = 3
-
--- how the program ends whose replay ended so
-abbrev pub end_of : Result ℕ ReplayFault → End
-end_of (Ok lines) = Done
-end_of (Err replay.Read) = Read
-end_of (Err replay.Write) = Write
-end_of (Err replay.TooLong) = TooLong
-end_of (Err replay.Short) = Short
 
 -- the line on standard error, one exactly where the status is 1
 abbrev pub explanation_of : End → Option (List ℕ)

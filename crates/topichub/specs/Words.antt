@@ -44,4 +44,5 @@ with_required app = record app { top = record app.top { subcommand_required = tr
 
 -- the command line as `clap` reads it: one command, `replay`, which takes no words
 abbrev pub command_line : App
-command_line = with_subcommand (with_required (new_app (codes "topichub"))) (new_app (codes "replay")).top
+command_line =
+    with_subcommand (with_required (new_app (codes "topichub"))) (new_app (codes "replay")).top

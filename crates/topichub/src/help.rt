@@ -1,5 +1,4 @@
 //! The texts of `topichub --help` and `topichub replay --help`.
-#![tactic(auto)]
 
 /// One line on the program.
 pub const ABOUT: &str =
@@ -63,6 +62,7 @@ Commands on topics of both kinds:
 On a broadcast topic:
   TRY t                 receive, if there is anything
   NEXT t                the same; BLOCKED where TRY is answered EMPTY
+  SUB t OLDEST          get a receiver that begins at the oldest value t keeps
   RESUB t               get a new receiver in place of the old one
   LEFT t                how many values the receiver has to come
   QUEUED t              how many values t keeps for its receivers

@@ -1,16 +1,17 @@
-//! The program: reads its words, carries out what they ask for, and ends with a status.
+//! The program: does what its words ask for, on the standard streams, and ends with a status.
 #![tactic(auto)]
 
+mod end;
 mod help;
 mod modes;
-mod run;
-mod status;
+mod program;
+mod streams;
+#[cfg(test)]
+mod tests;
 mod words;
 
 use std::process::ExitCode;
 
 fn main(rt: HostRuntime) -> ExitCode {
-    let end = run::run(&rt);
-    run::explain(&rt, &end);
-    ExitCode::from(status::status(&end))
+    streams::run_on_streams(&rt)
 }

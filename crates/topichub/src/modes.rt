@@ -1,5 +1,4 @@
 //! What the program can be asked to do.
-#![tactic(auto)]
 
 /// What the program is asked to do.
 #[derive(Clone, Copy, Debug, PartialEq, Eq)]

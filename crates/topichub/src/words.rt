@@ -1,12 +1,11 @@
 //! The words of the command line.
-#![tactic(auto)]
 
 ghost use Rattle.std.specs.Prelude.{◌≡◌, ◌≢◌, ◌⊎◌, IfOk, OnOk, [], map};
 ghost use Rattle.clap.specs.Words.{app_of, fault_of, kind_of};
 ghost use Rattle.topichub.specs.Words.{AreReplay, AreHelp, AreNone, IsHelp, IsUsage, GivesReplay, GivesFault, command_line};
 
-use super::help::{ABOUT, AFTER, REPLAY_ABOUT, REPLAY_AFTER};
-use super::modes::{Mode, ModeFault};
+use crate::help::{ABOUT, AFTER, REPLAY_ABOUT, REPLAY_AFTER};
+use crate::modes::{Mode, ModeFault};
 use clap::error::ErrorKind;
 use clap::{Command, Error};
 use std::alloc::{AllocError, Global};
@@ -17,7 +16,7 @@ impl From<AllocError> for ModeFault {
     }
 }
 
-/// The command line, as `clap` knows it.
+// The command line, as `clap` knows it.
 fn program_command<'a>(alloc: Global) -> Result<Command<'a>, AllocError>
     ensures { IfOk result (λ c. app_of c ≡ command_line) }
 {
@@ -31,11 +30,14 @@ fn program_command<'a>(alloc: Global) -> Result<Command<'a>, AllocError>
         .subcommand(replay)
 }
 
-/// What `clap`'s refusal of the words means.
+// What `clap`'s refusal of the words means.
 fn refused(alloc: Global, error: Error) -> ModeFault
-    ensures help { kind_of error ≡ ErrorKind.DisplayHelp → IsHelp result ⊎ (result ≡ ModeFault.Short) }
+    ensures help { kind_of error ≡ ErrorKind.DisplayHelp
+        → IsHelp result ⊎ (result ≡ ModeFault.Short) }
     ensures short { kind_of error ≡ ErrorKind.OutOfMemory → result ≡ ModeFault.Short }
-    ensures usage { kind_of error ≢ ErrorKind.DisplayHelp → kind_of error ≢ ErrorKind.OutOfMemory → IsUsage result ⊎ (result ≡ ModeFault.Short) }
+    ensures usage { kind_of error ≢ ErrorKind.DisplayHelp
+        → kind_of error ≢ ErrorKind.OutOfMemory
+        → IsUsage result ⊎ (result ≡ ModeFault.Short) }
 {
     let kind = error.kind();
     let Ok(text) = error.to_string(alloc) else {
@@ -52,8 +54,8 @@ fn refused(alloc: Global, error: Error) -> ModeFault
 ///
 /// # Errors
 ///
-/// `Help` where the words ask for help, `Usage` where they are wrong, each with a text to print; `Short` where
-/// memory was refused.
+/// `Help` where the words ask for help, `Usage` where they are wrong, each with a text to print;
+/// `Short` where memory was refused.
 pub fn mode(alloc: Global, words: &[&str]) -> Result<Mode, ModeFault>
     ensures replay { AreReplay (map (λ w. w.now) words.now) → GivesReplay result }
     ensures help { AreHelp (map (λ w. w.now) words.now) → GivesFault IsHelp result }

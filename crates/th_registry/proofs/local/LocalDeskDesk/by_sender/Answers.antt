@@ -1,5 +1,10 @@
-use Rattle.th_registry.proofs.Events.{says-own}
+use Rattle.std.proofs.Common.{sym, ap, ◌∙◌}
+use Rattle.std.specs.Option.{option_copied_mut}
+use Rattle.th_registry.specs.Events.{Binds, Subscribes, Sends, Receives, Resubscribes, Own, Hub}
+use Rattle.th_registry.proofs.Events.{desk-says}
 use Rattle.th_registry.proofs.local.LocalDeskDesk.by_sender.Goals as goal
 
 pub returns-clause-event : goal.returns-clause-event
-returns-clause-event c = says-own _ _ c.self.view_is _ _ _ _ _ c.event.ensures
+returns-clause-event c =
+    let there = sym c.get_index_mut.ensures.value ∙ ap option_copied_mut c.in-Some.is in
+    desk-says c.args.topic.0 (Sends c.args.sender.now c.args.verb) (c.topics.view_is ∙ c.self.view_is) there c.by_sender.ensures

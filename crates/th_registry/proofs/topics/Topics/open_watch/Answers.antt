@@ -4,7 +4,7 @@ use Rattle.indexmap.specs.IndexMap.{insert_entry}
 use Rattle.th_model.specs.WatchMachine.{opened}
 use Rattle.th_model.specs.WatchPicture.{Picture, see}
 use Rattle.th_registry.specs.declared.channel.Channel.TheVariants.{Watch}
-use Rattle.th_registry.specs.declared.opening.Making.TheVariants as Makings
+use Rattle.th_model.specs.declared.making.Making.TheVariants as Makings
 use Rattle.th_registry.specs.Calls.{Bytes}
 use Rattle.th_registry.proofs.Openings.{opens-full, opens-new, opens-short, insert-new}
 use Rattle.th_registry.specs.Pictures.{SeenTopics, pictures}

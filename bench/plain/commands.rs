@@ -1,0 +1,230 @@
+//! Lines are read as commands.
+
+const NAME_LIMIT: usize = 32;
+const VALUE_LIMIT: usize = 1024;
+
+/// What an actor asks for.
+pub enum Command<'a> {
+    /// A topic to be opened.
+    Open {
+        topic: &'a [u8],
+        making: Making<'a>,
+    },
+    /// Something on a topic.
+    On {
+        topic: &'a [u8],
+        verb: Verb<'a>,
+    },
+    List,
+    Quit,
+}
+
+pub enum Making<'a> {
+    Broadcast { capacity: u64, base: u64 },
+    Watch { value: &'a [u8] },
+}
+
+/// What is asked of a topic.
+pub enum Verb<'a> {
+    /// Of a topic of any kind.
+    Any(Any<'a>),
+    /// Of a broadcast topic, by a receiver.
+    Receive(Receive),
+    /// Of a broadcast topic, by any sender.
+    Queued,
+    /// Of a broadcast topic, for a receiver.
+    SubOldest,
+    /// Of a watch topic, by a receiver.
+    Look(Look),
+    /// Of a watch topic, by a sender.
+    Write(Change, &'a [u8]),
+}
+
+pub enum Any<'a> {
+    Bind,
+    Unbind,
+    Sub,
+    Unsub,
+    Pub { value: &'a [u8] },
+    Readers,
+    End,
+}
+
+pub enum Receive {
+    Try,
+    Next,
+    Resub,
+    Left,
+}
+
+pub enum Look {
+    Get,
+    Take,
+    Has,
+    TryChanged,
+    Changed,
+    Mark,
+    Unmark,
+}
+
+pub enum Change {
+    Swap,
+    Set,
+    Differ,
+    Quiet,
+}
+
+/// The bytes up to the next space, and those after it.
+fn split_field(bytes: &[u8]) -> Option<(&[u8], &[u8])> {
+    let at = bytes.iter().position(|&b| b == b' ')?;
+    Some((&bytes[..at], &bytes[at + 1..]))
+}
+
+/// Whether a name may have the byte.
+const NAME_BYTES: [bool; 256] = {
+    let mut table = [false; 256];
+    let bytes = b"abcdefghijklmnopqrstuvwxyz0123456789_-";
+    let mut at = 0;
+    while at < bytes.len() {
+        table[bytes[at] as usize] = true;
+        at += 1;
+    }
+    table
+};
+
+/// The name that stands in front, and the bytes behind it.
+fn split_name(bytes: &[u8]) -> Option<(&[u8], &[u8])> {
+    let end = bytes.iter().position(|&b| !NAME_BYTES[usize::from(b)]);
+    let (name, rest) = bytes.split_at(end.unwrap_or(bytes.len()));
+    (1..=NAME_LIMIT)
+        .contains(&name.len())
+        .then_some((name, rest))
+}
+
+/// The name in front of a space, and the bytes behind that.
+fn name_field(bytes: &[u8]) -> Option<(&[u8], &[u8])> {
+    let (name, rest) = split_name(bytes)?;
+    Some((name, rest.strip_prefix(b" ")?))
+}
+
+fn name(bytes: &[u8]) -> Option<&[u8]> {
+    let (name, rest) = split_name(bytes)?;
+    rest.is_empty().then_some(name)
+}
+
+/// A number without a sign and without leading zeros.
+fn number(bytes: &[u8]) -> Option<u64> {
+    if bytes.is_empty() || (bytes[0] == b'0' && bytes.len() > 1) {
+        return None;
+    }
+    bytes.iter().try_fold(0u64, |n, &b| {
+        let digit = b.is_ascii_digit().then(|| u64::from(b - b'0'))?;
+        n.checked_mul(10)?.checked_add(digit)
+    })
+}
+
+fn value(bytes: &[u8]) -> Option<&[u8]> {
+    ((1..=VALUE_LIMIT).contains(&bytes.len()) && !bytes.contains(&b'\r')).then_some(bytes)
+}
+
+/// What follows `OPEN`.
+fn open(rest: &[u8]) -> Option<Command<'_>> {
+    let (topic, rest) = name_field(rest)?;
+    let making = match split_field(rest)? {
+        (b"B", rest) => {
+            let (capacity, base) = match split_field(rest) {
+                None => (rest, 0),
+                Some((capacity, rest)) => (capacity, number(rest.strip_prefix(b"AT ")?)?),
+            };
+            let capacity = number(capacity)?;
+            Making::Broadcast { capacity, base }
+        }
+        (b"W", rest) => Making::Watch {
+            value: value(rest)?,
+        },
+        _ => return None,
+    };
+    Some(Command::Open { topic, making })
+}
+
+/// What follows the word of a command that has a topic alone.
+fn named<'a>(rest: &'a [u8], verb: Verb<'a>) -> Option<Command<'a>> {
+    let topic = name(rest)?;
+    Some(Command::On { topic, verb })
+}
+
+/// What follows `SUB`.
+fn subscribe(rest: &[u8]) -> Option<Command<'_>> {
+    match name_field(rest) {
+        None => named(rest, Verb::Any(Any::Sub)),
+        Some((topic, b"OLDEST")) => Some(Command::On {
+            topic,
+            verb: Verb::SubOldest,
+        }),
+        Some(_) => None,
+    }
+}
+
+/// What follows the word of a command that has a topic and a value.
+fn valued<'a>(rest: &'a [u8], verb: impl Fn(&'a [u8]) -> Verb<'a>) -> Option<Command<'a>> {
+    let (topic, rest) = name_field(rest)?;
+    let verb = verb(value(rest)?);
+    Some(Command::On { topic, verb })
+}
+
+/// What follows `EDIT`.
+fn edit(rest: &[u8]) -> Option<Command<'_>> {
+    let (topic, rest) = name_field(rest)?;
+    let (form, rest) = split_field(rest)?;
+    let change = match form {
+        b"SET" => Change::Set,
+        b"DIFFER" => Change::Differ,
+        b"QUIET" => Change::Quiet,
+        _ => return None,
+    };
+    let verb = Verb::Write(change, value(rest)?);
+    Some(Command::On { topic, verb })
+}
+
+/// The command of a word and what follows it.
+fn command<'a>(word: &[u8], rest: &'a [u8]) -> Option<Command<'a>> {
+    match word {
+        b"PUB" => valued(rest, |value| Verb::Any(Any::Pub { value })),
+        b"TRY" => named(rest, Verb::Receive(Receive::Try)),
+        b"OPEN" => open(rest),
+        b"BIND" => named(rest, Verb::Any(Any::Bind)),
+        b"UNBIND" => named(rest, Verb::Any(Any::Unbind)),
+        b"SUB" => subscribe(rest),
+        b"UNSUB" => named(rest, Verb::Any(Any::Unsub)),
+        b"READERS" => named(rest, Verb::Any(Any::Readers)),
+        b"END" => named(rest, Verb::Any(Any::End)),
+        b"NEXT" => named(rest, Verb::Receive(Receive::Next)),
+        b"RESUB" => named(rest, Verb::Receive(Receive::Resub)),
+        b"LEFT" => named(rest, Verb::Receive(Receive::Left)),
+        b"QUEUED" => named(rest, Verb::Queued),
+        b"GET" => named(rest, Verb::Look(Look::Get)),
+        b"TAKE" => named(rest, Verb::Look(Look::Take)),
+        b"HAS" => named(rest, Verb::Look(Look::Has)),
+        b"TRYCHANGED" => named(rest, Verb::Look(Look::TryChanged)),
+        b"CHANGED" => named(rest, Verb::Look(Look::Changed)),
+        b"MARK" => named(rest, Verb::Look(Look::Mark)),
+        b"UNMARK" => named(rest, Verb::Look(Look::Unmark)),
+        b"SWAP" => valued(rest, |value| Verb::Write(Change::Swap, value)),
+        b"EDIT" => edit(rest),
+        _ => None,
+    }
+}
+
+/// The actor and the command of a line.
+pub fn step(line: &[u8]) -> Option<(&[u8], Command<'_>)> {
+    let (actor, rest) = name_field(line)?;
+    let command = match rest {
+        b"LIST" => Command::List,
+        b"QUIT" => Command::Quit,
+        _ => {
+            let (word, rest) = split_field(rest)?;
+            command(word, rest)?
+        }
+    };
+    Some((actor, command))
+}

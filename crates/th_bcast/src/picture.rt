@@ -1,0 +1,158 @@
+//! A channel's picture as plain data: a channel can be made from it, and each of its parts read.
+ghost use Rattle.std.specs.Prelude.{◌≡◌, length, slice_get, IfOk, IfErr};
+ghost use Rattle.std.specs.Option.{option_copied, option_map};
+ghost use Rattle.th_model.specs.Places.{place_of};
+ghost use Rattle.th_model.specs.Window.{value_at};
+ghost use Rattle.th_model.specs.BroadcastPicture.{picture_of, IsSound};
+ghost use Rattle.th_shelf.specs.Receiving as receivers;
+ghost use Rattle.th_bcast.specs.Telling as senders;
+
+use crate::broadcast::Broadcast;
+use std::alloc::Global;
+use std::collections::BTreeSet;
+use std::marker::{Model, PhantomData};
+use std::ops::Bound;
+use th_model::{RxId, Short, TxId};
+use th_shelf::{Shelf, WindowParts};
+
+/// A sound picture, as plain data.
+#[derive(Drop)]
+pub struct PictureParts<T> {
+    // The kept values, and the place of each live receiver.
+    pub(crate) window: WindowParts<T>,
+    // The numbers of the live senders.
+    pub(crate) senders: BTreeSet<u64>,
+    // The next handle number.
+    pub(crate) next: u64,
+}
+
+impl<T> Model for PictureParts<T> {
+    ghost use Rattle.th_model.specs.BroadcastPicture.{Picture, IsSound, picture_of};
+
+    ghost Value = { Picture T };
+
+    ghost view = { λ a. picture_of a.window a.senders.keys a.next };
+
+    ghost invariant = { λ a. IsSound (picture_of a.window a.senders.keys a.next) };
+}
+
+impl<T> PictureParts<T> {
+    /// The picture of this window, these senders, and the next handle number.
+    pub fn new(window: WindowParts<T>, senders: BTreeSet<u64>, next: u64) -> PictureParts<T>
+        requires { IsSound (picture_of window senders.keys next) }
+        ensures { result ≡ picture_of window senders.keys next }
+    {
+        PictureParts {
+            window,
+            senders,
+            next,
+        }
+    }
+}
+
+impl<T: Clone, S: Shelf<T> + Drop> Broadcast<T, S> {
+    /// A channel that looks like this. Where memory is refused, the parts come back.
+    pub fn from_picture(
+        alloc: Global,
+        parts: PictureParts<T>,
+    ) -> Result<Self, Short<PictureParts<T>>>
+        ensures ok { IfOk result (λ channel. channel ≡ parts) }
+        ensures short { IfErr result (λ short. short.call ≡ parts) }
+    {
+        match S::from_window(alloc, parts.window) {
+            Ok(shelf) => Ok(Broadcast {
+                shelf,
+                senders: parts.senders,
+                next: parts.next,
+                of: PhantomData,
+            }),
+            Err(short) => Err(Short {
+                call: PictureParts {
+                    window: short.call,
+                    senders: parts.senders,
+                    next: parts.next,
+                },
+            }),
+        }
+    }
+
+    /// The most values that are kept.
+    pub fn capacity(&self) -> u64
+        ensures { result ≡ self.now.window.capacity }
+    {
+        self.shelf.capacity()
+    }
+
+    /// The position of the next value.
+    pub fn tail(&self) -> u64
+        ensures { result ≡ self.now.window.tail }
+    {
+        self.shelf.tail()
+    }
+
+    /// The least kept position, or the tail where none is kept.
+    pub fn low(&self) -> u64
+        ensures { result ≡ self.now.window.low }
+    {
+        self.shelf.low()
+    }
+
+    /// The value at a position, which is there exactly where the position is kept.
+    pub fn value(&self, position: u64) -> Option<&T>
+        ensures { option_copied result ≡ value_at self.now.window position }
+    {
+        self.shelf.value(position)
+    }
+
+    /// The number of live receivers.
+    pub fn receiver_count(&self) -> u64
+        ensures { result ≡ length self.now.window.places }
+    {
+        self.shelf.readers()
+    }
+
+    /// The position that a receiver reads next; `None` for a number that is no live receiver's.
+    pub fn place(&self, rx: RxId) -> Option<u64>
+        ensures { result ≡ place_of self.now.window.places rx.0 }
+    {
+        self.shelf.place(rx)
+    }
+
+    /// The receiver with the lowest number above `after`, or of all, and its place.
+    pub fn next_receiver(&self, after: Option<RxId>) -> Option<(RxId, u64)>
+        ensures { option_map (λ r. (r.0.0, r.1)) result
+            ≡ slice_get (receivers.above (option_map (λ rx. rx.0) after) self.now.window.places) 0 }
+    {
+        self.shelf.next_reader(after)
+    }
+
+    /// The number of live senders.
+    pub fn sender_count(&self) -> u64
+        ensures { result ≡ length self.now.senders }
+    {
+        self.senders.len() as u64
+    }
+
+    /// The sender with the lowest number above `after`, or of all. Logarithmic in live senders.
+    pub fn next_sender(&self, after: Option<TxId>) -> Option<TxId>
+        ensures { option_map (λ tx. tx.0) result
+            ≡ slice_get (senders.above (option_map (λ tx. tx.0) after) self.now.senders) 0 }
+    {
+        let start = match after {
+            Some(tx) => Bound::Excluded(tx.0),
+            None => Bound::Unbounded,
+        };
+        match self.senders.range((start, Bound::Unbounded)).next() {
+            Some(tx) => Some(TxId(*tx)),
+            None => None,
+        }
+    }
+
+    /// The number that the next handle gets.
+    pub fn next_number(&self) -> u64
+        ensures next { result ≡ self.now.next }
+        ensures sound { IsSound self.now }
+    {
+        self.next
+    }
+}

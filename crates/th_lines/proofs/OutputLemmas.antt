@@ -1,0 +1,160 @@
+-- Replies that wait, and what is written of them.
+use Rattle.std.proofs.Common.{◌≡◌, ℕ, ◌+◌, ◌-◌, ◌<◌, List, [], ◌++◌, length, take, drop, refl, sym, ap, ◌∙◌, append_assoc, append-nil, arith, Option, Ok, Err, subst, length-drop, take-append-drop}
+use Rattle.std.specs.Prelude.{Result}
+use Rattle.std.specs.Io.KnownBytes.{Appends, Keeps}
+use Rattle.std.proofs.KnownBytes.{Appends-nil, Appends-trans, Appends-kept}
+use Rattle.std.proofs.Math.Seq.{take-add}
+use Rattle.std.proofs.lemmas.List.{take_all}
+use Rattle.std.specs.List.{concat}
+use Rattle.std.proofs.lemmas.List.Folds.{concat-append}
+use Rattle.th_lines.specs.Device.{one_more}
+use Rattle.th_lines.specs.declared.reply.Reply.{Reply}
+use Rattle.th_lines.specs.Replies.{line_at, reply_lines, spell}
+use Rattle.th_lines.specs.Output.{Output, WritesAll, WritesFront, Adds, Writes, AddsOrFails, Flushes}
+use Rattle.th_lines.proofs.ReplyLemmas.{lines-more}
+
+-- nothing came
+pub adds_none : (o : Output) → Adds [] o o
+adds_none o = record { shown = []; wrote = Appends-nil o.written; text = append-nil o.waiting; same = refl }
+
+-- bytes were put behind those that wait
+pub adds_waiting : (o : Output) (bytes waiting : List ℕ) → waiting ≡ o.waiting ++ bytes
+    → Adds bytes o (record o { waiting = waiting })
+adds_waiting o bytes waiting e = record { shown = []; wrote = Appends-nil o.written; text = sym e; same = refl }
+
+-- one after the other
+pub adds_both : {a b c : Output} {x y : List ℕ} → Adds x a b → Adds y b c → Adds (x ++ y) a c
+adds_both {a} {b} {c} {x} {y} p q = record {
+  shown = p.shown ++ q.shown;
+  wrote = Appends-trans a.written b.written c.written p.shown q.shown p.wrote q.wrote;
+  text =
+      let e1 : a.waiting ++ (x ++ y) ≡ (a.waiting ++ x) ++ y = sym (append_assoc a.waiting x y) in
+      let e2 : (a.waiting ++ x) ++ y ≡ (p.shown ++ b.waiting) ++ y = ap (λ (l : List ℕ). l ++ y) p.text in
+      let e3 : (p.shown ++ b.waiting) ++ y ≡ p.shown ++ (b.waiting ++ y) = append_assoc p.shown b.waiting y in
+      let e4 : p.shown ++ (b.waiting ++ y) ≡ p.shown ++ (q.shown ++ c.waiting) =
+      ap (λ (l : List ℕ). p.shown ++ l) q.text in
+      e1 ∙ e2 ∙ e3 ∙ e4 ∙ sym (append_assoc p.shown q.shown c.waiting);
+  same = q.same ∙ p.same;
+}
+
+-- all that waited was written
+pub flushed_adds : {o n : Output} → WritesAll o.waiting o n → n.waiting ≡ [] → Adds [] o n
+flushed_adds {o} {n} p none = record {
+  shown = o.waiting;
+  wrote = p.wrote;
+  text = ap (λ (l : List ℕ). o.waiting ++ l) (sym none);
+  same = p.same;
+}
+
+-- nothing waited before, and nothing waits now: all was written
+pub adds_all : {o n : Output} {bytes : List ℕ} → o.waiting ≡ [] → n.waiting ≡ [] → Adds bytes o n → WritesAll bytes o n
+adds_all {o} {n} {bytes} none nothing p =
+    let text : p.shown ≡ bytes =
+    sym (append-nil p.shown) ∙ ap (λ (l : List ℕ). p.shown ++ l) (sym nothing) ∙ sym p.text ∙ ap (λ (l : List ℕ). l ++ bytes) none in
+    record { wrote = subst (λ (l : List ℕ). Appends o.written n.written l) text p.wrote; same = p.same }
+
+-- what was written, and then what came and was flushed
+pub adds_flushed : {a b c : Output} {bytes : List ℕ} → Adds bytes a b → WritesAll b.waiting b c → WritesAll (a.waiting ++ bytes) a c
+adds_flushed {a} {b} {c} {bytes} p q = record {
+  wrote = subst (λ (l : List ℕ). Appends a.written c.written l) (sym p.text)
+      (Appends-trans a.written b.written c.written p.shown b.waiting p.wrote q.wrote);
+  same = q.same ∙ p.same;
+}
+
+-- a front of some bytes is one of more
+pub front_more : {o n : Output} {bytes : List ℕ} → (more : List ℕ) → WritesFront bytes o n → WritesFront (bytes ++ more) o n
+front_more {o} {n} {bytes} more f = record {
+  shown = f.shown;
+  unsaid = f.unsaid ++ more;
+  wrote = f.wrote;
+  text = sym (append_assoc f.shown f.unsaid more) ∙ ap (λ (l : List ℕ). l ++ more) f.text;
+  failed = f.failed;
+}
+
+pub front_as : {o n : Output} {bytes same : List ℕ} → bytes ≡ same → WritesFront bytes o n → WritesFront same o n
+front_as {o} {n} {bytes} {same} e f = record { shown = f.shown; unsaid = f.unsaid; wrote = f.wrote; text = f.text ∙ e; failed = f.failed }
+
+pub front_after : {a b c : Output} {x : List ℕ} (y : List ℕ) → Adds x a b → WritesFront (b.waiting ++ y) b c → WritesFront (a.waiting ++ (x ++ y)) a c
+front_after {a} {b} {c} {x} y p q = record {
+  shown = p.shown ++ q.shown;
+  unsaid = q.unsaid;
+  wrote = Appends-trans a.written b.written c.written p.shown q.shown p.wrote q.wrote;
+  text =
+      let e1 : (p.shown ++ q.shown) ++ q.unsaid ≡ p.shown ++ (q.shown ++ q.unsaid) = append_assoc p.shown q.shown q.unsaid in
+      let e2 : p.shown ++ (q.shown ++ q.unsaid) ≡ p.shown ++ (b.waiting ++ y) = ap (λ (l : List ℕ). p.shown ++ l) q.text in
+      let e3 : p.shown ++ (b.waiting ++ y) ≡ (p.shown ++ b.waiting) ++ y = sym (append_assoc p.shown b.waiting y) in
+      let e4 : (p.shown ++ b.waiting) ++ y ≡ (a.waiting ++ x) ++ y = ap (λ (l : List ℕ). l ++ y) (sym p.text) in
+      e1 ∙ e2 ∙ e3 ∙ e4 ∙ append_assoc a.waiting x y;
+  failed = q.failed ∙ ap one_more p.same;
+}
+
+-- a front of what waits, whatever comes behind it
+pub waiting_front : {a b c : Output} {x : List ℕ} → Adds x a b → WritesFront b.waiting b c → WritesFront (a.waiting ++ x) a c
+waiting_front {a} {b} {c} {x} p q =
+    front_as (ap (λ (l : List ℕ). a.waiting ++ l) (append-nil x)) (front_after [] p (front_more [] q))
+
+-- by the result: what was flushed came to nothing more
+pub flushes_add : {A E : Type 0} (o n : Output) (r : Result A E) → Flushes o n r → AddsOrFails [] o n r
+flushes_add o n (Ok a) f = flushed_adds f.0 f.1
+flushes_add o n (Err e) f = front_as (sym (append-nil o.waiting)) f
+
+-- all that waited was written, and then the writer was flushed
+pub flushes_both : {A E : Type 0} (o n c : Output) (r : Result A E) → WritesAll o.waiting o n → c.waiting ≡ []
+    → Writes [] (record n { waiting = [] }) (record c { waiting = [] }) r → Flushes o c r
+flushes_both o n c (Ok a) p none q = (
+  record {
+    wrote = subst (λ (l : List ℕ). Appends o.written c.written l) (append-nil o.waiting)
+        (Appends-trans o.written n.written c.written o.waiting [] p.wrote q.wrote);
+    same = q.same ∙ p.same;
+  },
+  none,
+)
+flushes_both o n c (Err e) p none q = record {
+  shown = o.waiting ++ q.shown;
+  unsaid = q.unsaid;
+  wrote = Appends-trans o.written n.written c.written o.waiting q.shown p.wrote q.wrote;
+  text = append_assoc o.waiting q.shown q.unsaid ∙ ap (λ (l : List ℕ). o.waiting ++ l) q.text ∙ append-nil o.waiting;
+  failed = q.failed ∙ ap one_more p.same;
+}
+
+-- a reply whose first k lines were put behind what waited, and one line more
+pub adds_line : (a b c : Output) (reply : Reply) (k : ℕ) (waiting : List ℕ) → k < length (reply_lines reply)
+    → Adds (concat (take k (reply_lines reply))) a b → Adds [] b c → waiting ≡ c.waiting ++ line_at reply k
+    → Adds (concat (take (k + 1) (reply_lines reply))) a (record c { waiting = waiting })
+adds_line a b c reply k waiting within p q e =
+    let front : List ℕ = concat (take k (reply_lines reply)) in
+    let now : Output = record c { waiting = waiting } in
+    let all : Adds ((front ++ []) ++ line_at reply k) a now = adds_both (adds_both p q) (adds_waiting c (line_at reply k) waiting e) in
+    subst (λ (t : List ℕ). Adds t a now)
+    (ap (λ (t : List ℕ). t ++ line_at reply k) (append-nil front) ∙ sym (lines-more reply k within)) all
+
+-- the writer failed after them
+pub front_line : (a b c : Output) (reply : Reply) (k : ℕ) → Adds (concat (take k (reply_lines reply))) a b
+    → WritesFront (b.waiting ++ []) b c → WritesFront (a.waiting ++ spell reply) a c
+front_line a b c reply k p f =
+    let rest : List ℕ = concat (drop k (reply_lines reply)) in
+    let whole : concat (take k (reply_lines reply)) ++ rest ≡ spell reply =
+    sym (concat-append (take k (reply_lines reply)) (drop k (reply_lines reply)))
+    ∙ ap concat (take-append-drop k (reply_lines reply)) in
+    front_as (ap (λ (t : List ℕ). a.waiting ++ t) whole)
+    (front_after rest p (front_as (ap (λ (l : List ℕ). l ++ rest) (append-nil b.waiting)) (front_more rest f)))
+
+-- a write in parts
+pub range_rest : (bytes : List ℕ) (i : ℕ) → take (length bytes - i) (drop i bytes) ≡ drop i bytes
+range_rest bytes i = take_all (length bytes - i) (drop i bytes) (omega (arith, length-drop i bytes))
+
+pub write_next : (a b c : Option (List ℕ)) (bytes : List ℕ) (i n : ℕ) → Appends a b (take i bytes)
+    → Appends b c (take n (take (length bytes - i) (drop i bytes))) → Appends a c (take (i + n) bytes)
+write_next a b c bytes i n p q =
+    subst (λ (t : List ℕ). Appends a c t) (sym (take-add i n bytes))
+    (Appends-trans a b c (take i bytes) (take n (drop i bytes)) p (subst (λ (t : List ℕ). Appends b c (take n t)) (range_rest bytes i) q))
+
+pub write_failed : (o n : Output) (b : Option (List ℕ)) (bytes : List ℕ) (i : ℕ) → Appends o.written b (take i bytes)
+    → Keeps b n.written → n.failures ≡ one_more o.failures → WritesFront bytes o n
+write_failed o n b bytes i p k f = record {
+  shown = take i bytes;
+  unsaid = drop i bytes;
+  wrote = Appends-kept o.written b n.written (take i bytes) p k;
+  text = take-append-drop i bytes;
+  failed = f;
+}

@@ -1,0 +1,140 @@
+-- How a run of lines goes on, step after step.
+use Rattle.std.proofs.Common.{◌≡◌, ℕ, ◌+◌, Bool, true, false, List, [], ◌∷◌, ◌++◌, length, refl, sym, ap, ◌∙◌, append_assoc, append-nil, arith, length-append, add-zero, subst}
+use Rattle.std.specs.Io.KnownBytes.{Appends}
+use Rattle.std.proofs.KnownBytes.{Appends-trans}
+use Rattle.th_lines.specs.Intake.{Came, Reading, Finds, IsSameLine, lines_after}
+use Rattle.th_lines.specs.Lines.{Line, line_of, lines_from}
+use Rattle.th_lines.specs.Output.{Output, Adds, WritesAll, WritesFront}
+use Rattle.th_lines.specs.Replies.{spell}
+use Rattle.th_lines.specs.Standing.{Standing, Turned, Advances, Stops, Ended, spellings}
+use Rattle.th_lines.specs.declared.reply.Reply.{Reply}
+use Rattle.th_lines.proofs.LineLemmas.{lines_from-same}
+use Rattle.th_lines.proofs.OutputLemmas.{adds_none, adds_both, front_after, front_as}
+
+pub spellings-append : (a b : List Reply) → spellings (a ++ b) ≡ spellings a ++ spellings b
+spellings-append [] b = refl
+spellings-append (r ∷ a) b =
+    ap (λ (l : List ℕ). spell r ++ l) (spellings-append a b) ∙ sym (append_assoc (spell r) (spellings a) (spellings b))
+
+-- what was written ends so after something came behind what waited
+pub ended_after : (whole : Bool) {a b : Output} {x : List ℕ} (c : Output) (y : List ℕ) → Adds x a b → Ended whole (b.waiting ++ y) b c → Ended whole (a.waiting ++ (x ++ y)) a c
+ended_after true {a} {b} {x} c y p q = record {
+  wrote =
+      let e1 : p.shown ++ (b.waiting ++ y) ≡ (p.shown ++ b.waiting) ++ y = sym (append_assoc p.shown b.waiting y) in
+      let e2 : (p.shown ++ b.waiting) ++ y ≡ (a.waiting ++ x) ++ y = ap (λ (l : List ℕ). l ++ y) (sym p.text) in
+      subst (λ (l : List ℕ). Appends a.written c.written l) (e1 ∙ e2 ∙ append_assoc a.waiting x y)
+      (Appends-trans a.written b.written c.written p.shown (b.waiting ++ y) p.wrote q.wrote);
+  same = q.same ∙ p.same;
+}
+ended_after false c y p q = front_after y p q
+
+pub ended_as : (whole : Bool) (o n : Output) {bytes same : List ℕ} → bytes ≡ same → Ended whole bytes o n → Ended whole same o n
+ended_as true o n e q = record { wrote = subst (λ (l : List ℕ). Appends o.written n.written l) e q.wrote; same = q.same }
+ended_as false o n e q = front_as e q
+
+module _ {S : Type 0} (turn : S → Line → Reply → S → Type 0) where
+  pub turned-append : (xs ys : List Line) (s m e : S) (a b : List Reply) → Turned turn xs s a m → Turned turn ys m b e → Turned turn (xs ++ ys) s (a ++ b) e
+  turned-append [] ys s m e [] b p q = subst (λ (t : S). Turned turn ys t b e) p q
+  turned-append [] ys s m e (r ∷ a) b p q = absurd p
+  turned-append (x ∷ xs) ys s m e [] b p q = absurd p
+  turned-append (x ∷ xs) ys s m e (r ∷ a) b p q = (p.0, p.1, turned-append xs ys p.0 m e a b p.2 q)
+
+module _ {S : Type 0} {turn : S → Line → Reply → S → Type 0} where
+  -- the lines are the same, and no reply was given
+  quietly : (old : Standing S) (bytes : List ℕ) (came : Came) (out : Output)
+      → ((ended : Bool) (more : List ℕ) → lines_after ended old.came (bytes ++ more) ≡ lines_after ended came more)
+      → Adds [] old.out out → Advances turn old bytes (record old { came = came; out = out })
+  quietly old bytes came out lines said = record {
+    done = [];
+    replies = [];
+    lines = lines;
+    turned = refl;
+    counted = sym (add-zero old.answered);
+    bound = refl;
+    said = said;
+  }
+
+  -- nothing was done
+  pub stands : (o : Standing S) → Advances turn o [] o
+  stands o = quietly o [] o.came o.out (λ ended more. refl) (adds_none o.out)
+
+  -- what waited was written, or some of it
+  pub writes_on : (o : Standing S) (out : Output) → Adds [] o.out out → Advances turn o [] (record o { out = out })
+  writes_on o out said = quietly o [] o.came out (λ ended more. refl) said
+
+  -- one step after another
+  pub both : {a b c : Standing S} {x y : List ℕ} → Advances turn a x b → Advances turn b y c → Advances turn a (x ++ y) c
+  both {a} {b} {c} {x} {y} p q = record {
+    done = p.done ++ q.done;
+    replies = p.replies ++ q.replies;
+    lines = λ ended more. ap (λ (l : List ℕ). lines_after ended a.came l) (append_assoc x y more) ∙ p.lines ended (y ++ more)
+        ∙ ap (λ (l : List Line). p.done ++ l) (q.lines ended more) ∙ sym (append_assoc p.done q.done _);
+    turned = turned-append turn p.done q.done a.state b.state c.state p.replies q.replies p.turned q.turned;
+    counted = omega (arith, length-append p.done q.done, p.counted, q.counted);
+    bound = q.bound ∙ p.bound;
+    said = subst (λ (t : List ℕ). Adds t a.out c.out) (sym (spellings-append p.replies q.replies)) (adds_both p.said q.said);
+  }
+
+  -- a line was handed out, and answered
+  pub answers_line : (old : Standing S) (mid : Reading) (reply : Reply) (s : S) (out : Output) → Finds old.came true mid
+      → turn old.state (line_of true mid.line) reply s → Adds (spell reply) old.out out
+      → Advances turn old [] (record old { state = s; came = mid.came; answered = old.answered + 1; out = out })
+  answers_line old mid reply s out found t said = record {
+    done = line_of true mid.line ∷ [];
+    replies = reply ∷ [];
+    lines = λ ended more. found.1 ended more;
+    turned = (s, t, refl);
+    counted = refl;
+    bound = refl;
+    said = subst (λ (l : List ℕ). Adds l old.out out) (sym (append-nil (spell reply))) said;
+  }
+
+  -- no line is whole
+  pub looks_on : (old : Standing S) (mid : Reading) → Finds old.came false mid → Advances turn old [] (record old { came = mid.came })
+  looks_on old mid found = quietly old [] mid.came old.out (λ ended more. found.1 ended more) (adds_none old.out)
+
+  -- bytes came
+  pub takes_on : (old : Standing S) (came : Came) → old.came.ahead ≡ [] → IsSameLine came.begun old.came.begun
+      → Advances turn old came.ahead (record old { came = came })
+  takes_on old came none same = quietly old came.ahead came old.out
+      (λ ended more.
+      ap (λ (l : List ℕ). lines_from ended old.came.begun (l ++ (came.ahead ++ more))) none
+      ∙ sym (lines_from-same ended came.begun old.came.begun (came.ahead ++ more) same))
+      (adds_none old.out)
+
+  -- it stopped after a step
+  unfoldable pub stops_after : {a b : Standing S} {x y : List ℕ} {ended whole : Bool} {s : S} {out : Output}
+      → Advances turn a x b → Stops turn b y ended whole s out → Stops turn a (x ++ y) ended whole s out
+  stops_after {a} {b} {x} {y} {ended} {whole} {s} {out} p q = record {
+    done = p.done ++ q.done;
+    later = q.later;
+    replies = p.replies ++ q.replies;
+    lines = p.lines ended y ∙ ap (λ (l : List Line). p.done ++ l) q.lines ∙ sym (append_assoc p.done q.done q.later);
+    turned = turned-append turn p.done q.done a.state b.state s p.replies q.replies p.turned q.turned;
+    said = ended_as whole a.out out (ap (λ (l : List ℕ). a.out.waiting ++ l) (sym (spellings-append p.replies q.replies)))
+        (ended_after whole out (spellings q.replies) p.said q.said);
+  }
+
+  -- it stopped before any further line
+  unfoldable pub stops_here : (o : Standing S) (bytes : List ℕ) (ended whole : Bool) (out : Output) → Ended whole o.out.waiting o.out out → Stops turn o bytes ended whole o.state out
+  stops_here o bytes ended whole out said = record {
+    done = [];
+    later = lines_after ended o.came bytes;
+    replies = [];
+    lines = refl;
+    turned = refl;
+    said = ended_as whole o.out out (sym (append-nil o.out.waiting)) said;
+  }
+
+  -- it stopped with the reply to a line
+  unfoldable pub stops_at : (o : Standing S) (bytes : List ℕ) (ended whole : Bool) (line : Line) (later : List Line) (reply : Reply) (s : S) (out : Output)
+      → lines_after ended o.came bytes ≡ line ∷ later → turn o.state line reply s → Ended whole (o.out.waiting ++ spell reply) o.out out
+      → Stops turn o bytes ended whole s out
+  stops_at o bytes ended whole line later reply s out e t said = record {
+    done = line ∷ [];
+    later = later;
+    replies = reply ∷ [];
+    lines = e;
+    turned = (s, t, refl);
+    said = ended_as whole o.out out (ap (λ (l : List ℕ). o.out.waiting ++ l) (sym (append-nil (spell reply)))) said;
+  }

@@ -1,0 +1,193 @@
+//! Bytes that a reader gives, and the lines that are found in them.
+ghost use Rattle.std.specs.Prelude.{◌≡◌, [], true, false, ◌<◌, ◌+◌, ◌≤◌, IfOk, drop, length, slice_range, take};
+ghost use Rattle.th_lines.specs.Device.{ReadMoved, bytes_moved, failures_after, one_more};
+ghost use Rattle.th_lines.specs.Intake.{Ends, Fills, Finds, IsSameLine, Reading, line_given, nothing_came, nothing_read};
+ghost use Rattle.th_lines.specs.Lines.{line_of};
+
+use crate::counted::{Counted, Moved};
+use crate::cut::{LINE_KEPT, LINE_LIMIT, keep_begun, line_end, without_cr};
+use std::alloc::{AllocError, Global};
+use std::io::Read;
+use std::marker::Model;
+
+/// How many bytes are asked for in one read.
+const CHUNK: usize = 65536;
+
+/// What came of the input and is not answered yet.
+///
+/// A line is lent from the buffer that the reader filled, and its bytes are not copied. What came of a line by the end of
+/// a read is moved to before the place that the next read fills, so that every line lies in one piece; at most 4,097
+/// bytes are moved, enough to show that a line is too long. All memory is made by `new`.
+#[derive(Drop)]
+pub struct Intake {
+    // The last read filled this from byte `LINE_KEPT` on. Before it stands what an earlier read gave of the line that it
+    // goes on with.
+    buffer: Vec<u8>,
+    // The line that was handed out last is `buffer[line_from..line_to]`. It is empty after a read.
+    line_from: usize,
+    line_to: usize,
+    // Of the line after it `buffer[begun..ahead_from]` was looked at and has no LF.
+    begun: usize,
+    // Nobody looked at `buffer[ahead_from..ahead_to]` yet.
+    ahead_from: usize,
+    ahead_to: usize,
+}
+
+impl Model for Intake {
+    ghost use Rattle.std.specs.Prelude.{length, slice_range};
+    ghost use Rattle.th_lines.specs.Intake.{IsPlaced, Reading};
+
+    ghost Value = { Reading };
+
+    ghost view = { λ i. record {
+      line = slice_range i.buffer.items i.line_from i.line_to;
+      came = record {
+        begun = slice_range i.buffer.items i.begun i.ahead_from;
+        ahead = slice_range i.buffer.items i.ahead_from i.ahead_to;
+      };
+    } };
+
+    ghost invariant = { λ i. IsPlaced
+        (length i.buffer.items) i.line_from i.line_to i.begun i.ahead_from i.ahead_to };
+}
+
+impl Intake {
+    /// Nothing came yet.
+    pub fn new(alloc: Global) -> Result<Intake, AllocError>
+        ensures { IfOk result (λ i. i ≡ nothing_read) }
+    {
+        let buffer = vec![in alloc; 0u8; LINE_KEPT + CHUNK]?;
+        Ok(Intake {
+            buffer,
+            line_from: 0,
+            line_to: 0,
+            begun: LINE_KEPT,
+            ahead_from: LINE_KEPT,
+            ahead_to: LINE_KEPT,
+        })
+    }
+
+    /// Looks for the end of the next line among the bytes ahead, and answers whether the line is whole. It is handed out
+    /// then, and [`line`](Intake::line) lends it until the next line is looked for. Every byte is looked at once.
+    #[inline(always)]
+    pub fn next_line(&mut self) -> bool
+        ensures { Finds self.old.came result self.new }
+    {
+        let Some(count) = line_end(&self.buffer[self.ahead_from..self.ahead_to]) else {
+            self.ahead_from = self.ahead_to;
+            return false;
+        };
+        let end = self.ahead_from + count;
+        self.line_from = self.begun;
+        self.line_to = end;
+        self.begun = end + 1;
+        self.ahead_from = end + 1;
+        true
+    }
+
+    /// Hands out what stands after the last LF at the end of the input, and answers whether anything does.
+    pub fn last_line(&mut self) -> bool
+        requires { self.old.came.ahead ≡ [] }
+        ensures { Ends self.old.came result self.new }
+    {
+        self.line_from = self.begun;
+        self.line_to = self.ahead_from;
+        self.begun = self.ahead_from;
+        self.line_from < self.line_to
+    }
+
+    /// The line that was handed out, without one CR before its LF; `None` where it is too long.
+    #[inline(always)]
+    pub fn line(&self, before_lf: bool) -> Option<&[u8]>
+        ensures { line_given result ≡ line_of before_lf self.now.line }
+    {
+        let line = &self.buffer[self.line_from..self.line_to];
+        if line.len() > LINE_LIMIT {
+            return None;
+        }
+        if before_lf {
+            return Some(without_cr(line));
+        }
+        Some(line)
+    }
+
+    /// Whether nothing came since the last LF.
+    pub fn is_empty(&self) -> bool
+        ensures empty { result ≡ true → self.now.came ≡ nothing_came }
+        ensures some { result ≡ false
+            → 0 < length self.now.came.begun + length self.now.came.ahead }
+    {
+        self.begun == self.ahead_to
+    }
+
+    /// Makes one read, once nothing is ahead. Interrupted, it is to be made again.
+    pub fn fill<R: Read>(&mut self, reader: &mut Counted<R>) -> Moved
+        requires { self.old.came.ahead ≡ [] }
+        ensures filled { Fills
+            (R.remaining reader.old.device) (R.remaining reader.new.device) result
+            self.old.came self.new.came }
+        ensures calls { reader.new.calls ≡ one_more reader.old.calls }
+        ensures failures { reader.new.failures ≡ failures_after reader.old.failures result }
+    {
+        let (begun, moved) = refill(
+            reader,
+            self.buffer.as_mut_slice(),
+            self.begun,
+            self.ahead_from,
+        );
+        self.line_from = 0;
+        self.line_to = 0;
+        self.begun = begun;
+        self.ahead_from = LINE_KEPT;
+        self.ahead_to = LINE_KEPT + bytes_moved(moved);
+        moved
+    }
+}
+
+// How many bytes a call moved.
+fn bytes_moved(moved: Moved) -> usize
+    ensures { result ≡ bytes_moved moved }
+{
+    match moved {
+        Moved::Bytes(count) => count,
+        _ => 0,
+    }
+}
+
+// Moves what came of a line, from `begun` to `end`, to before byte `LINE_KEPT`, and makes one read behind it. Answers
+// where the line begins then.
+fn refill<R: Read>(
+    reader: &mut Counted<R>,
+    buffer: &mut [u8],
+    begun: usize,
+    end: usize,
+) -> (usize, Moved)
+    requires line { begun ≤ end }
+    requires line_end { end ≤ length buffer.old }
+    requires room { LINE_KEPT < length buffer.old }
+    ensures begun { result.0 ≤ LINE_KEPT }
+    ensures kept { IsSameLine
+        (slice_range buffer.new result.0 LINE_KEPT) (slice_range buffer.old begun end) }
+    ensures moved { ReadMoved
+        (R.remaining reader.old.device) (R.remaining reader.new.device) result.1
+        (drop LINE_KEPT buffer.new) }
+    ensures calls { reader.new.calls ≡ one_more reader.old.calls }
+    ensures failures { reader.new.failures ≡ failures_after reader.old.failures result.1 }
+{
+    let begun = keep_begun(buffer, begun, end);
+    let moved = read_behind(reader, buffer, LINE_KEPT);
+    (begun, moved)
+}
+
+// Makes one read into what stands behind the first bytes of the buffer.
+fn read_behind<R: Read>(reader: &mut Counted<R>, buffer: &mut [u8], front: usize) -> Moved
+    requires { front ≤ length buffer.old }
+    ensures kept { take front buffer.new ≡ take front buffer.old }
+    ensures moved { ReadMoved
+        (R.remaining reader.old.device) (R.remaining reader.new.device) result
+        (drop front buffer.new) }
+    ensures calls { reader.new.calls ≡ one_more reader.old.calls }
+    ensures failures { reader.new.failures ≡ failures_after reader.old.failures result }
+{
+    reader.read_some(&mut buffer[front..])
+}

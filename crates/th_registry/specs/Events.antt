@@ -1,0 +1,160 @@
+-- The events of a hub's topics, the channel call that each is, and what comes of it.
+use Rattle.std.specs.Prelude.{ℕ, Bool, true, false, Option, Some, None, Result, Ok, Err}
+use Rattle.th_model.specs.declared.handles.TxId.{TxId}
+use Rattle.th_model.specs.declared.handles.RxId.{RxId}
+use Rattle.th_model.specs.declared.broadcast.BCall.{BCall}
+use Rattle.th_model.specs.declared.broadcast.BCall.TheVariants as BCalls
+use Rattle.th_model.specs.declared.broadcast.BReply.{BReply}
+use Rattle.th_model.specs.declared.broadcast.BReply.TheVariants as BReplies
+use Rattle.th_model.specs.declared.watch.WCall.{WCall}
+use Rattle.th_model.specs.declared.watch.WCall.TheVariants as WCalls
+use Rattle.th_model.specs.declared.watch.WReply.{WReply}
+use Rattle.th_model.specs.declared.watch.WReply.TheVariants as WReplies
+use Rattle.th_model.specs.declared.verb.Question.{Question}
+use Rattle.th_model.specs.declared.verb.ReceiverVerb.{ReceiverVerb}
+use Rattle.th_model.specs.declared.verb.ReceiverVerb.TheVariants as ReceiverVerbs
+use Rattle.th_model.specs.declared.verb.SenderVerb.{SenderVerb}
+use Rattle.th_model.specs.declared.verb.SenderVerb.TheVariants as SenderVerbs
+use Rattle.th_model.specs.declared.verb.Start.{Start}
+use Rattle.th_model.specs.declared.verb.Start.TheVariants.{Tail, Oldest}
+use Rattle.th_registry.specs.declared.outcome.ChannelReply.{ChannelReply}
+use Rattle.th_registry.specs.declared.outcome.ChannelReply.TheVariants.{Broadcast, Watch}
+use Rattle.th_registry.specs.declared.outcome.NoEvent.{NoEvent}
+use Rattle.th_registry.specs.declared.outcome.NoEvent.TheVariants.{NoSender}
+use Rattle.th_registry.specs.Calls.{Bytes, tx, broadcast_by_sender, watch_by_sender, broadcast_asked, watch_asked, broadcast_by_receiver, watch_by_receiver}
+
+-- by which sender: the hub's own, which is sender 1 of each topic, or the asker's
+pub data By : Type 0 where
+  Hub : By
+  Own : TxId → By
+
+abbrev pub sender_of : By → TxId
+sender_of Hub = tx 1
+sender_of (Own t) = t
+
+-- by the asker's own sender, or else by the hub's
+abbrev pub any_sender : Option TxId → By
+any_sender None = Hub
+any_sender (Some t) = Own t
+
+-- One event of a topic. `Resubscribes` is two calls of the channel: a new receiver, then the end of the old one.
+pub data Event : Type 0 where
+  -- a new sender, by the hub's own
+  Binds : Event
+  -- a new receiver, which begins at the tail or at the oldest kept value
+  Subscribes : Start → By → Event
+  Sends : TxId → SenderVerb → Event
+  Asks : By → Question → Event
+  Receives : RxId → ReceiverVerb → Event
+  -- a new receiver for this one, which is spent then
+  Resubscribes : RxId → Event
+  -- the end of a sender, and of a receiver
+  DropsTx : By → Event
+  DropsRx : RxId → Event
+
+-- the call of a broadcast channel, and of a watch channel, if it has one
+abbrev pub broadcast_call : Event → Option (BCall Bytes)
+broadcast_call Binds = Some (BCalls.CloneTx (tx 1))
+broadcast_call (Subscribes Tail by) = Some (BCalls.Subscribe (sender_of by))
+broadcast_call (Subscribes Oldest by) = Some (BCalls.SubscribeOldest (sender_of by))
+broadcast_call (Sends t verb) = broadcast_by_sender verb t
+broadcast_call (Asks by question) = broadcast_asked question (sender_of by)
+broadcast_call (Receives r verb) = broadcast_by_receiver verb r
+broadcast_call (Resubscribes r) = Some (BCalls.Resubscribe r)
+broadcast_call (DropsTx by) = Some (BCalls.DropTx (sender_of by))
+broadcast_call (DropsRx r) = Some (BCalls.DropRx r)
+
+abbrev pub watch_call : Event → Option (WCall Bytes)
+watch_call Binds = Some (WCalls.CloneTx (tx 1))
+watch_call (Subscribes Tail by) = Some (WCalls.Subscribe (sender_of by))
+watch_call (Subscribes Oldest by) = None
+watch_call (Sends t verb) = watch_by_sender verb t
+watch_call (Asks by question) = watch_asked question (sender_of by)
+watch_call (Receives r verb) = watch_by_receiver verb r
+watch_call (Resubscribes r) = None
+watch_call (DropsTx by) = Some (WCalls.DropTx (sender_of by))
+watch_call (DropsRx r) = Some (WCalls.DropRx r)
+
+-- a blocking call waits where its reply would be that there is nothing to tell yet
+abbrev pub broadcast_waits : BCall Bytes → BReply Bytes → Bool
+broadcast_waits (BCalls.Recv r) BReplies.Empty = true
+broadcast_waits call reply = false
+
+abbrev pub watch_waits : WCall Bytes → WReply Bytes → Bool
+watch_waits (WCalls.Changed r) WReplies.NotYet = true
+watch_waits call reply = false
+
+-- what came of an event: a new handle, or another reply of the channel
+pub data Outcome : Type 0 where
+  NewTx : TxId → Outcome
+  NewRx : RxId → Outcome
+  Replied : ChannelReply → Outcome
+
+-- by the reply: the handle of its side that the event was to make
+abbrev pub broadcast_made_tx : BReply Bytes → Outcome
+broadcast_made_tx (BReplies.NewTx t) = NewTx t
+broadcast_made_tx reply = Replied (Broadcast reply)
+
+abbrev pub broadcast_made_rx : BReply Bytes → Outcome
+broadcast_made_rx (BReplies.NewRx r) = NewRx r
+broadcast_made_rx reply = Replied (Broadcast reply)
+
+abbrev pub watch_made_tx : WReply Bytes → Outcome
+watch_made_tx (WReplies.NewTx t) = NewTx t
+watch_made_tx reply = Replied (Watch reply)
+
+abbrev pub watch_made_rx : WReply Bytes → Outcome
+watch_made_rx (WReplies.NewRx r) = NewRx r
+watch_made_rx reply = Replied (Watch reply)
+
+abbrev pub broadcast_outcome : Event → BReply Bytes → Outcome
+broadcast_outcome Binds reply = broadcast_made_tx reply
+broadcast_outcome (Subscribes start by) reply = broadcast_made_rx reply
+broadcast_outcome (Resubscribes r) reply = broadcast_made_rx reply
+broadcast_outcome event reply = Replied (Broadcast reply)
+
+abbrev pub watch_outcome : Event → WReply Bytes → Outcome
+watch_outcome Binds reply = watch_made_tx reply
+watch_outcome (Subscribes start by) reply = watch_made_rx reply
+watch_outcome event reply = Replied (Watch reply)
+
+-- what is said of an event: what came of it, or why there was none
+abbrev pub Told : Type 0
+Told = Result Outcome NoEvent
+
+-- by the hub's own sender: where that is not live, there is no sender to go through
+abbrev pub through_hub : Told → Told
+through_hub (Ok (Replied (Broadcast (BReplies.NoHandle v)))) = Err NoSender
+through_hub (Ok (Replied (Watch (WReplies.NoHandle v)))) = Err NoSender
+through_hub told = told
+
+abbrev pub by_sender : By → Told → Told
+by_sender Hub told = through_hub told
+by_sender (Own t) told = told
+
+abbrev pub by_asker : Event → Told → Told
+by_asker Binds told = through_hub told
+by_asker (Subscribes start by) told = by_sender by told
+by_asker (Asks by question) told = by_sender by told
+by_asker (DropsTx by) told = by_sender by told
+by_asker event told = told
+
+-- The event asks for memory, so that it may be refused for want of it.
+abbrev pub receive_takes_memory : ReceiverVerb → Type 0
+receive_takes_memory ReceiverVerbs.TryRecv = Unit {0}
+receive_takes_memory ReceiverVerbs.Recv = Unit {0}
+receive_takes_memory ReceiverVerbs.Borrow = Unit {0}
+receive_takes_memory ReceiverVerbs.Take = Unit {0}
+receive_takes_memory verb = ⊥
+
+abbrev pub send_takes_memory : SenderVerb → Type 0
+send_takes_memory (SenderVerbs.Send v) = Unit {0}
+send_takes_memory verb = ⊥
+
+abbrev pub TakesMemory : Event → Type 0
+TakesMemory Binds = Unit {0}
+TakesMemory (Subscribes start by) = Unit {0}
+TakesMemory (Resubscribes r) = Unit {0}
+TakesMemory (Sends t verb) = send_takes_memory verb
+TakesMemory (Receives r verb) = receive_takes_memory verb
+TakesMemory event = ⊥

@@ -1,0 +1,273 @@
+-- How a replay goes on, step after step.
+use Rattle.std.proofs.Common.{◌≡◌, ℕ, ◌+◌, ◌<◌, ◌≤◌, Bool, true, false, List, [], ◌∷◌, ◌++◌, length, refl, sym, ap, ◌∙◌, append-nil, arith, inl, inr, Option, Some, None, Ok, Err, subst, length-append}
+use Rattle.std.specs.Prelude.{Result, IfOk}
+use Rattle.std.specs.Io.KnownBytes.{Consumes, IsAtEnd, Keeps}
+use Rattle.std.proofs.KnownBytes.{Consumes-nil, Consumes-trans, Consumes-kept}
+use Rattle.std.proofs.lemmas.Bool.{false≢true}
+use Rattle.th_lines.specs.Intake.{Came, Reading, Fills, Finds, IsSameLine, lines_after, nothing_came}
+use Rattle.th_lines.specs.Lines.{Line, line_of, last_line, lines_from}
+use Rattle.th_lines.specs.Output.{Output, Adds, Flushes, WritesAll, WritesFront}
+use Rattle.th_lines.specs.Replies.{spell}
+use Rattle.th_lines.specs.Standing.{Standing, Advances, Stops}
+use Rattle.th_lines.specs.declared.counted.Moved.TheVariants.{Bytes, Again, Failed}
+use Rattle.th_lines.specs.declared.reply.Reply.{Reply}
+use Rattle.th_lines.proofs.LineLemmas.{last_line-one}
+use Rattle.th_lines.proofs.OutputLemmas.{adds_flushed, flushed_adds, waiting_front}
+use Rattle.th_lines.proofs.StandingLemmas.{answers_line, both, looks_on, stands, stops_after, stops_at, stops_here, takes_on, writes_on}
+use Rattle.th_replay.specs.Session.{LineMachine, Turns}
+use Rattle.th_replay.specs.Progress.{AnswersAll, AnswersNext, AnswersOne, BreaksOff, Closes, ClosesOrFails, Finishes, FlushesOn, IsFull, ReadsOn, Underway}
+use Rattle.th_replay.specs.Outcome.{writer_failures}
+use Rattle.th_replay.specs.declared.fault.RunFault.{RunFault}
+use Rattle.th_replay.specs.declared.fault.RunFault.TheVariants.{Write, TooLong}
+use Rattle.th_replay.specs.declared.fault.ReplayFault.{ReplayFault}
+use Rattle.th_replay.specs.declared.fault.ReplayFault.TheVariants as Faults
+
+-- of bytes that are the same for a line some came, or of none none
+pub begun_same : (kept bytes : List ℕ) → IsSameLine kept bytes → 0 < length kept → 0 < length bytes
+begun_same kept bytes (inl e) h = omega (arith, ap length e)
+begun_same kept bytes (inr l) h = omega arith
+
+pub none_came : (c : Came) → c.begun ≡ [] → c.ahead ≡ [] → c ≡ nothing_came
+none_came c e f = λ i. record { begun = e i; ahead = f i }
+
+pub no_bytes : (bytes : List ℕ) → length bytes ≡ 0 → bytes ≡ []
+no_bytes [] e = refl
+no_bytes (b ∷ bytes) e = absurd (omega arith)
+
+module _ {S : Type 0} (m : LineMachine S) where
+  -- the next line was handed out and answered
+  pub next_one : (old : Standing S) (mid : Reading) (line : Line) (reply : Reply) (s : S) (out : Output) → Finds old.came true mid
+      → line ≡ line_of true mid.line → Turns m old.state line reply s → Adds (spell reply) old.out out → old.answered < old.limit
+      → AnswersOne m old (record old { state = s; came = mid.came; answered = old.answered + 1; out = out })
+  next_one old mid line reply s out found e t said room = record {
+    ran = answers_line old mid reply s out found (subst (λ (l : Line). Turns m old.state l reply s) e t) said;
+    one = refl;
+    within = omega (arith, room);
+  }
+
+  -- it was answered, and the writer failed
+  pub next_broken : (old : Standing S) (mid : Reading) (line : Line) (reply : Reply) (s : S) (out : Output) → Finds old.came true mid
+      → line ≡ line_of true mid.line → Turns m old.state line reply s → WritesFront (old.out.waiting ++ spell reply) old.out out
+      → Stops (Turns m) old [] false false s out
+  next_broken old mid line reply s out found e t front =
+      stops_at old [] false false line (lines_after false mid.came []) reply s out
+      (found.1 false [] ∙ ap (λ (l : Line). l ∷ lines_after false mid.came []) (sym e)) t front
+
+  -- there is no further line
+  pub next_none : (old : Standing S) (mid : Reading) → Finds old.came false mid
+      → Advances (Turns m) old [] (record old { came = mid.came }) × (mid.came.ahead ≡ [])
+  next_none old mid found = (looks_on old mid found, found.0)
+
+  pub nothing_next : (old : Standing S) → old.came ≡ nothing_came → Advances (Turns m) old [] old × (old.came.ahead ≡ [])
+  nothing_next old e = (stands old, ap (λ (c : Came). c.ahead) e)
+
+  pub full : (old : Standing S) → old.answered ≡ old.limit → 0 < length old.came.begun + length old.came.ahead
+      → Advances (Turns m) old [] old × IsFull old
+  full old e some = (stands old, record { bound = e; beyond = some })
+
+  -- by the answer whether there was a line
+  pub next_true : (old new : Standing S) (more : Bool) → more ≡ true → AnswersNext m old new (Ok more) → AnswersOne m old new
+  next_true old new more e h = subst (λ (b : Bool). AnswersNext m old new (Ok b)) e h
+
+  pub next_false : (old new : Standing S) (more : Bool) → more ≡ false → AnswersNext m old new (Ok more)
+      → Advances (Turns m) old [] new × (new.came.ahead ≡ [])
+  next_false old new more e h = subst (λ (b : Bool). AnswersNext m old new (Ok b)) e h
+
+  -- what comes after some lines were answered
+  pub answers_after : {A : Type 0} (a b c : Standing S) (r : Result A RunFault) → Advances (Turns m) a [] b → AnswersAll m b c r → AnswersAll m a c r
+  answers_after a b c (Ok x) p q = (both p q.0, q.1)
+  answers_after a b c (Err Write) p q = stops_after p q
+  answers_after a b c (Err TooLong) p q = (both p q.0, q.1)
+
+  -- by the fault
+  pub all_broken : (old new : Standing S) (fault : RunFault) → fault ≡ Write → AnswersAll m {A = Unit {0}} old new (Err fault)
+      → Stops (Turns m) old [] false false new.state new.out
+  all_broken old new fault e h = subst (λ (f : RunFault). AnswersAll m {A = Unit {0}} old new (Err f)) e h
+
+  pub all_full : (old new : Standing S) (fault : RunFault) → fault ≡ TooLong → AnswersAll m {A = Unit {0}} old new (Err fault)
+      → Advances (Turns m) old [] new × IsFull new
+  all_full old new fault e h = subst (λ (f : RunFault). AnswersAll m {A = Unit {0}} old new (Err f)) e h
+
+  -- all that waited was written
+  pub flushed : (old new : Standing S) → new ≡ record old { out = new.out } → WritesAll old.out.waiting old.out new.out × (new.out.waiting ≡ [])
+      → Advances (Turns m) old [] new
+  flushed old new e f = subst (λ (o : Standing S). Advances (Turns m) old [] o) (sym e) (writes_on old new.out (flushed_adds f.0 f.1))
+
+  pub flush_broken : (old new : Standing S) (ended : Bool) → new ≡ record old { out = new.out } → WritesFront old.out.waiting old.out new.out
+      → Stops (Turns m) old [] ended false new.state new.out
+  flush_broken old new ended e f =
+      subst (λ (o : Standing S). Stops (Turns m) old [] ended false o.state new.out) (sym e) (stops_here old [] ended false new.out f)
+
+  -- the input has ended where nothing has begun
+  unfoldable pub closes_none : (old new : Standing S) (count : ℕ) → old.came ≡ nothing_came → new ≡ record old { out = new.out }
+      → WritesAll old.out.waiting old.out new.out → count ≡ old.answered → old.answered ≤ old.limit → Closes m old [] new count
+  unfolding stops_here
+  closes_none old new count none e wrote counted within =
+      subst (λ (o : Standing S). Closes m old [] (record new { state = o.state }) count) (sym e) (record {
+        stopped = stops_here old [] true true new.out wrote;
+        all = ap (λ (c : Came). lines_after true c []) none;
+        counted = omega (arith, counted);
+        within = omega (arith, counted, within);
+      })
+
+  -- or one line was left
+  last_one : (old : Standing S) → old.came.ahead ≡ [] → 0 < length old.came.begun
+      → lines_after true old.came [] ≡ line_of false old.came.begun ∷ []
+  last_one old none some = ap (λ (l : List ℕ). lines_from true old.came.begun (l ++ [])) none ∙ last_line-one old.came.begun some
+
+  module _ (old new : Standing S) (line : Line) (reply : Reply) (mid : Output) (none : old.came.ahead ≡ []) (some : 0 < length old.came.begun)
+      (last : line ≡ line_of false old.came.begun) (t : Turns m old.state line reply new.state) where
+    at_last : lines_after true old.came [] ≡ line ∷ []
+    at_last = last_one old none some ∙ ap (λ (l : Line). l ∷ []) (sym last)
+
+    pub closes_broken : WritesFront (old.out.waiting ++ spell reply) old.out new.out → Stops (Turns m) old [] true false new.state new.out
+    closes_broken front = stops_at old [] true false line [] reply new.state new.out at_last t front
+
+    pub closes_one : (count : ℕ) → Adds (spell reply) old.out mid → WritesAll mid.waiting mid new.out → count ≡ old.answered + 1 → old.answered < old.limit
+        → Closes m old [] new count
+    unfolding stops_at
+    closes_one count said wrote counted within = record {
+      stopped = stops_at old [] true true line [] reply new.state new.out at_last t (adds_flushed said wrote);
+      all = refl;
+      counted = counted;
+      within = omega (arith, counted, within);
+    }
+
+    -- by what came of the last writes
+    pub closes_last : {E : Type 0} (r : Result ℕ E) → Adds (spell reply) old.out mid → Flushes mid new.out r
+        → IfOk r (λ count. count ≡ old.answered + 1) → old.answered < old.limit → ClosesOrFails m old new r
+    closes_last (Ok count) said f counted within = closes_one count said f.0 counted within
+    closes_last (Err e) said f counted within = closes_broken (waiting_front said f)
+
+  pub closes_empty : {E : Type 0} (old new : Standing S) (r : Result ℕ E) → old.came ≡ nothing_came → FlushesOn old new r
+      → IfOk r (λ count. count ≡ old.answered) → old.answered ≤ old.limit → ClosesOrFails m old new r
+  closes_empty old new (Ok count) none f counted within = closes_none old new count none f.0 f.1.0 counted within
+  closes_empty old new (Err e) none f counted within = flush_broken old new true f.0 f.1
+
+  -- nothing was read yet
+  pub starts : (r : Option (List ℕ)) (a : Standing S) → Underway m r r a a
+  starts r a = record { input = []; read = Consumes-nil r; ran = stands a }
+
+  module _ {r r1 : Option (List ℕ)} {a b : Standing S} (u : Underway m r r1 a b) where
+    -- lines were answered, or replies written
+    pub goes_on : (c : Standing S) → Advances (Turns m) b [] c → Underway m r r1 a c
+    goes_on c p = record {
+      input = u.input ++ [];
+      read = subst (λ (l : List ℕ). Consumes r r1 l) (sym (append-nil u.input)) u.read;
+      ran = both u.ran p;
+    }
+
+    -- the reader was asked for more
+    pub fills_on : (r2 : Option (List ℕ)) (n : ℕ) (c : Standing S) → c ≡ record b { came = c.came } → b.came.ahead ≡ []
+        → Fills r1 r2 (Bytes n) b.came c.came → Underway m r r2 a c
+    fills_on r2 n c e none f = record {
+      input = u.input ++ c.came.ahead;
+      read = Consumes-trans r r1 r2 u.input c.came.ahead u.read f.2;
+      ran = both u.ran (subst (λ (o : Standing S). Advances (Turns m) b c.came.ahead o) (sym e) (takes_on b c.came none f.0));
+    }
+
+    pub waits : (r2 : Option (List ℕ)) (c : Standing S) → c ≡ record b { came = c.came } → b.came.ahead ≡ []
+        → Fills r1 r2 Again b.came c.came → Underway m r r2 a c
+    waits r2 c e none f = record {
+      input = u.input ++ [];
+      read = subst (λ (l : List ℕ). Consumes r r2 l) (sym (append-nil u.input)) (Consumes-kept r r1 r2 u.input u.read f.2);
+      ran =
+          let came : Advances (Turns m) b [] (record b { came = c.came }) =
+          subst (λ (l : List ℕ). Advances (Turns m) b l (record b { came = c.came })) f.1 (takes_on b c.came none f.0) in
+          both u.ran (subst (λ (o : Standing S). Advances (Turns m) b [] o) (sym e) came);
+    }
+
+    -- the writer failed
+    pub breaks : (ended : Bool) (c : Standing S) → (ended ≡ true → IsAtEnd r1) → Stops (Turns m) b [] ended false c.state c.out
+        → BreaksOff m r r1 a c
+    breaks ended c end q = record {
+      input = u.input ++ [];
+      read = subst (λ (l : List ℕ). Consumes r r1 l) (sym (append-nil u.input)) u.read;
+      ended = ended;
+      whole = end;
+      stopped = stops_after u.ran q;
+    }
+
+    pub breaks_in : (c : Standing S) → Stops (Turns m) b [] false false c.state c.out → BreaksOff m r r1 a c
+    breaks_in c q = breaks false c (λ e. absurd (false≢true e)) q
+
+    -- the input has ended
+    closes_after : (y : List ℕ) (c : Standing S) (count : ℕ) → Closes m b y c count → Closes m a (u.input ++ y) c count
+    unfolding stops_after
+    closes_after y c count q = record {
+      stopped = stops_after u.ran q.stopped;
+      all = q.all;
+      counted = omega (arith, q.counted, u.ran.counted, length-append u.ran.done q.stopped.done);
+      within = omega (arith, q.within, u.ran.bound);
+    }
+
+    pub finishes : (c : Standing S) (count : ℕ) → IsAtEnd r1 → Closes m b [] c count → Finishes m r r1 a c count
+    finishes c count end q = record {
+      input = u.input ++ [];
+      read = subst (λ (l : List ℕ). Consumes r r1 l) (sym (append-nil u.input)) u.read;
+      end = end;
+      closed = closes_after [] c count q;
+    }
+
+    -- one more read, and what came of it
+    underway_after : (r2 : Option (List ℕ)) (c : Standing S) → Underway m r1 r2 b c → Underway m r r2 a c
+    underway_after r2 c q = record {
+      input = u.input ++ q.input;
+      read = Consumes-trans r r1 r2 u.input q.input u.read q.read;
+      ran = both u.ran q.ran;
+    }
+
+    pub reads_after : (r2 : Option (List ℕ)) (c : Standing S) (result : Result (Option ℕ) ReplayFault) → ReadsOn m r1 r2 b c result → ReadsOn m r r2 a c result
+    reads_after r2 c (Ok None) q = (underway_after r2 c q.0, q.1)
+    reads_after r2 c (Ok (Some count)) q = record {
+      input = u.input ++ q.input;
+      read = Consumes-trans r r1 r2 u.input q.input u.read q.read;
+      end = q.end;
+      closed = closes_after q.input c count q.closed;
+    }
+    reads_after r2 c (Err Faults.Read) q = (underway_after r2 c q.0, q.1)
+    reads_after r2 c (Err Faults.Write) q = record {
+      input = u.input ++ q.input;
+      read = Consumes-trans r r1 r2 u.input q.input u.read q.read;
+      ended = q.ended;
+      whole = q.whole;
+      stopped = stops_after u.ran q.stopped;
+    }
+    reads_after r2 c (Err Faults.TooLong) q = (underway_after r2 c q.0, q.1, q.2)
+    reads_after r2 c (Err Faults.Short) q = absurd q
+
+  -- all that waited was written, and then the reader was asked for more
+  module _ (r r2 : Option (List ℕ)) (a b c : Standing S) (at_first : b ≡ record a { out = b.out })
+      (wrote : WritesAll a.out.waiting a.out b.out × (b.out.waiting ≡ [])) (none : a.came.ahead ≡ []) (then : c ≡ record b { came = c.came }) where
+    written : Underway m r r a b
+    written = goes_on (starts r a) b (flushed a b at_first wrote)
+
+    looked_at : b.came.ahead ≡ []
+    looked_at = ap (λ (o : Standing S). o.came.ahead) at_first ∙ none
+
+    pub read_some : (n : ℕ) → Fills r r2 (Bytes n) b.came c.came → Underway m r r2 a c
+    read_some n f = fills_on written r2 n c then looked_at f
+
+    pub read_nothing : Fills r r2 Again b.came c.came → Underway m r r2 a c
+    read_nothing f = waits written r2 c then looked_at f
+
+  -- by the answer of one read
+  pub reads_none : (r r' : Option (List ℕ)) (o n : Standing S) (x : Option ℕ) → x ≡ None → ReadsOn m r r' o n (Ok x) → Underway m r r' o n × (n.came.ahead ≡ [])
+  reads_none r r' o n x e h = subst (λ (y : Option ℕ). ReadsOn m r r' o n (Ok y)) e h
+
+  pub reads_some : (r r' : Option (List ℕ)) (o n : Standing S) (x : Option ℕ) (count : ℕ) → x ≡ Some count → ReadsOn m r r' o n (Ok x) → Finishes m r r' o n count
+  reads_some r r' o n x count e h = subst (λ (y : Option ℕ). ReadsOn m r r' o n (Ok y)) e h
+
+  -- what was flushed after the bound was met
+  pub full_flushed : (b c : Standing S) → c ≡ record b { out = c.out } → IsFull b → IsFull c
+  full_flushed b c e f = subst (λ (o : Standing S). IsFull o) (sym e) (record { bound = f.bound; beyond = f.beyond })
+
+  -- the writer's failures
+  pub writer_told : (r r' : Option (List ℕ)) (o n : Standing S) (result : Result (Option ℕ) ReplayFault) → ReadsOn m r r' o n result
+      → n.out.failures ≡ writer_failures o.out.failures result
+  writer_told r r' o n (Ok None) q = q.0.ran.said.same
+  writer_told r r' o n (Ok (Some count)) q = q.closed.stopped.said.same
+  writer_told r r' o n (Err Faults.Read) q = q.0.ran.said.same
+  writer_told r r' o n (Err Faults.Write) q = q.stopped.said.failed
+  writer_told r r' o n (Err Faults.TooLong) q = q.0.ran.said.same
+  writer_told r r' o n (Err Faults.Short) q = absurd q

@@ -1,0 +1,34 @@
+use Rattle.std.proofs.Common.{◌≡◌, Some, refl, sym, ap}
+use Rattle.th_model.specs.declared.handles.TxId.{TxId}
+use Rattle.th_lines.specs.declared.command.Action.TheVariants.{BySender}
+use Rattle.th_registry.specs.Events.{Event, Sends, Receives}
+use Rattle.th_registry.specs.Typed.{replied}
+use Rattle.th_session.specs.Held.{held}
+use Rattle.th_session.proofs.Seating.{held-set, sender-kept}
+use Rattle.th_session.proofs.Playing.{sender-out, sender-lacks, sender-own, plays-by, plays-not}
+use Rattle.th_session.proofs.action.by_sender.Goals as goal
+
+pub returns-in_default : goal.returns-in_default
+returns-in_default g c =
+    let event : TxId → Event = λ (t : TxId). Sends t c.args.verb in
+    plays-not g.D.Desk.says (BySender c.args.verb) c.args.topic.0 _ _ _
+    (sender-out g.D.Desk.tx g.D.Desk.rx event c.args.seats.now.entries c.args.topic.0 (sym c.in_default.ensures.value))
+    (ap (λ m. held g.D.Desk.tx g.D.Desk.rx m.entries) c.get_mut.follows.holds-at-none)
+
+pub returns-in_default-sender : goal.returns-in_default-sender
+returns-in_default-sender g c =
+    let event : TxId → Event = λ (t : TxId). Sends t c.args.verb in
+    let at = sym c.in-Some.ensures.value in
+    plays-not g.D.Desk.says (BySender c.args.verb) c.args.topic.0 _ _ _
+    (sender-lacks g.D.Desk.tx g.D.Desk.rx event c.args.seats.now.entries c.args.topic.0 _ at c.in_default-sender.is)
+    (held-set g.D.Desk.tx g.D.Desk.rx c.args.seats.now.entries _ c.args.topic.0 c.in-Some.seat.now _ at (c.get_mut.follows.holds c.in-Some.seat.now).0 refl)
+
+pub returns : goal.returns
+returns g c =
+    let event : TxId → Event = λ (t : TxId). Sends t c.args.verb in
+    let at = sym c.in-Some.ensures.value in
+    let holds : c.in-Some.seat.now.sender ≡ Some c.in-Some-sender.sender = c.in-Some-sender.is in
+    let kept = sender-kept g.D.Desk.tx g.D.Desk.rx c.in-Some.seat.now _ c.by_sender.new.sender holds c.by_sender.ensures.sender in
+    plays-by g.D.Desk.says (BySender c.args.verb) c.args.topic.0 _ _ (replied c.by_sender.result) _ _
+    (sender-own g.D.Desk.tx g.D.Desk.rx event c.args.seats.now.entries c.args.topic.0 _ _ at holds) c.by_sender.ensures.event c.replied.ensures
+    (held-set g.D.Desk.tx g.D.Desk.rx c.args.seats.now.entries _ c.args.topic.0 c.in-Some.seat.now _ at (c.get_mut.follows.holds (record { sender = Some c.by_sender.new.sender; receiver = c.in-Some.seat.now.receiver })).0 kept)

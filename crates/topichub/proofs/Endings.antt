@@ -1,0 +1,15 @@
+-- How a run ends that was asked for help.
+use Rattle.std.proofs.Common.{◌≡◌, ℕ, List}
+use Rattle.topichub.specs.declared.end.End.{End}
+use Rattle.topichub.specs.declared.end.End.TheVariants.{Help, Write}
+use Rattle.topichub.specs.declared.modes.ModeFault.{ModeFault}
+use Rattle.topichub.specs.declared.modes.ModeFault.TheVariants as fault
+use Rattle.th_replay.specs.Outcome.{Devices}
+use Rattle.topichub.specs.Run.{IsUnread, IsHelpOf, EndsHelp}
+
+pub ends_help : (text : List ℕ) (before after : Devices) (end : End)
+    → IsHelpOf text before.contents after.contents end → IsUnread before after
+    → EndsHelp before after end
+ends_help text before after Help said unread = ((text, said), unread)
+ends_help text before after Write said unread = unread
+ends_help text before after end said unread = absurd said

@@ -1,0 +1,89 @@
+-- What a run of the program does with its streams.
+use Rattle.std.specs.Prelude.{◌≡◌, ◌≢◌, ◌⊎◌, ℕ, ◌^◌, List, [], ◌∷◌, ◌++◌, Option, Some, None}
+use Rattle.std.specs.Io.KnownBytes.{Appends}
+use Rattle.clap.specs.Words.{fault_of}
+use Rattle.th_lines.specs.Tally.{Tally}
+use Rattle.th_replay.specs.Outcome.{Devices, Replayed, Stopped}
+use Rattle.th_replay.specs.Schedule.{machine, start}
+use Rattle.th_replay.specs.declared.fault.ReplayFault.{ReplayFault}
+use Rattle.th_replay.specs.declared.fault.ReplayFault.TheVariants as fault
+use Rattle.topichub.specs.declared.end.End.{End}
+use Rattle.topichub.specs.declared.end.End.TheVariants.{Done, Help, Read, Write, TooLong, Short, Usage}
+use Rattle.topichub.specs.Status.{explanation_of}
+use Rattle.topichub.specs.Words.{AreReplay, AreHelp, AreNone, command_line}
+
+-- what is known of standard error: the bytes written, and how many calls failed
+pub record Errors : Type 0 where
+  pub written : Option (List ℕ)
+  pub failures : ℕ
+
+abbrev pub errors_of : {E : Type 0} → (E → Option (List ℕ)) → Tally E → Errors
+errors_of contents errors =
+    record { written = contents errors.device; failures = errors.failures }
+
+-- the text is on standard output, or could not be written
+abbrev pub IsHelpOf : List ℕ → Option (List ℕ) → Option (List ℕ) → End → Type 0
+IsHelpOf text before after Help = Appends before after text
+IsHelpOf text before after Write = Unit {0}
+IsHelpOf text before after end = ⊥
+
+module _ (before after : Devices) where
+  -- nothing was read
+  pub record IsUnread : Type 0 where
+    pub input : after.remaining ≡ before.remaining
+    pub reads : after.calls ≡ before.calls
+
+  -- the schedule was carried out to its end
+  abbrev pub IsReplayed : Type 0
+  IsReplayed = (count : ℕ) × Replayed machine start before after count
+
+  -- the schedule was stopped by this fault
+  abbrev pub IsStopped : ReplayFault → Type 0
+  IsStopped fault = Stopped machine start 1000000 (2 ^ 32) before after fault
+
+  -- how a run ends that carries out a schedule
+  abbrev pub EndsReplay : End → Type 0
+  EndsReplay Done = IsReplayed
+  EndsReplay Read = IsStopped fault.Read
+  EndsReplay Write = IsStopped fault.Write
+  EndsReplay TooLong = IsStopped fault.TooLong
+  EndsReplay Short = IsStopped fault.Short
+  EndsReplay end = ⊥
+
+  -- how a run ends that was asked for help: with a text on standard output, where there was memory
+  -- for it and the writer took it
+  abbrev pub EndsHelp : End → Type 0
+  EndsHelp Help = ((text : List ℕ) × Appends before.contents after.contents text) × IsUnread
+  EndsHelp Write = IsUnread
+  EndsHelp Short = (after.contents ≡ before.contents) × IsUnread
+  EndsHelp end = ⊥
+
+  -- how a run ends whose words are wrong: with nothing on standard output
+  abbrev pub EndsRefused : End → Type 0
+  EndsRefused Usage = (after.contents ≡ before.contents) × IsUnread
+  EndsRefused Short = (after.contents ≡ before.contents) × IsUnread
+  EndsRefused end = ⊥
+
+-- the text was written on standard error, unless a write of it failed
+abbrev pub IsSaid : Errors → Errors → List ℕ → Type 0
+IsSaid before after text =
+    before.failures ≡ 0 → after.failures ≡ 0 → Appends before.written after.written text
+
+-- the line that says what stopped the run, where anything did
+abbrev pub line_of : Option (List ℕ) → List ℕ
+line_of None = []
+line_of (Some text) = text ++ 10 ∷ []
+
+-- Standard error has the line of what stopped the run. Where the words were wrong, it has `clap`'s
+-- text on them instead, of which nothing is said here.
+abbrev pub IsExplained : Errors → Errors → End → Type 0
+IsExplained before after end =
+    end ≢ Usage → IsSaid before after (line_of (explanation_of end))
+
+-- how a run by these words ends
+pub record Ends (words : List (List ℕ)) (before after : Devices) (end : End) : Type 0 where
+  pub replay : AreReplay words → EndsReplay before after end
+  pub help : AreHelp words → EndsHelp before after end
+  pub none : AreNone words → EndsRefused before after end
+  pub wrong : fault_of command_line words ≢ []
+      → EndsHelp before after end ⊎ EndsRefused before after end

@@ -1,0 +1,80 @@
+//! How the program ends, and the exit status that says so.
+ghost use Rattle.std.specs.Prelude.{◌≡◌, option_map};
+ghost use Rattle.topichub.specs.Status.{explanation_of, status_of};
+
+/// How a run of the program ended.
+#[derive(Clone, Copy, Debug, PartialEq, Eq)]
+pub enum End {
+    /// All that was asked for was done.
+    Done,
+    /// Help was asked for and printed.
+    Help,
+    /// Standard input could not be read.
+    Read,
+    /// Standard output could not be written.
+    Write,
+    /// The input has more lines, or took more reads, than one run may.
+    TooLong,
+    /// There was no memory.
+    Short,
+    /// A socket could not be opened or used.
+    Socket,
+    /// The words were wrong.
+    Usage,
+    /// A trace that was checked has a reply which the channel would not give.
+    Illegal,
+    /// A trace that was checked has a line which is none of a trace.
+    Bad,
+}
+
+/// The exit status: 0 where all went well, 1 where the machine or a limit stopped the run, 2 where
+/// the words were wrong, and 3 where the program did its work and found a fault in what it was
+/// given.
+pub fn status(end: &End) -> u8
+    ensures { result ≡ status_of end.now }
+{
+    match end {
+        End::Done | End::Help => 0,
+        End::Read | End::Write | End::TooLong | End::Short | End::Socket => 1,
+        End::Usage => 2,
+        End::Illegal | End::Bad => 3,
+    }
+}
+
+/// The line for standard error that says what stopped the run: some exactly where the status is 1.
+pub fn explanation(end: &End) -> Option<&'static str>
+    ensures { option_map (λ text. text.now) result ≡ explanation_of end.now }
+{
+    match end {
+        End::Read => Some("topichub: read fault"),
+        End::Write => Some("topichub: write fault"),
+        End::TooLong => Some("topichub: too long"),
+        End::Short => Some("topichub: no memory"),
+        End::Socket => Some("topichub: socket fault"),
+        End::Done | End::Help | End::Usage | End::Illegal | End::Bad => None,
+    }
+}
+
+#[cfg(test)]
+mod tests {
+    use super::*;
+
+    #[test]
+    fn each_end_has_its_status_and_line(rt: HostRuntime) {
+        for (end, want, line) in [
+            (End::Done, 0, None),
+            (End::Help, 0, None),
+            (End::Read, 1, Some("topichub: read fault")),
+            (End::Write, 1, Some("topichub: write fault")),
+            (End::TooLong, 1, Some("topichub: too long")),
+            (End::Short, 1, Some("topichub: no memory")),
+            (End::Socket, 1, Some("topichub: socket fault")),
+            (End::Usage, 2, None),
+            (End::Illegal, 3, None),
+            (End::Bad, 3, None),
+        ] {
+            assert_eq!(rt; status(&end), want, "at {end:?}");
+            assert_eq!(rt; explanation(&end), line, "at {end:?}");
+        }
+    }
+}

@@ -1,0 +1,143 @@
+//! What the program does with its words, over any reader and writers.
+ghost use Rattle.std.specs.Prelude.{◌≡◌, true, false, map};
+ghost use Rattle.std.specs.Io.KnownBytes.{Appends};
+ghost use Rattle.th_lines.specs.Device.{one_more};
+ghost use Rattle.th_replay.specs.Outcome.{devices};
+ghost use Rattle.topichub.specs.Run.{Ends, EndsReplay, IsHelpOf, IsExplained, IsSaid, errors_of, line_of};
+ghost use Rattle.topichub.specs.Status.{explanation_of};
+
+use crate::end::{End, explanation};
+use crate::modes::{Mode, ModeFault};
+use crate::words::mode;
+use std::alloc::Global;
+use std::io::{Read, Write};
+use th_lines::{Counted, Moved};
+use th_replay::{ReplayFault, replay};
+
+// How many interrupted writes of a text are made again.
+const RETRIES: u32 = 1000;
+
+// Writes the whole text; `false` where the writer failed.
+fn write_text<W: Write>(writer: &mut Counted<W>, text: &[u8]) -> bool
+    ensures whole { result ≡ true
+        → Appends (W.contents writer.old.device) (W.contents writer.new.device) text.now }
+    ensures taken { result ≡ true → writer.new.failures ≡ writer.old.failures }
+    ensures failed { result ≡ false → writer.new.failures ≡ one_more writer.old.failures }
+{
+    let mut retries = RETRIES;
+    let mut at = 0;
+    while at < text.len() {
+        match writer.write_some(&text[at..], retries > 0) {
+            Moved::Bytes(count) => at += count,
+            Moved::Again => retries = retries.saturating_sub(1),
+            Moved::Failed => return false,
+        }
+    }
+    true
+}
+
+// Says the text as an error. Where that fails too, the exit status alone tells of it.
+fn say<E: Write>(errors: &mut Counted<E>, text: &[u8])
+    ensures said { IsSaid
+        (errors_of E.contents errors.old)
+        (errors_of E.contents errors.new)
+        text.now }
+    ensures still { errors.new.failures ≡ 0 → errors.old.failures ≡ 0 }
+{
+    let _ = write_text(errors, text);
+}
+
+// Says what stopped the run, where anything did.
+fn explain<E: Write>(errors: &mut Counted<E>, end: &End)
+    ensures { IsSaid
+        (errors_of E.contents errors.old)
+        (errors_of E.contents errors.new)
+        (line_of (explanation_of end.now)) }
+{
+    if let Some(line) = explanation(end) {
+        say(errors, line.as_bytes());
+        say(errors, b"\n");
+    }
+}
+
+// Writes the text of help.
+fn write_help<W: Write>(output: &mut Counted<W>, text: &[u8]) -> End
+    ensures { IsHelpOf text.now
+        (W.contents output.old.device) (W.contents output.new.device) result }
+{
+    if write_text(output, text) {
+        End::Help
+    } else {
+        End::Write
+    }
+}
+
+// Carries out the schedule of the reader.
+fn carry_out<R: Read, W: Write>(
+    alloc: Global,
+    input: &mut Counted<R>,
+    output: &mut Counted<W>,
+) -> End
+    ensures { EndsReplay
+        (devices R.remaining input.old W.contents output.old)
+        (devices R.remaining input.new W.contents output.new)
+        result }
+{
+    match replay(alloc, input, output) {
+        Ok(_) => End::Done,
+        Err(ReplayFault::Read) => End::Read,
+        Err(ReplayFault::Write) => End::Write,
+        Err(ReplayFault::TooLong) => End::TooLong,
+        Err(ReplayFault::Short) => End::Short,
+    }
+}
+
+/// The end of a run for whose words there was no memory.
+pub fn run_short<E: Write>(errors: &mut Counted<E>) -> End
+    ensures end { result ≡ End.Short }
+    ensures explained { IsExplained
+        (errors_of E.contents errors.old)
+        (errors_of E.contents errors.new)
+        result }
+{
+    explain(errors, &End::Short);
+    End::Short
+}
+
+/// Does what the words ask for, the program's name first. `replay` carries out the schedule of
+/// `input`. A text of help goes to `output`; what is wrong with the words goes to `errors`, and so
+/// does a line that says what stopped the run.
+pub fn run<R: Read, W: Write, E: Write>(
+    alloc: Global,
+    words: &[&str],
+    input: &mut Counted<R>,
+    output: &mut Counted<W>,
+    errors: &mut Counted<E>,
+) -> End
+    ensures ends { Ends (map (λ w. w.now) words.now)
+        (devices R.remaining input.old W.contents output.old)
+        (devices R.remaining input.new W.contents output.new)
+        result }
+    ensures explained { IsExplained
+        (errors_of E.contents errors.old)
+        (errors_of E.contents errors.new)
+        result }
+{
+    match mode(alloc, words) {
+        Ok(Mode::Replay) => {
+            let end = carry_out(alloc, input, output);
+            explain(errors, &end);
+            end
+        }
+        Err(ModeFault::Help(text)) => {
+            let end = write_help(output, text.as_bytes());
+            explain(errors, &end);
+            end
+        }
+        Err(ModeFault::Usage(text)) => {
+            say(errors, text.as_bytes());
+            End::Usage
+        }
+        Err(ModeFault::Short) => run_short(errors),
+    }
+}
