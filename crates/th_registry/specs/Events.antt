@@ -1,5 +1,5 @@
 -- The events of a hub's topics, the channel call that each is, and what comes of it.
-use Rattle.std.specs.Prelude.{ℕ, Bool, true, false, Option, Some, None, Result, Ok, Err}
+use Rattle.std.specs.Prelude.{Bool, true, false, Option, Some, None, Result, Ok, Err}
 use Rattle.th_model.specs.declared.handles.TxId.{TxId}
 use Rattle.th_model.specs.declared.handles.RxId.{RxId}
 use Rattle.th_model.specs.declared.broadcast.BCall.{BCall}
@@ -12,9 +12,7 @@ use Rattle.th_model.specs.declared.watch.WReply.{WReply}
 use Rattle.th_model.specs.declared.watch.WReply.TheVariants as WReplies
 use Rattle.th_model.specs.declared.verb.Question.{Question}
 use Rattle.th_model.specs.declared.verb.ReceiverVerb.{ReceiverVerb}
-use Rattle.th_model.specs.declared.verb.ReceiverVerb.TheVariants as ReceiverVerbs
 use Rattle.th_model.specs.declared.verb.SenderVerb.{SenderVerb}
-use Rattle.th_model.specs.declared.verb.SenderVerb.TheVariants as SenderVerbs
 use Rattle.th_model.specs.declared.verb.Start.{Start}
 use Rattle.th_model.specs.declared.verb.Start.TheVariants.{Tail, Oldest}
 use Rattle.th_registry.specs.declared.outcome.ChannelReply.{ChannelReply}
@@ -139,22 +137,30 @@ by_asker (Asks by question) told = by_sender by told
 by_asker (DropsTx by) told = by_sender by told
 by_asker event told = told
 
--- The event asks for memory, so that it may be refused for want of it.
-abbrev pub receive_takes_memory : ReceiverVerb → Type 0
-receive_takes_memory ReceiverVerbs.TryRecv = Unit {0}
-receive_takes_memory ReceiverVerbs.Recv = Unit {0}
-receive_takes_memory ReceiverVerbs.Borrow = Unit {0}
-receive_takes_memory ReceiverVerbs.Take = Unit {0}
-receive_takes_memory verb = ⊥
+-- Whether memory is asked for before a channel replies so: for a new handle, and for a value that is handed out. A send
+-- takes none, since the slots of a broadcast channel are made with it, and a watch channel moves the value.
+abbrev pub broadcast_takes : BReply Bytes → Bool
+broadcast_takes (BReplies.NewTx t) = true
+broadcast_takes (BReplies.NewRx r) = true
+broadcast_takes (BReplies.Value v) = true
+broadcast_takes reply = false
 
-abbrev pub send_takes_memory : SenderVerb → Type 0
-send_takes_memory (SenderVerbs.Send v) = Unit {0}
-send_takes_memory verb = ⊥
+abbrev pub watch_takes : WReply Bytes → Bool
+watch_takes (WReplies.NewTx t) = true
+watch_takes (WReplies.NewRx r) = true
+watch_takes (WReplies.Shown v unseen) = true
+watch_takes reply = false
 
-abbrev pub TakesMemory : Event → Type 0
-TakesMemory Binds = Unit {0}
-TakesMemory (Subscribes start by) = Unit {0}
-TakesMemory (Resubscribes r) = Unit {0}
-TakesMemory (Sends t verb) = send_takes_memory verb
-TakesMemory (Receives r verb) = receive_takes_memory verb
-TakesMemory event = ⊥
+-- the same of what is said of an event
+abbrev pub needs_memory : Told → Bool
+needs_memory (Ok (NewTx t)) = true
+needs_memory (Ok (NewRx r)) = true
+needs_memory (Ok (Replied (Broadcast reply))) = broadcast_takes reply
+needs_memory (Ok (Replied (Watch reply))) = watch_takes reply
+needs_memory (Err why) = false
+
+-- The table of what may be refused for want of memory: by the event, and by what would be said of it. A spending never is.
+abbrev pub takes_memory : Event → Told → Bool
+takes_memory (DropsTx by) told = false
+takes_memory (DropsRx r) told = false
+takes_memory event told = needs_memory told

@@ -1,5 +1,5 @@
 -- The hub: topics in order of opening, and what they say to what is asked of them.
-use Rattle.std.specs.Prelude.{ℕ, ◌≡◌, ◌^◌, ◌⊎◌, nat_eq, nat_le, nat_lt, if◌then◌else◌, [], ◌∷◌, ◌++◌, length, map, Option, Some, None, is_some, slice_get, position, Result, Ok, Err, IsOk}
+use Rattle.std.specs.Prelude.{ℕ, ◌≡◌, ◌^◌, ◌⊎◌, nat_eq, nat_le, nat_lt, if◌then◌else◌, [], ◌∷◌, ◌++◌, length, map, Option, Some, None, is_some, slice_get, position, Result, Ok, Err, is_ok, Bool, true, false}
 use Rattle.std.specs.Prelude as prelude
 use Rattle.std.specs.Option.{option_map}
 use Rattle.std.specs.Map.{keys_of, values_of}
@@ -26,7 +26,7 @@ use Rattle.th_registry.specs.declared.outcome.NoEvent.{NoEvent}
 use Rattle.th_registry.specs.declared.outcome.NoEvent.TheVariants as NoEvents
 use Rattle.th_registry.specs.Kinds.{kind_of}
 use Rattle.th_registry.specs.Calls.{Bytes}
-use Rattle.th_registry.specs.Events.{Event, Resubscribes, Outcome, Told, broadcast_call, broadcast_outcome, broadcast_waits, watch_call, watch_outcome, watch_waits, by_asker, TakesMemory}
+use Rattle.th_registry.specs.Events.{Event, Resubscribes, Outcome, Told, broadcast_call, broadcast_outcome, broadcast_waits, watch_call, watch_outcome, watch_waits, by_asker, takes_memory}
 
 -- the most topics of a hub
 abbrev pub most_topics : ℕ
@@ -52,6 +52,21 @@ Said (Find name) = Option Found
 Said List = Result (prelude.List Listed) (Short Unit)
 Said (Open name making) = Result ℕ Refusal
 Said (On topic event) = Told
+
+-- whether memory is asked for before this is said: for a list, for an opening that nothing else refuses, and for an event
+-- by the table
+abbrev pub asks_memory : (q : Query) → Said q → Bool
+asks_memory (Find name) found = false
+asks_memory List topics = true
+asks_memory (Open name making) opened = is_ok opened
+asks_memory (On topic event) told = takes_memory event told
+
+-- what is said where memory is refused
+abbrev pub IsRefusal : (q : Query) → Said q → Type 0
+IsRefusal (Find name) found = ⊥
+IsRefusal List topics = topics ≡ Err (record { call = tt })
+IsRefusal (Open name making) opened = opened ≡ Err Refusals.Short
+IsRefusal (On topic event) told = told ≡ Err NoEvents.Short
 
 -- what came of an event, by the reply to its call
 abbrev pub came : {R : Type 0} → (R → Outcome) → Result R NoEvent → Told
@@ -169,14 +184,9 @@ module _ {B W : Type 0} (m : Machines B W) where
   say ts (Open name making) = open_topic ts name making
   say ts (On n e) = event ts n e
 
-  -- memory was refused and nothing has changed: to a list, to an opening that nothing else refuses, or to an event that
-  -- takes memory
+  -- memory was refused where it is asked for, and nothing has changed
   abbrev pub IsShort : Topics B W → (q : Query) → Said q → Topics B W → Type 0
-  IsShort ts (Find name) said after = ⊥
-  IsShort ts List said after = (said ≡ Err (record { call = tt })) × (after ≡ ts)
-  IsShort ts (Open name making) said after =
-      (said ≡ Err Refusals.Short) × (after ≡ ts) × IsOk (open_topic ts name making).0
-  IsShort ts (On n e) said after = (said ≡ Err NoEvents.Short) × (after ≡ ts) × TakesMemory e
+  IsShort ts q said after = IsRefusal q said × (after ≡ ts) × (asks_memory q (say ts q).0 ≡ true)
 
   -- a desk that holds these topics says what the hub says, or that memory was refused
   abbrev pub Says : Topics B W → (q : Query) → Said q → Topics B W → Type 0

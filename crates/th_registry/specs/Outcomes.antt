@@ -1,5 +1,5 @@
 -- What one channel may say of a call and of an event: the picture's answer, or want of memory with nothing changed.
-use Rattle.std.specs.Prelude.{◌≡◌, ◌⊎◌, Option, Some, None, Result, Err}
+use Rattle.std.specs.Prelude.{◌≡◌, ◌⊎◌, Bool, true, false, Option, Result, Ok, Err}
 use Rattle.th_model.specs.declared.handles.RxId.{RxId}
 use Rattle.th_model.specs.BroadcastPicture as broadcast
 use Rattle.th_model.specs.WatchPicture as watch
@@ -11,47 +11,47 @@ use Rattle.th_registry.specs.declared.outcome.ChannelReply.TheVariants.{Broadcas
 use Rattle.th_registry.specs.declared.outcome.NoEvent.{NoEvent}
 use Rattle.th_registry.specs.declared.outcome.NoEvent.TheVariants.{Short}
 use Rattle.th_registry.specs.Calls.{Bytes}
-use Rattle.th_registry.specs.Events.{Event, Replied, Resubscribes, Told, TakesMemory}
+use Rattle.th_registry.specs.Events.{Event, Replied, Resubscribes, Told, broadcast_takes, needs_memory, takes_memory, watch_takes}
 use Rattle.th_registry.specs.Hub.{broadcast_event, broadcast_replies, came, channel_event, watch_replies}
 use Rattle.th_registry.specs.Pictures.{SeenChannel, pictures}
 
--- this is said; or that there was no memory, where the call takes some, and nothing has changed
-abbrev pub SaysOrShort : {R C : Type 0} → Result R NoEvent × C → Type 0 → C → Result R NoEvent → C → Type 0
-SaysOrShort s takes old said new = (s ≡ (said, new)) ⊎ ((said ≡ Err Short) × (new ≡ old) × takes)
+-- this is said; or that there was no memory, where it is asked for before this is said, and nothing has changed
+abbrev pub SaysOrShort : {R C : Type 0} → (Result R NoEvent → Bool) → Result R NoEvent × C → C → Result R NoEvent → C → Type 0
+SaysOrShort takes s old said new = (s ≡ (said, new)) ⊎ ((said ≡ Err Short) × (new ≡ old) × (takes s.0 ≡ true))
 
--- a call that is there may take memory
-abbrev pub BroadcastTakes : Option (BCall Bytes) → Type 0
-BroadcastTakes None = ⊥
-BroadcastTakes (Some call) = broadcast.TakesNoMemory call → ⊥
+-- whether memory is asked for before a channel says so
+abbrev pub broadcast_asks : Result (BReply Bytes) NoEvent → Bool
+broadcast_asks (Ok reply) = broadcast_takes reply
+broadcast_asks (Err why) = false
 
-abbrev pub WatchTakes : Option (WCall Bytes) → Type 0
-WatchTakes None = ⊥
-WatchTakes (Some call) = watch.TakesNoMemory call → ⊥
+abbrev pub watch_asks : Result (WReply Bytes) NoEvent → Bool
+watch_asks (Ok reply) = watch_takes reply
+watch_asks (Err why) = false
 
 abbrev pub BroadcastSays : broadcast.Picture Bytes → Option (BCall Bytes) → Result (BReply Bytes) NoEvent → broadcast.Picture Bytes → Type 0
 BroadcastSays old call said new =
-    SaysOrShort (broadcast_replies pictures old call) (BroadcastTakes call) old said new
+    SaysOrShort broadcast_asks (broadcast_replies pictures old call) old said new
 
 abbrev pub WatchSays : watch.Picture Bytes → Option (WCall Bytes) → Result (WReply Bytes) NoEvent → watch.Picture Bytes → Type 0
 WatchSays old call said new =
-    SaysOrShort (watch_replies pictures old call) (WatchTakes call) old said new
+    SaysOrShort watch_asks (watch_replies pictures old call) old said new
 
 -- the same, as what comes of an event that makes no handle
 abbrev pub BroadcastTells : broadcast.Picture Bytes → Option (BCall Bytes) → Told → broadcast.Picture Bytes → Type 0
 BroadcastTells old call told new =
     let s = broadcast_replies pictures old call in
-    SaysOrShort (came (λ reply. Replied (Broadcast reply)) s.0, s.1) (BroadcastTakes call) old told new
+    SaysOrShort needs_memory (came (λ reply. Replied (Broadcast reply)) s.0, s.1) old told new
 
 abbrev pub WatchTells : watch.Picture Bytes → Option (WCall Bytes) → Told → watch.Picture Bytes → Type 0
 WatchTells old call told new =
     let s = watch_replies pictures old call in
-    SaysOrShort (came (λ reply. Replied (Watch reply)) s.0, s.1) (WatchTakes call) old told new
+    SaysOrShort needs_memory (came (λ reply. Replied (Watch reply)) s.0, s.1) old told new
 
 -- a new receiver, and then the end of the old one
 abbrev pub BroadcastMoves : broadcast.Picture Bytes → RxId → Result (BReply Bytes) NoEvent → broadcast.Picture Bytes → Type 0
 BroadcastMoves old r said new =
-    SaysOrShort (broadcast_event pictures old (Resubscribes r)) (Unit {0}) old said new
+    SaysOrShort broadcast_asks (broadcast_event pictures old (Resubscribes r)) old said new
 
 -- what a channel may say of an event
 abbrev pub ChannelTells : SeenChannel → Event → Told → SeenChannel → Type 0
-ChannelTells old e told new = SaysOrShort (channel_event pictures old e) (TakesMemory e) old told new
+ChannelTells old e told new = SaysOrShort (takes_memory e) (channel_event pictures old e) old told new

@@ -2,3 +2,4 @@ pub mod Seating
 pub mod Playing
 pub mod Runs
 pub mod Order
+mod Rooms

@@ -4,7 +4,7 @@ ghost use Rattle.th_registry.specs.Typed.{made_rx};
 ghost use Rattle.th_registry.specs.Events.{Subscribes, any_sender};
 ghost use Rattle.th_registry.specs.Hub.{On};
 ghost use Rattle.th_session.specs.Held.{IsReady, held, seat_at, seats_of, with_new_receiver, with_new_sender};
-ghost use Rattle.th_session.specs.Step.{Acts, ActsOrLacksRoom};
+ghost use Rattle.th_session.specs.Step.{Acts};
 ghost use Rattle.th_session.specs.Table.{replied_made};
 
 use crate::seats::{
@@ -78,7 +78,7 @@ fn bind<D: Desk>(
     desk: &mut D,
     topic: TopicId,
 ) -> Reply
-    ensures { ActsOrLacksRoom D.says D.tx D.rx Action.Bind topic.0 seats.old.entries desk.old
+    ensures { Acts D.says D.tx D.rx Action.Bind topic.0 seats.old.entries desk.old
         result seats.new.entries desk.new }
 {
     if has_sender(seats, topic.0) {
@@ -99,7 +99,7 @@ fn subscribe<D: Desk>(
     start: Start,
 ) -> Reply
     ensures { let action = Action.Subscribe start in
-        ActsOrLacksRoom D.says D.tx D.rx action topic.0 seats.old.entries desk.old
+        Acts D.says D.tx D.rx action topic.0 seats.old.entries desk.old
         result seats.new.entries desk.new }
 {
     if has_receiver(seats, topic.0) {
@@ -264,7 +264,7 @@ pub(crate) fn act<D: Desk>(
     topic: TopicId,
     action: Action,
 ) -> Reply
-    ensures { ActsOrLacksRoom D.says D.tx D.rx action topic.0 seats.old.entries desk.old
+    ensures { Acts D.says D.tx D.rx action topic.0 seats.old.entries desk.old
         result seats.new.entries desk.new }
 {
     match action {

@@ -2,8 +2,8 @@
 ghost use Rattle.std.specs.Prelude.{◌≡◌, []};
 ghost use Rattle.th_registry.specs.Hub.{Find};
 ghost use Rattle.th_session.specs.Held.{held};
-ghost use Rattle.th_session.specs.Script.{Ask, at_topic};
-ghost use Rattle.th_session.specs.Step.{IsStep, PlaysOrLacksRoom, NeedsRoom};
+ghost use Rattle.th_session.specs.Script.{Ask, Plays, at_topic};
+ghost use Rattle.th_session.specs.Step.{IsStep};
 
 use crate::action::act;
 use crate::quit::quit;
@@ -41,8 +41,8 @@ fn on_topic<D: Desk>(
     action: Action,
 ) -> Reply
     ensures { let h = held D.tx D.rx seats.old.entries in
-        PlaysOrLacksRoom D.says (NeedsRoom action) (Ask (Find name.now) (at_topic action h))
-        h desk.old result (held D.tx D.rx seats.new.entries) desk.new }
+        Plays D.says (Ask (Find name.now) (at_topic action h)) desk.old
+        result (held D.tx D.rx seats.new.entries) desk.new }
 {
     let Some(found) = desk.find(name) else {
         return Reply::Refused(Code::NoTopic);

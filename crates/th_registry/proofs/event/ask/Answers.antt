@@ -1,4 +1,3 @@
-use Rattle.std.proofs.Common.{rules}
 use Rattle.th_registry.proofs.Events.{asks-hub}
 use Rattle.th_registry.proofs.event.ask.Goals as goal
 

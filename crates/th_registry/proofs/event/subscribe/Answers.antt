@@ -1,4 +1,3 @@
-use Rattle.std.proofs.Common.{rules}
 use Rattle.th_registry.proofs.Events.{subscribes-hub}
 use Rattle.th_registry.proofs.event.subscribe.Goals as goal
 

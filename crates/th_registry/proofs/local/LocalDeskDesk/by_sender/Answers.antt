@@ -1,6 +1,6 @@
 use Rattle.std.proofs.Common.{sym, ap, ◌∙◌}
 use Rattle.std.specs.Option.{option_copied_mut}
-use Rattle.th_registry.specs.Events.{Binds, Subscribes, Sends, Receives, Resubscribes, Own, Hub}
+use Rattle.th_registry.specs.Events.{Sends}
 use Rattle.th_registry.proofs.Events.{desk-says}
 use Rattle.th_registry.proofs.local.LocalDeskDesk.by_sender.Goals as goal
 
