@@ -1,5 +1,5 @@
-use Rattle.std.proofs.Common.{ℕ, List, ◌+◌, ap, subst, true, false, slice_range}
-use Rattle.th_lines.specs.Intake.{Came, Reading, Finds}
+use Rattle.std.proofs.Common.{ℕ, List, ◌+◌, subst, true, false, slice_range}
+use Rattle.th_lines.specs.Intake.{Reading, Finds}
 use Rattle.th_lines.proofs.LineLemmas.{finds_line, finds_none}
 use Rattle.th_lines.proofs.intake.Intake.next_line.Goals as goal
 
