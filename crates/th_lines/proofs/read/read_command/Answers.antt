@@ -76,7 +76,7 @@ returns-in-Some-rest c =
     let word : List ℕ = c.cut.result.0.now in
     let fields : List ℕ = c.in-Some.fields.now in
     let t : List ℕ = c.in-Some-name_and_rest.t in
-    let bytes : List ℕ = c.in-Some-rest.bytes.now in
+    let bytes : List ℕ = c.in-Some-rest.text.now in
     let found = ap (λ (r : Option (Bor (List ℕ))). let p : List ℕ × Rest = (word, rest_of r) in p) (sym c.in-Some.is) ∙ c.cut.ensures in
     let read : name_then parts (Some fields) ≡ Some (t, Some bytes) = sym (c.in-Some-name_and_rest.ensures) ∙ ap (λ (r : Option (Bor (List ℕ))). Some (t, rest_of r)) c.in-Some-rest.is in
     let text : fields ≡ t ++ 32 ∷ bytes = (parts-found fields t (Some bytes) read).0 in
