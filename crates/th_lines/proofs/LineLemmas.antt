@@ -3,7 +3,7 @@ use Rattle.std.proofs.Common.{◌≡◌, inl, inr, ℕ, zero, suc, ◌+◌, ◌<
 use Rattle.std.specs.Prelude.{◌&&◌, not}
 use Rattle.std.proofs.lemmas.Bool.{false≢true, eqb-true}
 use Rattle.std.proofs.lemmas.List.{drop_more, drop-take, drop-drop, take-take}
-use Rattle.th_lines.specs.Lines.{Line, line_of, last_line, lines_from, has_no_lf}
+use Rattle.th_lines.specs.Lines.{line_of, last_line, lines_from, has_no_lf}
 use Rattle.th_lines.specs.Intake.{IsSameLine, Came, Reading, Finds, Fills, HasLfAt}
 use Rattle.th_lines.specs.Device.{ReadMoved, bytes_moved}
 use Rattle.th_lines.specs.declared.counted.Moved.{Moved}
@@ -52,10 +52,6 @@ lines_from-long ended x y (b ∷ more) p q =
 pub lines_from-same : (ended : Bool) (kept bytes more : List ℕ) → IsSameLine kept bytes → lines_from ended kept more ≡ lines_from ended bytes more
 lines_from-same ended kept bytes more (inl e) = ap (λ (l : List ℕ). lines_from ended l more) e
 lines_from-same ended kept bytes more (inr l) = lines_from-long ended kept bytes more l.0 l.1
-
-pub line_of-same : (kept bytes : List ℕ) → IsSameLine kept bytes → line_of true kept ≡ line_of true bytes
-line_of-same kept bytes (inl e) = ap (λ (l : List ℕ). line_of true l) e
-line_of-same kept bytes (inr l) = long_line kept bytes l.0 l.1
 
 -- before the end of the input what stands after the last LF is no line
 pub last_line-none : (held : List ℕ) → last_line false held ≡ []

@@ -1,10 +1,10 @@
 -- How a run of lines goes on, step after step.
-use Rattle.std.proofs.Common.{◌≡◌, ℕ, ◌+◌, Bool, true, false, List, [], ◌∷◌, ◌++◌, length, refl, sym, ap, ◌∙◌, append_assoc, append-nil, arith, length-append, add-zero, subst}
+use Rattle.std.proofs.Common.{◌≡◌, ℕ, ◌+◌, Bool, true, false, List, [], ◌∷◌, ◌++◌, refl, sym, ap, ◌∙◌, append_assoc, append-nil, arith, length-append, add-zero, subst}
 use Rattle.std.specs.Io.KnownBytes.{Appends}
 use Rattle.std.proofs.KnownBytes.{Appends-trans}
 use Rattle.th_lines.specs.Intake.{Came, Reading, Finds, IsSameLine, lines_after}
 use Rattle.th_lines.specs.Lines.{Line, line_of, lines_from}
-use Rattle.th_lines.specs.Output.{Output, Adds, WritesAll, WritesFront}
+use Rattle.th_lines.specs.Output.{Output, Adds}
 use Rattle.th_lines.specs.Replies.{spell}
 use Rattle.th_lines.specs.Standing.{Standing, Turned, Advances, Stops, Ended, spellings}
 use Rattle.th_lines.specs.declared.reply.Reply.{Reply}

@@ -5,7 +5,8 @@ ghost use Rattle.th_lines.specs.Intake.{Ends, Fills, Finds, IsSameLine, Reading,
 ghost use Rattle.th_lines.specs.Lines.{line_of};
 
 use crate::counted::{Counted, Moved};
-use crate::cut::{LINE_KEPT, LINE_LIMIT, keep_begun, line_end, without_cr};
+use crate::cut::{LINE_KEPT, LINE_LIMIT, keep_begun};
+use bstr::ByteSlice;
 use std::alloc::{AllocError, Global};
 use std::io::Read;
 use std::marker::Model;
@@ -73,7 +74,8 @@ impl Intake {
     pub fn next_line(&mut self) -> bool
         ensures { Finds self.old.came result self.new }
     {
-        let Some(count) = line_end(&self.buffer[self.ahead_from..self.ahead_to]) else {
+        let ahead = &self.buffer[self.ahead_from..self.ahead_to];
+        let Some(count) = ahead.find_byte(b'\n') else {
             self.ahead_from = self.ahead_to;
             return false;
         };
@@ -105,8 +107,8 @@ impl Intake {
         if line.len() > LINE_LIMIT {
             return None;
         }
-        if before_lf {
-            return Some(without_cr(line));
+        if before_lf && line.last() == Some(&b'\r') {
+            return Some(&line[..line.len() - 1]);
         }
         Some(line)
     }

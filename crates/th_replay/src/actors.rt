@@ -3,7 +3,7 @@ ghost use Rattle.std.specs.Prelude.{◌≡◌, None, slice_get, remove, IfOk};
 ghost use Rattle.std.specs.Map.{values_of};
 ghost use Rattle.th_lines.specs.Lines.{Good};
 ghost use Rattle.th_replay.specs.Session.{Turns};
-ghost use Rattle.th_replay.specs.Schedule.{IsAnswer, answers, by_holding, by_place, has_quit, is_short, picture_step, place_of, seen_start};
+ghost use Rattle.th_replay.specs.Schedule.{IsAnswer, answers, asks_by_holding, asks_by_place, by_holding, by_place, has_quit, is_short, picture_asks, picture_step, place_of, seen_start};
 
 use indexmap::IndexMap;
 use std::alloc::{AllocError, Global};
@@ -98,9 +98,9 @@ impl Hub {
     // actors; nothing else here does.
     #[inline(always)]
     fn carry_out(&mut self, place: usize, command: Command<'_>) -> Reply
-        ensures { IsAnswer
-            (by_holding picture_step self.old place command.entry
-            (slice_get (values_of self.old.actors) place)) self.old result self.new }
+        ensures { let held = slice_get (values_of self.old.actors) place in
+            IsAnswer (by_holding picture_step self.old place command.entry held)
+            (asks_by_holding picture_asks self.old command.entry held) self.old result self.new }
     {
         let Some(session) = self.actors.get_index_mut(place) else {
             return Reply::Refused(Code::NotHeld);
@@ -125,7 +125,7 @@ impl Hub {
     fn carry_out_first(&mut self, alloc: Global, name: NameRef<'_>, command: Command<'_>) -> Reply
         requires { place_of self.old.actors name ≡ None }
         ensures { IsAnswer (by_place picture_step self.old name.entry command.entry None)
-            self.old result self.new }
+            (asks_by_place picture_asks self.old command.entry None) self.old result self.new }
     {
         if self.actors.len() >= MOST_ACTORS {
             return Reply::Refused(Code::TooMany);

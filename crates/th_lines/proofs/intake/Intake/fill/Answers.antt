@@ -1,6 +1,5 @@
-use Rattle.std.proofs.Common.{◌≡◌, ◌≤◌, ◌<◌, ◌+◌, ◌-◌, ◌++◌, ℕ, List, ap, arith, drop, length, length-drop, rules, slice_range, subst, sym, take}
+use Rattle.std.proofs.Common.{◌≡◌, ◌<◌, ◌+◌, ◌++◌, ℕ, List, ap, arith, drop, length, length-drop, slice_range, subst, sym, take}
 use Rattle.std.specs.Prelude.{Option}
-use Rattle.th_lines.specs.Device.{bytes_moved}
 use Rattle.th_lines.specs.Intake.{Came, Fills, IsSameLine, Reading}
 use Rattle.th_lines.proofs.LineLemmas.{fills, lent_back, moved_within}
 use Rattle.th_lines.proofs.intake.Intake.fill.Goals as goal

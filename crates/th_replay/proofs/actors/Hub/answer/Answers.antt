@@ -1,6 +1,6 @@
 use Rattle.std.proofs.Common.{◌≡◌, ◌∙◌, ℕ, None, Some, ap, sym, subst}
 use Rattle.std.specs.Prelude.{Option, Err}
-use Rattle.th_lines.specs.Commands.{command_of}
+use Rattle.th_lines.specs.Commands.{carries_value, command_of}
 use Rattle.th_lines.specs.Reads.{Reads}
 use Rattle.th_lines.specs.declared.fault.LineFault.{LineFault}
 use Rattle.th_registry.specs.Pictures.{SeenTopics}
@@ -29,8 +29,8 @@ returns-in-None c =
 
 pub returns-in-Err-BadLine : goal.returns-in-Err-BadLine
 returns-in-Err-BadLine c =
-    bad_command _ _ _ _ c.in-Some.ensures (subst (λ (f : LineFault). Reads (Err f) (command_of c.in-Some.bytes.now)) c.in-Err-BadLine.field-0-is c.in-Err-BadLine.ensures.exact)
+    bad_command _ _ _ _ c.in-Some.ensures (subst (λ (f : LineFault). Reads carries_value (Err f) (command_of c.in-Some.bytes.now)) c.in-Err-BadLine.field-0-is c.in-Err-BadLine.ensures.exact)
 
 pub returns-in-Err-Short : goal.returns-in-Err-Short
 returns-in-Err-Short c =
-    short_command _ _ _ _ c.in-Some.ensures (subst (λ (f : LineFault). Reads (Err f) (command_of c.in-Some.bytes.now)) c.in-Err-Short.field-0-is c.in-Err-Short.ensures.exact)
+    short_command _ _ _ _ c.in-Some.ensures (subst (λ (f : LineFault). Reads carries_value (Err f) (command_of c.in-Some.bytes.now)) c.in-Err-Short.field-0-is c.in-Err-Short.ensures.exact)

@@ -6,13 +6,13 @@ use Rattle.indexmap.specs.IndexMap.{insert_entry}
 use Rattle.th_registry.specs.Pictures.{SeenTopics, pictures}
 use Rattle.th_session.specs.Held.{Holding}
 use Rattle.th_session.specs.Step.{Steps}
-use Rattle.th_replay.specs.Schedule.{Hub, Actors, IsAnswer, by_place, has_quit, picture_step, place_of}
+use Rattle.th_replay.specs.Schedule.{Hub, Actors, IsAnswer, asks_by_place, by_place, has_quit, picture_asks, picture_step, place_of}
 use Rattle.th_replay.proofs.Orders.{begins, insert-new}
 use Rattle.th_replay.proofs.actors.Hub.carry_out_first.Goals as goal
 
 pub returns : goal.returns
 returns c =
-    let P : Hub SeenTopics → Type 0 = λ hub. IsAnswer (by_place picture_step hub c.args.name c.args.command None) hub c.step-reply.result (record { topics = c.step-reply.new.desk; actors = c.insert.new.self.entries }) in
+    let P : Hub SeenTopics → Type 0 = λ hub. IsAnswer (by_place picture_step hub c.args.name c.args.command None) (asks_by_place picture_asks hub c.args.command None) hub c.step-reply.result (record { topics = c.step-reply.new.desk; actors = c.insert.new.self.entries }) in
     let none = ap (λ (hub : Hub SeenTopics). place_of hub.actors c.args.name) c.self.view_is ∙ c.requires in
     let room : length c.self.inside.actors.entries < 1024 = omega (arith, c.len.ensures.len, c.if-len-ge-MOST_ACTORS.false) in
     let steps : Steps pictures [] c.self.inside.desk c.args.command c.step-reply.result c.step-reply.new.session c.step-reply.new.desk =
