@@ -91,30 +91,6 @@ pub waiting_front : {a b c : Output} {x : List ℕ} → Adds x a b → WritesFro
 waiting_front {a} {b} {c} {x} p q =
     front_as (ap (λ (l : List ℕ). a.waiting ++ l) (append-nil x)) (front_after [] p (front_more [] q))
 
--- by the result: what was flushed came to nothing more
-pub flushes_add : {A E : Type 0} (o n : Output) (r : Result A E) → Flushes o n r → AddsOrFails [] o n r
-flushes_add o n (Ok a) f = flushed_adds f.0 f.1
-flushes_add o n (Err e) f = front_as (sym (append-nil o.waiting)) f
-
--- all that waited was written, and then the writer was flushed
-pub flushes_both : {A E : Type 0} (o n c : Output) (r : Result A E) → WritesAll o.waiting o n → c.waiting ≡ []
-    → Writes [] (record n { waiting = [] }) (record c { waiting = [] }) r → Flushes o c r
-flushes_both o n c (Ok a) p none q = (
-  record {
-    wrote = subst (λ (l : List ℕ). Appends o.written c.written l) (append-nil o.waiting)
-        (Appends-trans o.written n.written c.written o.waiting [] p.wrote q.wrote);
-    same = q.same ∙ p.same;
-  },
-  none,
-)
-flushes_both o n c (Err e) p none q = record {
-  shown = o.waiting ++ q.shown;
-  unsaid = q.unsaid;
-  wrote = Appends-trans o.written n.written c.written o.waiting q.shown p.wrote q.wrote;
-  text = append_assoc o.waiting q.shown q.unsaid ∙ ap (λ (l : List ℕ). o.waiting ++ l) q.text ∙ append-nil o.waiting;
-  failed = q.failed ∙ ap one_more p.same;
-}
-
 -- the writer failed before they came
 pub front_all : (o n : Output) (bytes : List ℕ) → WritesFront (o.waiting ++ []) o n → WritesFront (o.waiting ++ bytes) o n
 front_all o n bytes f = front_as (ap (λ (l : List ℕ). l ++ bytes) (append-nil o.waiting)) (front_more bytes f)
