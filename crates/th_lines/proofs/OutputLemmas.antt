@@ -1,5 +1,5 @@
 -- Replies that wait, and what is written of them.
-use Rattle.std.proofs.Common.{◌≡◌, ℕ, ◌+◌, ◌-◌, ◌<◌, List, [], ◌++◌, length, take, drop, refl, sym, ap, ◌∙◌, append_assoc, append-nil, arith, Option, Ok, Err, subst, length-drop, take-append-drop}
+use Rattle.std.proofs.Common.{◌≡◌, ℕ, ◌+◌, ◌-◌, ◌<◌, List, [], ◌++◌, length, take, drop, get_or, refl, sym, ap, ◌∙◌, append_assoc, append-nil, arith, Option, Ok, Err, subst, length-drop, take-append-drop}
 use Rattle.std.specs.Prelude.{Result}
 use Rattle.std.specs.Io.KnownBytes.{Appends, Keeps}
 use Rattle.std.proofs.KnownBytes.{Appends-nil, Appends-trans, Appends-kept}
@@ -8,10 +8,8 @@ use Rattle.std.proofs.lemmas.List.{take_all}
 use Rattle.std.specs.List.{concat}
 use Rattle.std.proofs.lemmas.List.Folds.{concat-append}
 use Rattle.th_lines.specs.Device.{one_more}
-use Rattle.th_lines.specs.declared.reply.Reply.{Reply}
-use Rattle.th_lines.specs.Replies.{line_at, reply_lines, spell}
 use Rattle.th_lines.specs.Output.{Output, WritesAll, WritesFront, Adds, Writes, AddsOrFails, Flushes}
-use Rattle.th_lines.proofs.ReplyLemmas.{lines-more}
+use Rattle.th_lines.proofs.ReplyLemmas.{concat-more}
 
 -- nothing came
 pub adds_none : (o : Output) → Adds [] o o
@@ -93,51 +91,35 @@ pub waiting_front : {a b c : Output} {x : List ℕ} → Adds x a b → WritesFro
 waiting_front {a} {b} {c} {x} p q =
     front_as (ap (λ (l : List ℕ). a.waiting ++ l) (append-nil x)) (front_after [] p (front_more [] q))
 
--- by the result: what was flushed came to nothing more
-pub flushes_add : {A E : Type 0} (o n : Output) (r : Result A E) → Flushes o n r → AddsOrFails [] o n r
-flushes_add o n (Ok a) f = flushed_adds f.0 f.1
-flushes_add o n (Err e) f = front_as (sym (append-nil o.waiting)) f
+-- the writer failed before they came
+pub front_all : (o n : Output) (bytes : List ℕ) → WritesFront (o.waiting ++ []) o n → WritesFront (o.waiting ++ bytes) o n
+front_all o n bytes f = front_as (ap (λ (l : List ℕ). l ++ bytes) (append-nil o.waiting)) (front_more bytes f)
 
--- all that waited was written, and then the writer was flushed
-pub flushes_both : {A E : Type 0} (o n c : Output) (r : Result A E) → WritesAll o.waiting o n → c.waiting ≡ []
-    → Writes [] (record n { waiting = [] }) (record c { waiting = [] }) r → Flushes o c r
-flushes_both o n c (Ok a) p none q = (
-  record {
-    wrote = subst (λ (l : List ℕ). Appends o.written c.written l) (append-nil o.waiting)
-        (Appends-trans o.written n.written c.written o.waiting [] p.wrote q.wrote);
-    same = q.same ∙ p.same;
-  },
-  none,
-)
-flushes_both o n c (Err e) p none q = record {
-  shown = o.waiting ++ q.shown;
-  unsaid = q.unsaid;
-  wrote = Appends-trans o.written n.written c.written o.waiting q.shown p.wrote q.wrote;
-  text = append_assoc o.waiting q.shown q.unsaid ∙ ap (λ (l : List ℕ). o.waiting ++ l) q.text ∙ append-nil o.waiting;
-  failed = q.failed ∙ ap one_more p.same;
-}
+-- a first line, where there is room for it, and then others
+pub adds_first : (a b : Output) (line waiting : List ℕ) → Adds [] a b → waiting ≡ b.waiting ++ line → Adds line a (record b { waiting = waiting })
+adds_first a b line waiting p e = adds_both p (adds_waiting b line waiting e)
 
--- a reply whose first k lines were put behind what waited, and one line more
-pub adds_line : (a b c : Output) (reply : Reply) (k : ℕ) (waiting : List ℕ) → k < length (reply_lines reply)
-    → Adds (concat (take k (reply_lines reply))) a b → Adds [] b c → waiting ≡ c.waiting ++ line_at reply k
-    → Adds (concat (take (k + 1) (reply_lines reply))) a (record c { waiting = waiting })
-adds_line a b c reply k waiting within p q e =
-    let front : List ℕ = concat (take k (reply_lines reply)) in
+pub adds_others : {R E : Type 0} (a b c : Output) (line others : List ℕ) (r : Result R E) → Adds line a b → AddsOrFails others b c r → AddsOrFails (line ++ others) a c r
+adds_others a b c line others (Ok done) p q = adds_both p q
+adds_others a b c line others (Err e) p f = front_after others p f
+
+-- lines of which the first k were put behind what waited, and one line more
+pub adds_line : (a b c : Output) (lines : List (List ℕ)) (k : ℕ) (waiting : List ℕ) → k < length lines
+    → Adds (concat (take k lines)) a b → Adds [] b c → waiting ≡ c.waiting ++ get_or lines k []
+    → Adds (concat (take (k + 1) lines)) a (record c { waiting = waiting })
+adds_line a b c lines k waiting within p q e =
     let now : Output = record c { waiting = waiting } in
-    let all : Adds ((front ++ []) ++ line_at reply k) a now = adds_both (adds_both p q) (adds_waiting c (line_at reply k) waiting e) in
-    subst (λ (t : List ℕ). Adds t a now)
-    (ap (λ (t : List ℕ). t ++ line_at reply k) (append-nil front) ∙ sym (lines-more reply k within)) all
+    subst (λ (t : List ℕ). Adds t a now) (sym (concat-more lines k within)) (adds_both p (adds_first b c (get_or lines k []) waiting q e))
 
 -- the writer failed after them
-pub front_line : (a b c : Output) (reply : Reply) (k : ℕ) → Adds (concat (take k (reply_lines reply))) a b
-    → WritesFront (b.waiting ++ []) b c → WritesFront (a.waiting ++ spell reply) a c
-front_line a b c reply k p f =
-    let rest : List ℕ = concat (drop k (reply_lines reply)) in
-    let whole : concat (take k (reply_lines reply)) ++ rest ≡ spell reply =
-    sym (concat-append (take k (reply_lines reply)) (drop k (reply_lines reply)))
-    ∙ ap concat (take-append-drop k (reply_lines reply)) in
+pub front_line : (a b c : Output) (lines : List (List ℕ)) (k : ℕ) → Adds (concat (take k lines)) a b
+    → WritesFront (b.waiting ++ []) b c → WritesFront (a.waiting ++ concat lines) a c
+front_line a b c lines k p f =
+    let rest : List ℕ = concat (drop k lines) in
+    let whole : concat (take k lines) ++ rest ≡ concat lines =
+    sym (concat-append (take k lines) (drop k lines)) ∙ ap concat (take-append-drop k lines) in
     front_as (ap (λ (t : List ℕ). a.waiting ++ t) whole)
-    (front_after rest p (front_as (ap (λ (l : List ℕ). l ++ rest) (append-nil b.waiting)) (front_more rest f)))
+    (front_after rest p (front_all b c rest f))
 
 -- a write in parts
 pub range_rest : (bytes : List ℕ) (i : ℕ) → take (length bytes - i) (drop i bytes) ≡ drop i bytes

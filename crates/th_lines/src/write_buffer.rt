@@ -1,15 +1,17 @@
 //! Replies that wait to be written.
-ghost use Rattle.std.specs.Prelude.{◌≡◌, ◌+◌, ◌≤◌, [], ℕ, List, IfOk, OnOk, vec_capacity, vec_len};
+ghost use Rattle.std.specs.Prelude.{◌≡◌, ◌+◌, ◌≤◌, [], ℕ, List, IfOk, OnOk, map, vec_capacity, vec_len};
+ghost use Rattle.std.specs.List.{concat};
 ghost use Rattle.th_lines.specs.Output.{AddsOrFails, Flushes, Writes, output};
-ghost use Rattle.th_lines.specs.Replies.{spell};
+ghost use Rattle.th_lines.specs.Replies.{ended, row, spell};
 
 use crate::counted::{Counted, Moved};
 use crate::fault::WriteFailed;
-use crate::print::print_line;
+use crate::print::{print_head, print_row};
 use crate::reply::Reply;
 use std::alloc::{AllocError, Global};
 use std::io::Write;
 use std::marker::Model;
+use th_model::Listed;
 
 /// How many bytes wait at most.
 const ROOM: usize = 65536;
@@ -64,7 +66,19 @@ impl WriteBuffer {
         ensures { AddsOrFails (spell reply.now)
             (output W.contents writer.old self.old) (output W.contents writer.new self.new) result }
     {
-        append_lines(&mut self.waiting, &mut self.retries, writer, reply)
+        let waiting = &mut self.waiting;
+        let retries = &mut self.retries;
+        match make_room(waiting, retries, writer) {
+            Ok(()) => {}
+            Err(e) => return Err(e),
+        }
+        let Ok(()) = print_head(reply, waiting) else {
+            unreachable!();
+        };
+        if let Reply::Topics(listing) = reply {
+            return append_rows(waiting, retries, writer, listing.rows());
+        }
+        Ok(())
     }
 
     /// Writes all that waits and flushes the writer, so that whoever reads the replies has them all. Where nothing
@@ -81,25 +95,25 @@ impl WriteBuffer {
     }
 }
 
-// Puts a reply behind what waits.
-fn append_lines<W: Write>(
+// Puts the lines of these topics behind what waits.
+fn append_rows<W: Write>(
     waiting: &mut Vec<u8>,
     retries: &mut u32,
     writer: &mut Counted<W>,
-    reply: &Reply,
+    topics: &[Listed],
 ) -> Result<(), WriteFailed>
     requires { LINE_ROOM ≤ vec_capacity waiting.old }
-    ensures added { AddsOrFails (spell reply.now)
+    ensures added { AddsOrFails (concat (map ended (map row topics.now)))
         (output W.contents writer.old waiting.old.items)
         (output W.contents writer.new waiting.new.items) result }
     ensures room { LINE_ROOM ≤ vec_capacity waiting.new }
 {
-    for k in 0..reply.line_count() {
+    for topic in topics {
         match make_room(waiting, retries, writer) {
             Ok(()) => {}
             Err(e) => return Err(e),
         }
-        let Ok(()) = print_line(reply, k, waiting) else {
+        let Ok(()) = print_row(topic, waiting) else {
             unreachable!();
         };
     }
