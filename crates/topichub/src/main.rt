@@ -1,17 +1,9 @@
 //! The program: does what its words ask for, on the standard streams, and ends with a status.
 #![tactic(auto)]
 
-mod end;
-mod help;
-mod modes;
-mod program;
-mod streams;
-#[cfg(test)]
-mod tests;
-mod words;
-
 use std::process::ExitCode;
+use th_program::run_on_streams;
 
 fn main(rt: HostRuntime) -> ExitCode {
-    streams::run_on_streams(&rt)
+    run_on_streams(&rt)
 }

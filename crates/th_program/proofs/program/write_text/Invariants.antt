@@ -1,6 +1,6 @@
 use Rattle.std.proofs.Common.{◌≡◌, ◌+◌, ◌-◌, ◌≤◌, length, take}
 use Rattle.std.specs.Io.KnownBytes.{Appends}
-use Rattle.topichub.proofs.program.write_text.Given as goal
+use Rattle.th_program.proofs.program.write_text.Given as goal
 
 -- the front of the text up to here is written
 abbrev pub invariant-loop-at : goal.invariant-loop-at

@@ -2,7 +2,7 @@
 
 ghost use Rattle.std.specs.Prelude.{◌≡◌, ◌≢◌, ◌⊎◌, IfOk, OnOk, [], map};
 ghost use Rattle.clap.specs.Words.{app_of, fault_of, kind_of};
-ghost use Rattle.topichub.specs.Words.{AreReplay, AreHelp, AreNone, IsHelp, IsUsage, GivesReplay, GivesFault, command_line};
+ghost use Rattle.th_program.specs.Words.{AreReplay, AreHelp, AreNone, IsHelp, IsUsage, GivesReplay, GivesFault, command_line};
 
 use crate::help::{ABOUT, AFTER, REPLAY_ABOUT, REPLAY_AFTER};
 use crate::modes::{Mode, ModeFault};

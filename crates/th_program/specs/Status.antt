@@ -1,7 +1,7 @@
 -- How the program ends, and what it says of that.
 use Rattle.std.specs.Prelude.{ℕ, List, Option, Some, None, codes}
-use Rattle.topichub.specs.declared.end.End.{End}
-use Rattle.topichub.specs.declared.end.End.TheVariants.{Done, Help, Read, Write, TooLong, Short, Socket, Usage, Illegal, Bad}
+use Rattle.th_program.specs.declared.end.End.{End}
+use Rattle.th_program.specs.declared.end.End.TheVariants.{Done, Help, Read, Write, TooLong, Short, Socket, Usage, Illegal, Bad}
 
 -- 0: done; 1: stopped by the machine or a limit; 2: wrong words; 3: a fault found in a trace
 abbrev pub status_of : End → ℕ

@@ -1,11 +1,11 @@
 -- How a run ends that was asked for help.
 use Rattle.std.proofs.Common.{◌≡◌, ℕ, List}
-use Rattle.topichub.specs.declared.end.End.{End}
-use Rattle.topichub.specs.declared.end.End.TheVariants.{Help, Write}
-use Rattle.topichub.specs.declared.modes.ModeFault.{ModeFault}
-use Rattle.topichub.specs.declared.modes.ModeFault.TheVariants as fault
+use Rattle.th_program.specs.declared.end.End.{End}
+use Rattle.th_program.specs.declared.end.End.TheVariants.{Help, Write}
+use Rattle.th_program.specs.declared.modes.ModeFault.{ModeFault}
+use Rattle.th_program.specs.declared.modes.ModeFault.TheVariants as fault
 use Rattle.th_replay.specs.Outcome.{Devices}
-use Rattle.topichub.specs.Run.{IsUnread, IsHelpOf, EndsHelp}
+use Rattle.th_program.specs.Run.{IsUnread, IsHelpOf, EndsHelp}
 
 pub ends_help : (text : List ℕ) (before after : Devices) (end : End)
     → IsHelpOf text before.contents after.contents end → IsUnread before after

@@ -1,6 +1,6 @@
 //! How the program ends, and the exit status that says so.
 ghost use Rattle.std.specs.Prelude.{◌≡◌, option_map};
-ghost use Rattle.topichub.specs.Status.{explanation_of, status_of};
+ghost use Rattle.th_program.specs.Status.{explanation_of, status_of};
 
 /// How a run of the program ended.
 #[derive(Clone, Copy, Debug, PartialEq, Eq)]

@@ -1,5 +1,5 @@
 use Rattle.std.proofs.Common.{◌≡◌, map, string_bytes, take}
-use Rattle.topichub.proofs.streams.texts.Given as goal
+use Rattle.th_program.proofs.streams.texts.Given as goal
 
 -- the texts of the words so far
 abbrev pub invariant-loop-word : goal.invariant-loop-word

@@ -3,8 +3,8 @@ ghost use Rattle.std.specs.Prelude.{◌≡◌, true, false, map};
 ghost use Rattle.std.specs.Io.KnownBytes.{Appends};
 ghost use Rattle.th_lines.specs.Device.{one_more};
 ghost use Rattle.th_replay.specs.Outcome.{devices};
-ghost use Rattle.topichub.specs.Run.{Ends, EndsReplay, IsHelpOf, IsExplained, IsSaid, errors_of, line_of};
-ghost use Rattle.topichub.specs.Status.{explanation_of};
+ghost use Rattle.th_program.specs.Run.{Ends, EndsReplay, IsHelpOf, IsExplained, IsSaid, errors_of, line_of};
+ghost use Rattle.th_program.specs.Status.{explanation_of};
 
 use crate::end::{End, explanation};
 use crate::modes::{Mode, ModeFault};

@@ -1,7 +1,7 @@
 use Rattle.std.proofs.Common.{arith, length-drop, refl}
 use Rattle.std.proofs.lemmas.Bool.{ltb-true}
-use Rattle.topichub.proofs.Writing.{written_next}
-use Rattle.topichub.proofs.program.write_text.Goals as goal
+use Rattle.th_program.proofs.Writing.{written_next}
+use Rattle.th_program.proofs.program.write_text.Goals as goal
 
 pub loop-at-preserved-in-Bytes : goal.loop-at-preserved-in-Bytes
 loop-at-preserved-in-Bytes g c =

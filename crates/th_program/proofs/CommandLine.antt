@@ -3,7 +3,7 @@ use Rattle.std.proofs.Common.{◌≡◌, ℕ, List, [], ◌∷◌, refl, codes, 
 use Rattle.clap.specs.Words.{fault_of, is_simple_and_free}
 use Rattle.clap.specs.declared.error.kind.ErrorKind.TheVariants as kind
 use Rattle.clap.proofs.OnLiterals.{clap_on_literals}
-use Rattle.topichub.specs.Words.{command_line}
+use Rattle.th_program.specs.Words.{command_line}
 
 pub is_plain : is_simple_and_free command_line ≡ true
 is_plain = refl

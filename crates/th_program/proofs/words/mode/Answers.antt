@@ -1,9 +1,9 @@
 use Rattle.std.proofs.Common.{ap, ap₂, sym, subst, inl, inr, ◌≡◌, ◌∙◌, [], ◌∷◌, map}
 use Rattle.clap.specs.Words.{HasKind, Kinds, fault_of, is_simple_and_free}
 use Rattle.clap.specs.declared.error.kind.ErrorKind.TheVariants as kind
-use Rattle.topichub.specs.Words.{command_line}
-use Rattle.topichub.proofs.CommandLine.{is_plain, replay_passes, help_fails, none_fails}
-use Rattle.topichub.proofs.words.mode.Goals as goal
+use Rattle.th_program.specs.Words.{command_line}
+use Rattle.th_program.proofs.CommandLine.{is_plain, replay_passes, help_fails, none_fails}
+use Rattle.th_program.proofs.words.mode.Goals as goal
 
 -- the error has one of the kinds that the words give
 failed : (c : goal.After-refused) (kinds : Kinds)

@@ -7,10 +7,10 @@ use Rattle.th_replay.specs.Outcome.{Devices, Replayed, Stopped}
 use Rattle.th_replay.specs.Schedule.{machine, start}
 use Rattle.th_replay.specs.declared.fault.ReplayFault.{ReplayFault}
 use Rattle.th_replay.specs.declared.fault.ReplayFault.TheVariants as fault
-use Rattle.topichub.specs.declared.end.End.{End}
-use Rattle.topichub.specs.declared.end.End.TheVariants.{Done, Help, Read, Write, TooLong, Short, Usage}
-use Rattle.topichub.specs.Status.{explanation_of}
-use Rattle.topichub.specs.Words.{AreReplay, AreHelp, AreNone, command_line}
+use Rattle.th_program.specs.declared.end.End.{End}
+use Rattle.th_program.specs.declared.end.End.TheVariants.{Done, Help, Read, Write, TooLong, Short, Usage}
+use Rattle.th_program.specs.Status.{explanation_of}
+use Rattle.th_program.specs.Words.{AreReplay, AreHelp, AreNone, command_line}
 
 -- what is known of standard error: the bytes written, and how many calls failed
 pub record Errors : Type 0 where

@@ -1,10 +1,10 @@
 -- What the words of the command line ask for.
 use Rattle.std.specs.Prelude.{◌≡◌, ◌⊎◌, ℕ, List, [], ◌∷◌, Result, MatchResult, codes, true}
 use Rattle.clap.specs.Words.{App, new_app, with_subcommand}
-use Rattle.topichub.specs.declared.modes.Mode.{Mode}
-use Rattle.topichub.specs.declared.modes.Mode.TheVariants.{Replay}
-use Rattle.topichub.specs.declared.modes.ModeFault.{ModeFault}
-use Rattle.topichub.specs.declared.modes.ModeFault.TheVariants.{Usage, Help, Short}
+use Rattle.th_program.specs.declared.modes.Mode.{Mode}
+use Rattle.th_program.specs.declared.modes.Mode.TheVariants.{Replay}
+use Rattle.th_program.specs.declared.modes.ModeFault.{ModeFault}
+use Rattle.th_program.specs.declared.modes.ModeFault.TheVariants.{Usage, Help, Short}
 
 -- the words are the program's name and `replay`
 abbrev pub AreReplay : List (List ℕ) → Type 0

@@ -1,0 +1,25 @@
+//! What the program `topichub` does: by the words of its command line, over any reader and writers, and how it ends.
+//!
+//! ```text
+//! let mut input = Counted::new(b"a OPEN t B 2\n".as_slice());
+//! let mut output = Counted::new(Vec::new(alloc));
+//! let mut errors = Counted::new(Vec::new(alloc));
+//! let end = run(alloc, &["topichub", "replay"], &mut input, &mut output, &mut errors);
+//! // status(&end) is 0, and output.device() has "OK 2\n"
+//! ```
+#![tactic(auto)]
+
+mod end;
+mod help;
+mod modes;
+mod program;
+mod streams;
+#[cfg(test)]
+mod tests;
+mod words;
+
+pub use end::{End, explanation, status};
+pub use modes::{Mode, ModeFault};
+pub use program::{run, run_short};
+pub use streams::run_on_streams;
+pub use words::mode;
