@@ -35,7 +35,7 @@ use Rattle.th_registry.specs.Calls.{Bytes, tx, rx, broadcast_asked, broadcast_by
 use Rattle.th_registry.specs.Events.{Event, Binds, Subscribes, Sends, Asks, Receives, Resubscribes, DropsTx, DropsRx, Hub, Own, By, sender_of, Told, NewTx, NewRx, Replied, by_asker, by_sender, through_hub, broadcast_call, broadcast_made_rx, broadcast_made_tx, broadcast_outcome, broadcast_waits, watch_call, watch_made_rx, watch_made_tx, watch_outcome, watch_waits}
 use Rattle.th_registry.specs.Hub.{came, broadcast_replies, broadcast_event, moved, watch_replies, channel_event}
 use Rattle.th_registry.specs.Endless.{EndlessChannel, endless, IsProperChannel}
-use Rattle.th_registry.specs.Live.{Handle, Sender, Receiver, is_live, made, Ends}
+use Rattle.th_registry.specs.Live.{Handle, Sender, Receiver, is_live, new_handle, Ends}
 use Rattle.th_registry.proofs.LiveNumbers.{Numbers, Follows, lives, stands, drops, joins, then_goes, as_said}
 use Rattle.th_registry.proofs.LiveBroadcast as b
 use Rattle.th_registry.proofs.LiveWatch as w
@@ -98,7 +98,7 @@ watch-received-by ReceiverVerbs.MarkUnchanged r = (refl, λ y h. h)
 
 -- the handle that was made, as it is told
 
-made-through : (told : Told) (x : Handle) → made (through_hub told) ≡ Some x → made told ≡ Some x
+made-through : (told : Told) (x : Handle) → new_handle (through_hub told) ≡ Some x → new_handle told ≡ Some x
 made-through (Ok (NewTx t)) x e = e
 made-through (Ok (NewRx r)) x e = e
 made-through (Ok (Replied (ChannelReplies.Broadcast (BReplies.Sent n)))) x e = e
@@ -132,11 +132,11 @@ made-through (Ok (Replied (ChannelReplies.Watch WReplies.TooMany))) x e = e
 made-through (Ok (Replied (ChannelReplies.Watch (WReplies.NoHandle v)))) x e = e
 made-through (Err why) x e = e
 
-made-by : (by : By) (told : Told) (x : Handle) → made (by_sender by told) ≡ Some x → made told ≡ Some x
+made-by : (by : By) (told : Told) (x : Handle) → new_handle (by_sender by told) ≡ Some x → new_handle told ≡ Some x
 made-by Hub told x e = made-through told x e
 made-by (Own t) told x e = e
 
-made-asker : (event : Event) (told : Told) (x : Handle) → made (by_asker event told) ≡ Some x → made told ≡ Some x
+made-asker : (event : Event) (told : Told) (x : Handle) → new_handle (by_asker event told) ≡ Some x → new_handle told ≡ Some x
 made-asker Binds told x e = made-through told x e
 made-asker (Subscribes start by) told x e = made-by by told x e
 made-asker (Sends t verb) told x e = e
@@ -146,7 +146,7 @@ made-asker (Resubscribes r) told x e = e
 made-asker (DropsTx by) told x e = made-by by told x e
 made-asker (DropsRx r) told x e = e
 
-made-tx : (reply : BReply Bytes) (x : Handle) → made (Ok (broadcast_made_tx reply)) ≡ Some x → b.made_by reply ≡ Some x
+made-tx : (reply : BReply Bytes) (x : Handle) → new_handle (Ok (broadcast_made_tx reply)) ≡ Some x → b.made_by reply ≡ Some x
 made-tx (BReplies.Sent n) x e = absurd (none-some x e)
 made-tx (BReplies.NoReceivers v) x e = absurd (none-some x e)
 made-tx (BReplies.Exhausted v) x e = absurd (none-some x e)
@@ -161,7 +161,7 @@ made-tx BReplies.Done x e = absurd (none-some x e)
 made-tx BReplies.TooMany x e = absurd (none-some x e)
 made-tx (BReplies.NoHandle v) x e = absurd (none-some x e)
 
-made-rx : (reply : BReply Bytes) (x : Handle) → made (Ok (broadcast_made_rx reply)) ≡ Some x → b.made_by reply ≡ Some x
+made-rx : (reply : BReply Bytes) (x : Handle) → new_handle (Ok (broadcast_made_rx reply)) ≡ Some x → b.made_by reply ≡ Some x
 made-rx (BReplies.Sent n) x e = absurd (none-some x e)
 made-rx (BReplies.NoReceivers v) x e = absurd (none-some x e)
 made-rx (BReplies.Exhausted v) x e = absurd (none-some x e)
@@ -176,7 +176,7 @@ made-rx BReplies.Done x e = absurd (none-some x e)
 made-rx BReplies.TooMany x e = absurd (none-some x e)
 made-rx (BReplies.NoHandle v) x e = absurd (none-some x e)
 
-watch-made-tx : (reply : WReply Bytes) (x : Handle) → made (Ok (watch_made_tx reply)) ≡ Some x → w.made_by reply ≡ Some x
+watch-made-tx : (reply : WReply Bytes) (x : Handle) → new_handle (Ok (watch_made_tx reply)) ≡ Some x → w.made_by reply ≡ Some x
 watch-made-tx WReplies.Done x e = absurd (none-some x e)
 watch-made-tx (WReplies.NoReceivers v) x e = absurd (none-some x e)
 watch-made-tx (WReplies.Exhausted v) x e = absurd (none-some x e)
@@ -194,7 +194,7 @@ watch-made-tx (WReplies.Count n) x e = absurd (none-some x e)
 watch-made-tx WReplies.TooMany x e = absurd (none-some x e)
 watch-made-tx (WReplies.NoHandle v) x e = absurd (none-some x e)
 
-watch-made-rx : (reply : WReply Bytes) (x : Handle) → made (Ok (watch_made_rx reply)) ≡ Some x → w.made_by reply ≡ Some x
+watch-made-rx : (reply : WReply Bytes) (x : Handle) → new_handle (Ok (watch_made_rx reply)) ≡ Some x → w.made_by reply ≡ Some x
 watch-made-rx WReplies.Done x e = absurd (none-some x e)
 watch-made-rx (WReplies.NoReceivers v) x e = absurd (none-some x e)
 watch-made-rx (WReplies.Exhausted v) x e = absurd (none-some x e)
@@ -212,7 +212,7 @@ watch-made-rx (WReplies.Count n) x e = absurd (none-some x e)
 watch-made-rx WReplies.TooMany x e = absurd (none-some x e)
 watch-made-rx (WReplies.NoHandle v) x e = absurd (none-some x e)
 
-made-outcome : (event : Event) (reply : BReply Bytes) (x : Handle) → made (Ok (broadcast_outcome event reply)) ≡ Some x → b.made_by reply ≡ Some x
+made-outcome : (event : Event) (reply : BReply Bytes) (x : Handle) → new_handle (Ok (broadcast_outcome event reply)) ≡ Some x → b.made_by reply ≡ Some x
 made-outcome Binds reply x e = made-tx reply x e
 made-outcome (Subscribes start by) reply x e = made-rx reply x e
 made-outcome (Resubscribes r) reply x e = made-rx reply x e
@@ -222,7 +222,7 @@ made-outcome (Receives r verb) reply x e = absurd (none-some x e)
 made-outcome (DropsTx by) reply x e = absurd (none-some x e)
 made-outcome (DropsRx r) reply x e = absurd (none-some x e)
 
-watch-made-outcome : (event : Event) (reply : WReply Bytes) (x : Handle) → made (Ok (watch_outcome event reply)) ≡ Some x → w.made_by reply ≡ Some x
+watch-made-outcome : (event : Event) (reply : WReply Bytes) (x : Handle) → new_handle (Ok (watch_outcome event reply)) ≡ Some x → w.made_by reply ≡ Some x
 watch-made-outcome Binds reply x e = watch-made-tx reply x e
 watch-made-outcome (Subscribes start by) reply x e = watch-made-rx reply x e
 watch-made-outcome (Resubscribes r) reply x e = absurd (none-some x e)
@@ -241,14 +241,14 @@ module _ (c : broadcast.Endless Bytes) (s : broadcast.IsProper c) where
   told event a = by_asker event (came (broadcast_outcome event) a.0)
 
   abbrev LeadsOn : Event → Result (BReply Bytes) NoEvent × broadcast.Endless Bytes → Type 0
-  LeadsOn event a = Follows (b.numbers c) (Ends event (told event a)) (made (told event a)) (b.numbers a.1)
+  LeadsOn event a = Follows (b.numbers c) (Ends event (told event a)) (new_handle (told event a)) (b.numbers a.1)
 
   -- one that spends nothing
   replies : (event : Event) (gone : Handle → Type 0) (call : Option (BCall Bytes)) → ((x : BCall Bytes) → call ≡ Some x → (y : Handle) → b.Spends x y → ⊥) →
-      let a = broadcast_replies endless c call in Follows (b.numbers c) gone (made (told event a)) (b.numbers a.1)
+      let a = broadcast_replies endless c call in Follows (b.numbers c) gone (new_handle (told event a)) (b.numbers a.1)
   replies event gone None h = as_said (stands (b.numbers c) gone) (λ x k. k) (λ x e. absurd (none-some x (made-asker event (Err NoEvents.WrongKind) x e)))
   replies event gone (Some call) h =
-      cond_case (λ (a : Result (BReply Bytes) NoEvent × broadcast.Endless Bytes). Follows (b.numbers c) gone (made (told event a)) (b.numbers a.1)) (broadcast_waits call (broadcast.step c call).0) _ _
+      cond_case (λ (a : Result (BReply Bytes) NoEvent × broadcast.Endless Bytes). Follows (b.numbers c) gone (new_handle (told event a)) (b.numbers a.1)) (broadcast_waits call (broadcast.step c call).0) _ _
       (λ _. as_said (stands (b.numbers c) gone) (λ x k. k) (λ x e. absurd (none-some x (made-asker event (Err NoEvents.Blocked) x e))))
       (λ _. as_said (b.call_follows c call gone s (λ x k. absurd (h call refl x k))) (λ x k. k)
       (λ x e. made-outcome event (broadcast.step c call).0 x (made-asker event (Ok (broadcast_outcome event (broadcast.step c call).0)) x e)))
@@ -300,13 +300,13 @@ module _ (c : watch.Endless Bytes) (s : watch.IsProper c) where
   watch_told event a = by_asker event (came (watch_outcome event) a.0)
 
   abbrev WatchLeadsOn : Event → Result (WReply Bytes) NoEvent × watch.Endless Bytes → Type 0
-  WatchLeadsOn event a = Follows (w.numbers c) (Ends event (watch_told event a)) (made (watch_told event a)) (w.numbers a.1)
+  WatchLeadsOn event a = Follows (w.numbers c) (Ends event (watch_told event a)) (new_handle (watch_told event a)) (w.numbers a.1)
 
   watch-replies : (event : Event) (gone : Handle → Type 0) (call : Option (WCall Bytes)) → ((x : WCall Bytes) → call ≡ Some x → (y : Handle) → w.Spends x y → ⊥) →
-      let a = watch_replies endless c call in Follows (w.numbers c) gone (made (watch_told event a)) (w.numbers a.1)
+      let a = watch_replies endless c call in Follows (w.numbers c) gone (new_handle (watch_told event a)) (w.numbers a.1)
   watch-replies event gone None h = as_said (stands (w.numbers c) gone) (λ x k. k) (λ x e. absurd (none-some x (made-asker event (Err NoEvents.WrongKind) x e)))
   watch-replies event gone (Some call) h =
-      cond_case (λ (a : Result (WReply Bytes) NoEvent × watch.Endless Bytes). Follows (w.numbers c) gone (made (watch_told event a)) (w.numbers a.1)) (watch_waits call (endless.watch c call).0) _ _
+      cond_case (λ (a : Result (WReply Bytes) NoEvent × watch.Endless Bytes). Follows (w.numbers c) gone (new_handle (watch_told event a)) (w.numbers a.1)) (watch_waits call (endless.watch c call).0) _ _
       (λ _. as_said (stands (w.numbers c) gone) (λ x k. k) (λ x e. absurd (none-some x (made-asker event (Err NoEvents.Blocked) x e))))
       (λ _. as_said (w.call_follows (pointwise nat_eq) c gone s call (λ x k. absurd (h call refl x k))) (λ x k. k)
       (λ x e. watch-made-outcome event (endless.watch c call).0 x (made-asker event (Ok (watch_outcome event (endless.watch c call).0)) x e)))
@@ -347,6 +347,6 @@ lives-is_live (Watch e) (Sender t) = refl
 lives-is_live (Watch e) (Receiver r) = refl
 
 pub channel_follows : (c : EndlessChannel) (event : Event) → IsProperChannel c →
-    let s = channel_event endless c event in Follows (numbers c) (Ends event s.0) (made s.0) (numbers s.1)
+    let s = channel_event endless c event in Follows (numbers c) (Ends event s.0) (new_handle s.0) (numbers s.1)
 channel_follows (Broadcast e) event s = event_follows e s event
 channel_follows (Watch e) event s = watch_event_follows e s event

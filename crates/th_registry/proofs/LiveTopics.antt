@@ -16,12 +16,12 @@ use Rattle.th_model.proofs.BroadcastProperness.{cond_case}
 use Rattle.th_registry.specs.declared.channel.Channel.TheVariants.{Broadcast}
 use Rattle.th_registry.specs.declared.opening.Refusal.{Refusal}
 use Rattle.th_registry.specs.declared.opening.Refusal.TheVariants as Refusals
-use Rattle.th_registry.specs.Calls.{Bytes}
+use Rattle.th_registry.specs.Calls.{Bytes, tx}
 use Rattle.th_registry.specs.Events.{Event, Told}
 use Rattle.th_registry.specs.Hub.{Query, Find, List, Open, On, most_topics, find, on_channel, added, made_broadcast, open_topic, channel_event, say}
 use Rattle.th_registry.specs.Hub as hub
 use Rattle.th_registry.specs.Endless.{EndlessChannel, EndlessTopics, endless, IsProperChannel, AreProper}
-use Rattle.th_registry.specs.Live.{Handle, hubs, is_live, is_live_on, IsLive, made, Ends}
+use Rattle.th_registry.specs.Live.{Handle, Sender, is_live, is_live_on, IsLive, new_handle, Ends}
 use Rattle.th_registry.specs.Laws.{HandlesStayLive, NewHandlesAreNew}
 use Rattle.th_registry.proofs.LiveNumbers.{number_of}
 use Rattle.th_registry.proofs.LiveChannel.{numbers, lives-is_live, channel_follows}
@@ -65,7 +65,7 @@ stay-on ts topic event n x (Some c) at proper kept h = elim (eqb_tells n topic) 
 
 -- the handle that it made is live, was not so before, and has the channel's next number
 new-on : (ts : EndlessTopics) (topic : ℕ) (event : Event) (x : Handle) (o : Option EndlessChannel) → slice_get (values_of ts) topic ≡ o → AreProper ts →
-    made (on_channel ts topic (step event) o).0 ≡ Some x → IsLive (on_channel ts topic (step event) o).1 topic x × (IsLive ts topic x → ⊥)
+    new_handle (on_channel ts topic (step event) o).0 ≡ Some x → IsLive (on_channel ts topic (step event) o).1 topic x × (IsLive ts topic x → ⊥)
 new-on ts topic event x None at proper e = absurd (none-some x e)
 new-on ts topic event x (Some c) at proper e =
     let follows = channel_follows c event (at-topic IsProperChannel ts topic c proper at) in
@@ -100,7 +100,10 @@ handles_stay_live ts (On topic event) n x proper kept h = stay-on ts topic event
 pub new_handles_are_new : NewHandlesAreNew
 new_handles_are_new ts n event x proper e = new-on ts n event x (slice_get (values_of ts) n) refl proper e
 
--- numbers begin at 2 beside the hub's sender, so no new handle is this sender
+-- numbers begin at 2 beside the hub's own sender, so no new handle is this sender
+
+abbrev pub hubs_sender : Handle
+hubs_sender = Sender (tx 1)
 
 abbrev IsNumbered : EndlessChannel → Type 0
 IsNumbered c = 1 < (numbers c).next
@@ -158,7 +161,7 @@ stays_numbered ts (Open name making) proper h = numbered-open ts name (is_some (
 stays_numbered ts (On topic event) proper h = numbered-on ts topic event (slice_get (values_of ts) topic) refl proper h
 
 not-hubs : (ts : EndlessTopics) (topic : ℕ) (event : Event) (x : Handle) (o : Option EndlessChannel) → slice_get (values_of ts) topic ≡ o → AreProper ts → AreNumbered ts →
-    made (on_channel ts topic (step event) o).0 ≡ Some x → x ≡ hubs → ⊥
+    new_handle (on_channel ts topic (step event) o).0 ≡ Some x → x ≡ hubs_sender → ⊥
 not-hubs ts topic event x None at proper h e k = none-some x e
 not-hubs ts topic event x (Some c) at proper h e k =
     let follows = channel_follows c event (at-topic IsProperChannel ts topic c proper at) in
@@ -167,5 +170,5 @@ not-hubs ts topic event x (Some c) at proper h e k =
     omega (arith, before, same)
 
 pub new_handles_are_not_the_hubs : (ts : EndlessTopics) (n : ℕ) (event : Event) (x : Handle) → AreProper ts → AreNumbered ts →
-    made (say endless ts (On n event)).0 ≡ Some x → x ≡ hubs → ⊥
+    new_handle (say endless ts (On n event)).0 ≡ Some x → x ≡ hubs_sender → ⊥
 new_handles_are_not_the_hubs ts n event x proper h e k = not-hubs ts n event x (slice_get (values_of ts) n) refl proper h e k

@@ -3,7 +3,7 @@ use Rattle.std.specs.Prelude.{◌≡◌, ℕ, false, Some}
 use Rattle.th_registry.specs.Events.{Event}
 use Rattle.th_registry.specs.Hub.{Query, On, say}
 use Rattle.th_registry.specs.Endless.{EndlessTopics, endless, AreProper}
-use Rattle.th_registry.specs.Live.{Handle, IsLive, EndsOn, AskedBy, made, lacks_handle}
+use Rattle.th_registry.specs.Live.{Handle, IsLive, EndsOn, AskedBy, new_handle, lacks_handle}
 use Rattle.th_registry.specs.Pictures.{pictures, see_topics}
 
 -- to each query the pictures say what the endless states say, and are afterwards what is seen of them
@@ -22,7 +22,7 @@ HandlesStayLive = (ts : EndlessTopics) (q : Query) (n : ℕ) (x : Handle) → Ar
 -- a handle that an event made is live on its topic, and was not so before
 abbrev pub NewHandlesAreNew : Type 0
 NewHandlesAreNew = (ts : EndlessTopics) (n : ℕ) (event : Event) (x : Handle) → AreProper ts →
-    made (say endless ts (On n event)).0 ≡ Some x →
+    new_handle (say endless ts (On n event)).0 ≡ Some x →
     IsLive (say endless ts (On n event)).1 n x × (IsLive ts n x → ⊥)
 
 -- where the handle is live by which an event is asked for, no channel says that there is no such handle

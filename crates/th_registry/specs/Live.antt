@@ -10,7 +10,6 @@ use Rattle.th_model.specs.declared.broadcast.BReply.TheVariants as BReplies
 use Rattle.th_model.specs.declared.watch.WReply.TheVariants as WReplies
 use Rattle.th_registry.specs.declared.channel.Channel.TheVariants.{Broadcast, Watch}
 use Rattle.th_registry.specs.declared.outcome.ChannelReply.TheVariants as ChannelReplies
-use Rattle.th_registry.specs.Calls.{tx}
 use Rattle.th_registry.specs.Events.{Event, Subscribes, Sends, Asks, Receives, Resubscribes, DropsTx, DropsRx, Own, NewTx, NewRx, Replied, Told, sender_of}
 use Rattle.th_registry.specs.Hub.{Query, Find, List, Open, On, Said}
 use Rattle.th_registry.specs.Endless.{EndlessChannel, EndlessTopics}
@@ -19,10 +18,6 @@ use Rattle.th_registry.specs.Endless.{EndlessChannel, EndlessTopics}
 pub data Handle : Type 0 where
   Sender : TxId → Handle
   Receiver : RxId → Handle
-
--- the hub's own sender, by which it acts on each topic
-abbrev pub hubs : Handle
-hubs = Sender (tx 1)
 
 -- whether the handle is live on the channel
 abbrev pub is_live : EndlessChannel → Handle → Bool
@@ -41,10 +36,10 @@ abbrev pub IsLive : EndlessTopics → ℕ → Handle → Type 0
 IsLive ts n x = is_live_on (slice_get (values_of ts) n) x ≡ true
 
 -- the handle that an event made, by what is said of it
-abbrev pub made : Told → Option Handle
-made (Ok (NewTx t)) = Some (Sender t)
-made (Ok (NewRx r)) = Some (Receiver r)
-made told = None
+abbrev pub new_handle : Told → Option Handle
+new_handle (Ok (NewTx t)) = Some (Sender t)
+new_handle (Ok (NewRx r)) = Some (Receiver r)
+new_handle told = None
 
 -- What is said of the event ends the handle: the one that it spends, where that was done. A resubscription spends its
 -- receiver once there is a new one.

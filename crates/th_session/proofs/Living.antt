@@ -27,9 +27,9 @@ use Rattle.th_registry.specs.Events.{Event, Binds, Subscribes, Sends, Asks, Rece
 use Rattle.th_registry.specs.Hub.{Query, Find, Open, On, Said, find, say}
 use Rattle.th_registry.specs.Hub as hub
 use Rattle.th_registry.specs.Endless.{EndlessTopics, endless, AreProper}
-use Rattle.th_registry.specs.Live.{Handle, Sender, Receiver, hubs, IsLive, made, Ends, EndsOn}
+use Rattle.th_registry.specs.Live.{Handle, Sender, Receiver, IsLive, new_handle, Ends, EndsOn}
 use Rattle.th_registry.proofs.Seeing.{stays_proper}
-use Rattle.th_registry.proofs.LiveTopics.{AreNumbered, handles_stay_live, new_handles_are_new, new_handles_are_not_the_hubs, stays_numbered}
+use Rattle.th_registry.proofs.LiveTopics.{AreNumbered, hubs_sender, handles_stay_live, new_handles_are_new, new_handles_are_not_the_hubs, stays_numbered}
 use Rattle.th_session.specs.declared.seats.Seats.{Seats}
 use Rattle.th_session.specs.Table.{is_for, judged, own, unless_held}
 use Rattle.th_session.specs.Held.{Holding, nothing, seats_of, seat_at, with_seats}
@@ -85,12 +85,12 @@ has-nothing (Receiver r) e = none-some r e
 pub record Lives (ts : EndlessTopics) (h : Holding) : Type 0 where
   pub rising : IsRising (keys_of h)
   pub live : AllIsLive ts h
-  pub own : (n : ℕ) (x : Handle) → Has (seat_at h n) x → x ≡ hubs → ⊥
+  pub own : (n : ℕ) (x : Handle) → Has (seat_at h n) x → x ≡ hubs_sender → ⊥
 
 -- a live handle of topic n that is neither the hub's nor held by this actor
 pub record IsOthers (ts : EndlessTopics) (h : Holding) (n : ℕ) (x : Handle) : Type 0 where
   pub live : IsLive ts n x
-  pub own : x ≡ hubs → ⊥
+  pub own : x ≡ hubs_sender → ⊥
   pub apart : Has (seat_at h n) x → ⊥
 
 -- the topics are proper, and no new number is the hub's sender's
@@ -125,8 +125,8 @@ asked ts h q s l none = record {
 pub record Changes (h : Holding) (n : ℕ) (event : Event) (told : Told) (h' : Holding) : Type 0 where
   pub rising : IsRising (keys_of h) → IsRising (keys_of h')
   pub elsewhere : (m : ℕ) → (m ≡ n → ⊥) → seat_at h' m ≡ seat_at h m
-  pub held : (x : Handle) → Has (seat_at h' n) x → (Has (seat_at h n) x × ((x ≡ hubs → ⊥) → Ends event told x → ⊥)) ⊎ (made told ≡ Some x)
-  pub ended : (x : Handle) → Ends event told x → Has (seat_at h n) x ⊎ (x ≡ hubs)
+  pub held : (x : Handle) → Has (seat_at h' n) x → (Has (seat_at h n) x × ((x ≡ hubs_sender → ⊥) → Ends event told x → ⊥)) ⊎ (new_handle told ≡ Some x)
+  pub ended : (x : Handle) → Ends event told x → Has (seat_at h n) x ⊎ (x ≡ hubs_sender)
 
 module _ (ts : EndlessTopics) (h : Holding) (n : ℕ) (event : Event) (h' : Holding) (s : AreSound ts) (l : Lives ts h)
     (c : Changes h n event (say endless ts (On n event)).0 h') where
@@ -139,13 +139,13 @@ module _ (ts : EndlessTopics) (h : Holding) (n : ℕ) (event : Event) (h' : Hold
   stays : (m : ℕ) (x : Handle) → ((m ≡ n) × Ends event answer x → ⊥) → IsLive ts m x → IsLive later m x
   stays m x kept live = handles_stay_live ts (On n event) m x s.proper kept live
 
-  still-here : (x : Handle) → Has (seat_at h' n) x → IsLive later n x × (x ≡ hubs → ⊥)
+  still-here : (x : Handle) → Has (seat_at h' n) x → IsLive later n x × (x ≡ hubs_sender → ⊥)
   still-here x has = elim (c.held x has) [
     | inl k ↦ (stays n x (λ e. k.1 (l.own n x k.0) e.1) (l.live n x k.0), l.own n x k.0)
     | inr new ↦ ((new_handles_are_new ts n event x s.proper new).0, new_handles_are_not_the_hubs ts n event x s.proper s.numbered new)
   ]
 
-  still : (m : ℕ) (x : Handle) → Has (seat_at h' m) x → IsLive later m x × (x ≡ hubs → ⊥)
+  still : (m : ℕ) (x : Handle) → Has (seat_at h' m) x → IsLive later m x × (x ≡ hubs_sender → ⊥)
   still m x has = elim (eqb_tells m n) [
     | inl e ↦ (let here = still-here x (subst (λ k. Has (seat_at h' k) x) e.1 has) in (subst (λ k. IsLive later k x) (sym e.1) here.0, here.1))
     | inr ne ↦ (let before : Has (seat_at h m) x = subst (λ seats. Has seats x) (c.elsewhere m ne.1) has in (stays m x (λ e. ne.1 e.0) (l.live m x before), l.own m x before))
@@ -193,7 +193,7 @@ ends-err (DropsTx by) why x e = e
 ends-err (DropsRx r) why x e = e
 
 -- the same is held, and nothing held has ended
-same-held : (h : Holding) (n : ℕ) (event : Event) (told : Told) → ((x : Handle) → Ends event told x → x ≡ hubs) → Changes h n event told h
+same-held : (h : Holding) (n : ℕ) (event : Event) (told : Told) → ((x : Handle) → Ends event told x → x ≡ hubs_sender) → Changes h n event told h
 same-held h n event told ends = record {
   rising = λ r. r;
   elsewhere = λ m ne. refl;
@@ -203,8 +203,8 @@ same-held h n event told ends = record {
 
 -- these seats are held
 module _ (h : Holding) (n : ℕ) (event : Event) (told : Told) (s : Seats TxId RxId) where
-  new-seats : ((x : Handle) → Has s x → (Has (seat_at h n) x × ((x ≡ hubs → ⊥) → Ends event told x → ⊥)) ⊎ (made told ≡ Some x)) →
-      ((x : Handle) → Ends event told x → Has (seat_at h n) x ⊎ (x ≡ hubs)) → Changes h n event told (with_seats h n s)
+  new-seats : ((x : Handle) → Has s x → (Has (seat_at h n) x × ((x ≡ hubs_sender → ⊥) → Ends event told x → ⊥)) ⊎ (new_handle told ≡ Some x)) →
+      ((x : Handle) → Ends event told x → Has (seat_at h n) x ⊎ (x ≡ hubs_sender)) → Changes h n event told (with_seats h n s)
   new-seats held ended = record {
     rising = rising-insert h n s;
     elsewhere = λ m ne. seat-elsewhere h n m s ne;
@@ -216,7 +216,7 @@ module _ (h : Holding) (n : ℕ) where
   bind-changes : (told : Told) → Changes h n Binds told (kept Actions.Bind told n h)
   bind-changes (Ok (NewTx t)) = new-seats h n Binds (Ok (NewTx t)) (record { sender = Some t; receiver = (seat_at h n).receiver }) held (λ x e. absurd e)
     where
-      held : (x : Handle) → Has (record { sender = Some t; receiver = (seat_at h n).receiver }) x → (Has (seat_at h n) x × ((x ≡ hubs → ⊥) → Ends Binds (Ok (NewTx t)) x → ⊥)) ⊎ (made (Ok (NewTx t)) ≡ Some x)
+      held : (x : Handle) → Has (record { sender = Some t; receiver = (seat_at h n).receiver }) x → (Has (seat_at h n) x × ((x ≡ hubs_sender → ⊥) → Ends Binds (Ok (NewTx t)) x → ⊥)) ⊎ (new_handle (Ok (NewTx t)) ≡ Some x)
       held (Sender q) e = inr (ap (λ z. Some (Sender z)) (same_Some t q e))
       held (Receiver q) e = inl (e, λ own k. k)
   bind-changes (Ok (NewRx r)) = same-held h n Binds (Ok (NewRx r)) (λ x e. absurd e)
@@ -226,7 +226,7 @@ module _ (h : Holding) (n : ℕ) where
   unbind-changes : (told : Told) (t : TxId) → (seat_at h n).sender ≡ Some t → Changes h n (DropsTx (Own t)) told (kept Actions.Unbind told n h)
   unbind-changes (Ok outcome) t has = new-seats h n (DropsTx (Own t)) (Ok outcome) (record { sender = None; receiver = (seat_at h n).receiver }) held (λ x e. inl (subst (Has (seat_at h n)) (sym e) has))
     where
-      held : (x : Handle) → Has (record { sender = None; receiver = (seat_at h n).receiver }) x → (Has (seat_at h n) x × ((x ≡ hubs → ⊥) → Ends (DropsTx (Own t)) (Ok outcome) x → ⊥)) ⊎ (made (Ok outcome) ≡ Some x)
+      held : (x : Handle) → Has (record { sender = None; receiver = (seat_at h n).receiver }) x → (Has (seat_at h n) x × ((x ≡ hubs_sender → ⊥) → Ends (DropsTx (Own t)) (Ok outcome) x → ⊥)) ⊎ (new_handle (Ok outcome) ≡ Some x)
       held (Sender q) e = absurd (none-some q e)
       held (Receiver q) e = inl (e, λ own k. let no : ⊥ = cc in no)
   unbind-changes (Err why) t has = same-held h n (DropsTx (Own t)) (Err why) (λ x e. absurd e)
@@ -234,7 +234,7 @@ module _ (h : Holding) (n : ℕ) where
   subscribe-changes : (told : Told) (start : Start) (by : By) → Changes h n (Subscribes start by) told (kept (Actions.Subscribe start) told n h)
   subscribe-changes (Ok (NewRx r)) start by = new-seats h n (Subscribes start by) (Ok (NewRx r)) (record { sender = (seat_at h n).sender; receiver = Some r }) held (λ x e. absurd e)
     where
-      held : (x : Handle) → Has (record { sender = (seat_at h n).sender; receiver = Some r }) x → (Has (seat_at h n) x × ((x ≡ hubs → ⊥) → Ends (Subscribes start by) (Ok (NewRx r)) x → ⊥)) ⊎ (made (Ok (NewRx r)) ≡ Some x)
+      held : (x : Handle) → Has (record { sender = (seat_at h n).sender; receiver = Some r }) x → (Has (seat_at h n) x × ((x ≡ hubs_sender → ⊥) → Ends (Subscribes start by) (Ok (NewRx r)) x → ⊥)) ⊎ (new_handle (Ok (NewRx r)) ≡ Some x)
       held (Sender q) e = inl (e, λ own k. k)
       held (Receiver q) e = inr (ap (λ z. Some (Receiver z)) (same_Some r q e))
   subscribe-changes (Ok (NewTx t)) start by = same-held h n (Subscribes start by) (Ok (NewTx t)) (λ x e. absurd e)
@@ -244,7 +244,7 @@ module _ (h : Holding) (n : ℕ) where
   unsubscribe-changes : (told : Told) (r : RxId) → (seat_at h n).receiver ≡ Some r → Changes h n (DropsRx r) told (kept Actions.Unsubscribe told n h)
   unsubscribe-changes (Ok outcome) r has = new-seats h n (DropsRx r) (Ok outcome) (record { sender = (seat_at h n).sender; receiver = None }) held (λ x e. inl (subst (Has (seat_at h n)) (sym e) has))
     where
-      held : (x : Handle) → Has (record { sender = (seat_at h n).sender; receiver = None }) x → (Has (seat_at h n) x × ((x ≡ hubs → ⊥) → Ends (DropsRx r) (Ok outcome) x → ⊥)) ⊎ (made (Ok outcome) ≡ Some x)
+      held : (x : Handle) → Has (record { sender = (seat_at h n).sender; receiver = None }) x → (Has (seat_at h n) x × ((x ≡ hubs_sender → ⊥) → Ends (DropsRx r) (Ok outcome) x → ⊥)) ⊎ (new_handle (Ok outcome) ≡ Some x)
       held (Sender q) e = inl (e, λ own k. let no : ⊥ = cc in no)
       held (Receiver q) e = absurd (none-some q e)
   unsubscribe-changes (Err why) r has = same-held h n (DropsRx r) (Err why) (λ x e. absurd e)
@@ -252,7 +252,7 @@ module _ (h : Holding) (n : ℕ) where
   resubscribe-changes : (told : Told) (r : RxId) → (seat_at h n).receiver ≡ Some r → Changes h n (Resubscribes r) told (kept Actions.Resubscribe told n h)
   resubscribe-changes (Ok (NewRx new)) r has = new-seats h n (Resubscribes r) (Ok (NewRx new)) (record { sender = (seat_at h n).sender; receiver = Some new }) held (λ x e. inl (subst (Has (seat_at h n)) (sym e) has))
     where
-      held : (x : Handle) → Has (record { sender = (seat_at h n).sender; receiver = Some new }) x → (Has (seat_at h n) x × ((x ≡ hubs → ⊥) → Ends (Resubscribes r) (Ok (NewRx new)) x → ⊥)) ⊎ (made (Ok (NewRx new)) ≡ Some x)
+      held : (x : Handle) → Has (record { sender = (seat_at h n).sender; receiver = Some new }) x → (Has (seat_at h n) x × ((x ≡ hubs_sender → ⊥) → Ends (Resubscribes r) (Ok (NewRx new)) x → ⊥)) ⊎ (new_handle (Ok (NewRx new)) ≡ Some x)
       held (Sender q) e = inl (e, λ own k. let no : ⊥ = cc in no)
       held (Receiver q) e = inr (ap (λ z. Some (Receiver z)) (same_Some new q e))
   resubscribe-changes (Ok (NewTx t)) r has = same-held h n (Resubscribes r) (Ok (NewTx t)) (λ x e. absurd e)
