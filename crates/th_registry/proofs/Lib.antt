@@ -1,3 +1,9 @@
 pub mod Events
 pub mod Openings
 pub mod Seeing
+pub mod LiveNumbers
+pub mod LiveBroadcast
+pub mod LiveWatch
+pub mod LiveChannel
+pub mod LiveTopics
+pub mod LiveReplies

@@ -7,3 +7,4 @@ pub mod Endless
 pub mod Pictures
 pub mod Outcomes
 pub mod Laws
+pub mod Live

@@ -5,3 +5,4 @@ pub mod Endings
 pub mod OutcomeLemmas
 pub mod Orders
 pub mod Seeing
+pub mod Living

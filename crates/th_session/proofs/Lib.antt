@@ -3,3 +3,5 @@ pub mod Playing
 pub mod Runs
 pub mod Order
 mod Rooms
+pub mod Live
+pub mod Living
