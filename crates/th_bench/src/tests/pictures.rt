@@ -1,6 +1,4 @@
 //! A channel made from its picture, over both shelves.
-ghost use Rattle.std.specs.Prelude.{◌<◌};
-
 use std::alloc::{AllocError, Global};
 use std::collections::{BTreeMap, BTreeSet, VecDeque};
 use std::process::Abort;
@@ -8,7 +6,7 @@ use std::test::Fail;
 use th_bcast::{Broadcast, PictureParts};
 use th_model::BCall::{DropRx, Left, Queued, Send, TryRecv};
 use th_model::BReply::{Count, Done, Empty, Lagged, NoHandle, Sent, Value};
-use th_model::{BCall, BReply, Capacity, RxId, TxId};
+use th_model::{Capacity, RxId, TxId};
 use th_ring::RingShelf;
 use th_shelf::{PlainShelf, Shelf, WindowParts};
 
