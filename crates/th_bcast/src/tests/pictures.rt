@@ -1,0 +1,136 @@
+//! A channel made from its picture, and the parts of it.
+use crate::PictureParts;
+use crate::tests::{Channel, follow};
+use std::alloc::{AllocError, Global};
+use std::collections::{BTreeMap, BTreeSet, VecDeque};
+use std::test::Fail;
+use th_model::BCall::{
+    CloneTx, DropTx, Left, Queued, Readers, Send, Subscribe, SubscribeOldest, TryRecv,
+};
+use th_model::BReply::{Closed, Count, Done, Empty, Lagged, NewRx, NewTx, NoHandle, Sent, Value};
+use th_model::{Capacity, RxId, TxId};
+use th_shelf::WindowParts;
+
+// Four values are kept, 13 to 16 at the positions 1,003 to 1,006. Receiver 2 is two positions behind them, receiver 5
+// reads 15 next, and receiver 7 stands at the tail. Senders are 3 and 8.
+const BEHIND: RxId = RxId(2);
+
+const MIDDLE: RxId = RxId(5);
+
+const AHEAD: RxId = RxId(7);
+
+const OLD: TxId = TxId(3);
+
+const YOUNG: TxId = TxId(8);
+
+#[tactic(auto, unfolding(th_model::specs::Places::low_of, th_model::specs::Limits::capacity_of))]
+fn late_parts(alloc: Global) -> Result<PictureParts<u64>, AllocError> {
+    let Ok(capacity) = Capacity::new(4) else {
+        unreachable!()
+    };
+    let mut kept = VecDeque::new(alloc);
+    kept.push_back(13)?;
+    kept.push_back(14)?;
+    kept.push_back(15)?;
+    kept.push_back(16)?;
+    let mut places = BTreeMap::new(alloc);
+    places.insert(2, 1_001)?;
+    places.insert(5, 1_005)?;
+    places.insert(7, 1_007)?;
+    let mut senders = BTreeSet::new(alloc);
+    senders.insert(3)?;
+    senders.insert(8)?;
+    let window = WindowParts::new(capacity, 1_007, kept, places);
+    Ok(PictureParts::new(window, senders, 11))
+}
+
+fn late_channel(alloc: Global) -> Result<Channel, Fail> {
+    let parts = match late_parts(alloc) {
+        Ok(parts) => parts,
+        Err(_) => late_parts(alloc)?,
+    };
+    match Channel::from_picture(alloc, parts) {
+        Ok(channel) => Ok(channel),
+        Err(short) => match Channel::from_picture(alloc, short.call) {
+            Ok(channel) => Ok(channel),
+            Err(_) => Err(Fail::new("no memory for a channel")),
+        },
+    }
+}
+
+#[test]
+fn each_part_is_told(rt: HostRuntime) -> Result<(), Fail> {
+    let channel = late_channel(rt.alloc())?;
+    assert_eq!(rt; channel.capacity(), 4);
+    assert_eq!(rt; channel.tail(), 1_007);
+    assert_eq!(rt; channel.low(), 1_003);
+    for (position, want) in [
+        (0, None),
+        (1_002, None),
+        (1_003, Some(&13)),
+        (1_006, Some(&16)),
+        (1_007, None),
+    ] {
+        assert_eq!(rt; channel.value(position), want, "at {position}");
+    }
+    assert_eq!(rt; channel.receiver_count(), 3);
+    assert_eq!(rt; channel.place(BEHIND), Some(1_001));
+    assert_eq!(rt; channel.place(MIDDLE), Some(1_005));
+    assert_eq!(rt; channel.place(AHEAD), Some(1_007));
+    assert_eq!(rt; channel.place(RxId(OLD.0)), None);
+    assert_eq!(rt; channel.next_receiver(None), Some((BEHIND, 1_001)));
+    assert_eq!(rt; channel.next_receiver(Some(BEHIND)), Some((MIDDLE, 1_005)));
+    assert_eq!(rt; channel.next_receiver(Some(MIDDLE)), Some((AHEAD, 1_007)));
+    assert_eq!(rt; channel.next_receiver(Some(AHEAD)), None);
+    assert_eq!(rt; channel.sender_count(), 2);
+    assert_eq!(rt; channel.next_sender(None), Some(OLD));
+    assert_eq!(rt; channel.next_sender(Some(OLD)), Some(YOUNG));
+    assert_eq!(rt; channel.next_sender(Some(YOUNG)), None);
+    assert_eq!(rt; channel.next_number(), 11);
+    Ok(())
+}
+
+#[test]
+fn a_channel_is_made_from_its_picture(rt: HostRuntime) -> Result<(), Fail> {
+    let mut channel = late_channel(rt.alloc())?;
+    let counts = [
+        (Send(TxId(1), 17), NoHandle(Some(17))),
+        (Queued(OLD), Count(4)),
+        (Readers(YOUNG), Count(3)),
+        (Left(BEHIND), Count(6)),
+        (Left(MIDDLE), Count(2)),
+        (TryRecv(AHEAD), Empty),
+        // the values at 1,001 and 1,002 are gone
+        (TryRecv(BEHIND), Lagged(2)),
+        (TryRecv(BEHIND), Value(13)),
+        (Queued(YOUNG), Count(3)),
+        (TryRecv(MIDDLE), Value(15)),
+    ];
+    follow(&rt, &mut channel, counts)?;
+
+    // Numbers go on from 11. The oldest kept value is 14, for receiver 2.
+    let newcomers = [
+        (SubscribeOldest(YOUNG), NewRx(RxId(11))),
+        (Subscribe(OLD), NewRx(RxId(12))),
+        (Left(RxId(11)), Count(3)),
+        (TryRecv(RxId(11)), Value(14)),
+        (Send(OLD, 17), Sent(5)),
+        (TryRecv(AHEAD), Value(17)),
+        (TryRecv(RxId(12)), Value(17)),
+        (TryRecv(BEHIND), Value(14)),
+        (CloneTx(YOUNG), NewTx(TxId(13))),
+    ];
+    follow(&rt, &mut channel, newcomers)?;
+
+    let closing = [
+        (DropTx(OLD), Done),
+        (DropTx(TxId(13)), Done),
+        (TryRecv(AHEAD), Empty),
+        (DropTx(YOUNG), Done),
+        (TryRecv(AHEAD), Closed),
+        (TryRecv(MIDDLE), Value(16)),
+        (TryRecv(MIDDLE), Value(17)),
+        (TryRecv(MIDDLE), Closed),
+    ];
+    follow(&rt, &mut channel, closing)
+}
