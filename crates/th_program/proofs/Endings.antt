@@ -1,9 +1,7 @@
 -- How a run ends that was asked for help.
-use Rattle.std.proofs.Common.{◌≡◌, ℕ, List}
+use Rattle.std.proofs.Common.{ℕ, List}
 use Rattle.th_program.specs.declared.end.End.{End}
 use Rattle.th_program.specs.declared.end.End.TheVariants.{Help, Write}
-use Rattle.th_program.specs.declared.modes.ModeFault.{ModeFault}
-use Rattle.th_program.specs.declared.modes.ModeFault.TheVariants as fault
 use Rattle.th_replay.specs.Outcome.{Devices}
 use Rattle.th_program.specs.Run.{IsUnread, IsHelpOf, EndsHelp}
 

@@ -1,5 +1,5 @@
 -- What has come of a replay when it ends.
-use Rattle.std.proofs.Common.{◌≡◌, ℕ, ◌+◌, ◌<◌, ◌≤◌, Bool, true, false, List, [], ◌∷◌, ◌++◌, length, take, refl, sym, ap, ◌∙◌, append_assoc, append-nil, arith, inl, Option, Ok, Err, subst, length-append, zero-add}
+use Rattle.std.proofs.Common.{◌≡◌, ℕ, ◌<◌, Bool, true, false, List, [], ◌++◌, length, take, refl, sym, ap, ◌∙◌, append_assoc, append-nil, arith, inl, Option, Ok, Err, subst, length-append}
 use Rattle.std.specs.Io.KnownBytes.{Appends}
 use Rattle.std.proofs.Math.Seq.{take-append_seam}
 use Rattle.th_lines.specs.Intake.{lines_after, nothing_came}
@@ -7,9 +7,9 @@ use Rattle.th_lines.specs.Lines.{Line, lines_from, lines_of}
 use Rattle.th_lines.specs.Standing.{Standing, spellings}
 use Rattle.th_lines.proofs.LineLemmas.{last_line-none, lines_from-some}
 use Rattle.th_lines.proofs.OutputLemmas.{adds_all}
-use Rattle.th_replay.specs.Outcome.{AllAnswered, BrokenOff, Comes, Devices, PastLines, Replayed, Stopped}
+use Rattle.th_replay.specs.Outcome.{AllAnswered, BrokenOff, Comes, Devices, PastLines, Replayed}
 use Rattle.th_replay.specs.Progress.{BreaksOff, Finishes, IsAtRest, IsFull, ReadsOn, Underway}
-use Rattle.th_replay.specs.Session.{LineMachine, Turns, session_end, session_text}
+use Rattle.th_replay.specs.Session.{LineMachine, session_end, session_text}
 use Rattle.th_replay.specs.declared.fault.ReplayFault.{ReplayFault}
 use Rattle.th_replay.specs.declared.fault.ReplayFault.TheVariants.{Read, Write, TooLong, Short}
 use Rattle.th_replay.proofs.SessionLemmas.{session_text-append}

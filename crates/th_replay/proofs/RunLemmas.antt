@@ -1,15 +1,15 @@
 -- How a replay goes on, step after step.
 use Rattle.std.proofs.Common.{◌≡◌, ℕ, ◌+◌, ◌<◌, ◌≤◌, Bool, true, false, List, [], ◌∷◌, ◌++◌, length, refl, sym, ap, ◌∙◌, append-nil, arith, inl, inr, Option, Some, None, Ok, Err, subst, length-append}
 use Rattle.std.specs.Prelude.{Result, IfOk}
-use Rattle.std.specs.Io.KnownBytes.{Consumes, IsAtEnd, Keeps}
+use Rattle.std.specs.Io.KnownBytes.{Consumes, IsAtEnd}
 use Rattle.std.proofs.KnownBytes.{Consumes-nil, Consumes-trans, Consumes-kept}
 use Rattle.std.proofs.lemmas.Bool.{false≢true}
 use Rattle.th_lines.specs.Intake.{Came, Reading, Fills, Finds, IsSameLine, lines_after, nothing_came}
-use Rattle.th_lines.specs.Lines.{Line, line_of, last_line, lines_from}
+use Rattle.th_lines.specs.Lines.{Line, line_of, lines_from}
 use Rattle.th_lines.specs.Output.{Output, Adds, Flushes, WritesAll, WritesFront}
 use Rattle.th_lines.specs.Replies.{spell}
 use Rattle.th_lines.specs.Standing.{Standing, Advances, Stops}
-use Rattle.th_lines.specs.declared.counted.Moved.TheVariants.{Bytes, Again, Failed}
+use Rattle.th_lines.specs.declared.counted.Moved.TheVariants.{Bytes, Again}
 use Rattle.th_lines.specs.declared.reply.Reply.{Reply}
 use Rattle.th_lines.proofs.LineLemmas.{last_line-one}
 use Rattle.th_lines.proofs.OutputLemmas.{adds_flushed, flushed_adds, waiting_front}

@@ -4,7 +4,7 @@ use Rattle.th_lines.specs.Lines.{Line}
 use Rattle.th_lines.specs.Replies.{spell}
 use Rattle.th_lines.specs.Standing.{Turned, spellings}
 use Rattle.th_lines.specs.declared.reply.Reply.{Reply}
-use Rattle.th_replay.specs.Session.{LineMachine, Turns, turn, session_text, session_end}
+use Rattle.th_replay.specs.Session.{LineMachine, Turns, session_text, session_end}
 
 module _ {S : Type 0} (m : LineMachine S) where
   -- some lines are marked, and the spellings of the replies are the session text

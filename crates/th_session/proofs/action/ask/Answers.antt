@@ -1,6 +1,5 @@
-use Rattle.std.proofs.Common.{◌≡◌, Option, None, Ok, refl, sym, ap, ◌∙◌}
+use Rattle.std.proofs.Common.{Option, None, refl, sym, ap}
 use Rattle.th_model.specs.declared.handles.TxId.{TxId}
-use Rattle.th_lines.specs.declared.command.Action.TheVariants as Actions
 use Rattle.th_registry.specs.Events.{Event, Asks, any_sender}
 use Rattle.th_registry.specs.Typed.{replied}
 use Rattle.th_session.specs.Held.{held}

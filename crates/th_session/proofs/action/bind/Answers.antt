@@ -1,4 +1,4 @@
-use Rattle.std.proofs.Common.{true, false, refl, ap, inl}
+use Rattle.std.proofs.Common.{true, false, refl, ap}
 use Rattle.th_lines.specs.declared.command.Action.TheVariants as Actions
 use Rattle.th_registry.specs.Events.{Binds}
 use Rattle.th_session.proofs.Playing.{has-sender, held-some, held-none, plays-not, plays-bind}

@@ -1,7 +1,7 @@
 use Rattle.std.proofs.Common.{◌≡◌, Some, refl, sym, ap}
 use Rattle.th_model.specs.declared.handles.RxId.{RxId}
 use Rattle.th_lines.specs.declared.command.Action.TheVariants.{ByReceiver}
-use Rattle.th_registry.specs.Events.{Event, Sends, Receives}
+use Rattle.th_registry.specs.Events.{Event, Receives}
 use Rattle.th_registry.specs.Typed.{replied}
 use Rattle.th_session.specs.Held.{held}
 use Rattle.th_session.proofs.Seating.{held-set, receiver-kept}

@@ -3,7 +3,7 @@ use Rattle.th_model.specs.declared.handles.RxId.{RxId}
 use Rattle.th_lines.specs.declared.command.Action.TheVariants as Actions
 use Rattle.th_registry.specs.Events.{Event, Resubscribes}
 use Rattle.th_session.specs.Held.{held}
-use Rattle.th_session.proofs.Seating.{held-set, receiver-kept, there-set}
+use Rattle.th_session.proofs.Seating.{held-set, receiver-kept}
 use Rattle.th_session.proofs.Playing.{receiver-out, receiver-lacks, receiver-own, plays-not, plays-resubscribe}
 use Rattle.th_session.proofs.action.resubscribe.Goals as goal
 

@@ -1,4 +1,4 @@
-use Rattle.std.proofs.Common.{true, false, Option, refl, sym, ap, ◌∙◌, inl}
+use Rattle.std.proofs.Common.{true, false, Option, refl, sym, ap, ◌∙◌}
 use Rattle.th_model.specs.declared.handles.TxId.{TxId}
 use Rattle.th_lines.specs.declared.command.Action.TheVariants as Actions
 use Rattle.th_registry.specs.Events.{Event, Subscribes, any_sender}

@@ -1,12 +1,10 @@
-use Rattle.std.proofs.Common.{◌≡◌, ℕ, Option, refl, sym, ap, ◌∙◌}
-use Rattle.std.specs.Option.{option_map}
+use Rattle.std.proofs.Common.{Option, sym, ap, ◌∙◌}
 use Rattle.std.specs.Ordering.{nat_cmp}
 use Rattle.std.specs.Map.{set_value}
 use Rattle.std.specs.BTreeMap.{is_at}
 use Rattle.std.proofs.lemmas.Map.Steps.{set_value_same}
 use Rattle.th_model.specs.declared.handles.TxId.{TxId}
 use Rattle.th_registry.specs.Events.{Event, Subscribes, any_sender}
-use Rattle.th_session.specs.Held.{held}
 use Rattle.th_session.proofs.Seating.{at-in, held-set, sender-seen, sender-still-none}
 use Rattle.th_session.proofs.Playing.{sender-there, said-by}
 use Rattle.th_session.proofs.action.subscribe_by.Goals as goal

@@ -2,7 +2,7 @@ use Rattle.std.proofs.Common.{◌≡◌, Some, None, Ok, Err, sym, ap, ◌∙◌
 use Rattle.std.specs.Option.{option_map}
 use Rattle.th_model.specs.declared.handles.TxId.{TxId}
 use Rattle.th_lines.specs.declared.command.Action.TheVariants.{Unbind}
-use Rattle.th_registry.specs.Events.{Event, DropsTx, DropsRx, Own, Replied}
+use Rattle.th_registry.specs.Events.{Event, DropsTx, Own, Replied}
 use Rattle.th_session.specs.Held.{held}
 use Rattle.th_session.proofs.Seating.{held-set, sender-kept, sender-gone, with_numbers}
 use Rattle.th_session.proofs.Playing.{sender-out, sender-lacks, sender-own, plays-by, plays-not}

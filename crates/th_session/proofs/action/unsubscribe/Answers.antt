@@ -2,7 +2,7 @@ use Rattle.std.proofs.Common.{◌≡◌, Some, None, Ok, Err, sym, ap, ◌∙◌
 use Rattle.std.specs.Option.{option_map}
 use Rattle.th_model.specs.declared.handles.RxId.{RxId}
 use Rattle.th_lines.specs.declared.command.Action.TheVariants.{Unsubscribe}
-use Rattle.th_registry.specs.Events.{Event, DropsTx, DropsRx, Own, Replied}
+use Rattle.th_registry.specs.Events.{Event, DropsRx, Replied}
 use Rattle.th_session.specs.Held.{held}
 use Rattle.th_session.proofs.Seating.{held-set, receiver-kept, receiver-gone, with_numbers}
 use Rattle.th_session.proofs.Playing.{receiver-out, receiver-lacks, receiver-own, plays-by, plays-not}

@@ -1,5 +1,5 @@
-use Rattle.std.proofs.Common.{◌≡◌, ◌∙◌, ℕ, None, Some, ap, sym, subst}
-use Rattle.std.specs.Prelude.{Option, Err}
+use Rattle.std.proofs.Common.{◌≡◌, ◌∙◌, None, Some, ap, sym, subst}
+use Rattle.std.specs.Prelude.{Err}
 use Rattle.th_lines.specs.Commands.{carries_value, command_of}
 use Rattle.th_lines.specs.Reads.{Reads}
 use Rattle.th_lines.specs.declared.fault.LineFault.{LineFault}

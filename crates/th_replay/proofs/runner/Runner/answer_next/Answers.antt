@@ -1,5 +1,4 @@
-use Rattle.std.proofs.Common.{◌≡◌, ◌∙◌, ◌+◌, [], List, ℕ, ap, arith, false, subst, sym}
-use Rattle.std.specs.Prelude.{Option}
+use Rattle.std.proofs.Common.{◌≡◌, ◌∙◌, ◌+◌, [], ap, arith, false, subst, sym}
 use Rattle.th_lines.specs.Output.{Output, output}
 use Rattle.th_lines.specs.Standing.{Advances, Standing, Stops}
 use Rattle.th_registry.specs.Pictures.{SeenTopics}

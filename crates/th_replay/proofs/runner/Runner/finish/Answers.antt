@@ -1,5 +1,4 @@
-use Rattle.std.proofs.Common.{◌≡◌, ◌<◌, ◌∙◌, ◌+◌, [], List, ℕ, ap, arith, false, length, subst, sym, true}
-use Rattle.std.specs.Prelude.{Option}
+use Rattle.std.proofs.Common.{◌≡◌, ◌<◌, ◌∙◌, ◌+◌, [], ap, false, length, subst, sym, true}
 use Rattle.th_lines.specs.Intake.{Came, Reading, line_given, nothing_came}
 use Rattle.th_lines.specs.Lines.{Line, line_of}
 use Rattle.th_lines.specs.Output.{Output, output}

@@ -1,4 +1,4 @@
-use Rattle.std.proofs.Common.{◌≡◌, ◌∙◌, ap, true}
+use Rattle.std.proofs.Common.{◌∙◌, ap, true}
 use Rattle.th_replay.specs.Progress.{Course, stands}
 use Rattle.th_replay.specs.Schedule.{answers}
 use Rattle.th_replay.proofs.RunLemmas.{all_broken, all_full, breaks, breaks_in, finishes, flush_broken, flushed, full_flushed, goes_on, read_nothing, read_some, starts}
