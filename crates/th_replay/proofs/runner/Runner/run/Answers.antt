@@ -6,7 +6,7 @@ use Rattle.th_replay.specs.Outcome.{Devices, devices}
 use Rattle.th_replay.specs.Progress.{Course, Underway, beginning, stands}
 use Rattle.th_replay.specs.Schedule.{Hub, answers, seen_start}
 use Rattle.th_replay.proofs.Endings.{all_answered, broken_off, comes_done, comes_fault}
-use Rattle.th_replay.proofs.RunLemmas.{breaks_in, flush_broken, flushed, goes_on, reads_after, reads_none, reads_some, starts, writer_told}
+use Rattle.th_replay.proofs.RunLemmas.{breaks_in, flush_broken, flushed, goes_on, reads_after, reads_none, reads_some, starts}
 use Rattle.th_replay.proofs.runner.Runner.run.Goals as goal
 
 pub loop-made-init : goal.loop-made-init
