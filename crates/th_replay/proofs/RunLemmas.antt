@@ -22,17 +22,8 @@ use Rattle.th_replay.specs.declared.fault.RunFault.TheVariants.{Write, TooLong}
 use Rattle.th_replay.specs.declared.fault.ReplayFault.{ReplayFault}
 use Rattle.th_replay.specs.declared.fault.ReplayFault.TheVariants as Faults
 
--- of bytes that are the same for a line some came, or of none none
-pub begun_same : (kept bytes : List ℕ) → IsSameLine kept bytes → 0 < length kept → 0 < length bytes
-begun_same kept bytes (inl e) h = omega (arith, ap length e)
-begun_same kept bytes (inr l) h = omega arith
-
 pub none_came : (c : Came) → c.begun ≡ [] → c.ahead ≡ [] → c ≡ nothing_came
 none_came c e f = λ i. record { begun = e i; ahead = f i }
-
-pub no_bytes : (bytes : List ℕ) → length bytes ≡ 0 → bytes ≡ []
-no_bytes [] e = refl
-no_bytes (b ∷ bytes) e = absurd (omega arith)
 
 module _ {S : Type 0} (m : LineMachine S) where
   -- the next line was handed out and answered
@@ -261,13 +252,3 @@ module _ {S : Type 0} (m : LineMachine S) where
   -- what was flushed after the bound was met
   pub full_flushed : (b c : Standing S) → c ≡ record b { out = c.out } → IsFull b → IsFull c
   full_flushed b c e f = subst (λ (o : Standing S). IsFull o) (sym e) (record { bound = f.bound; beyond = f.beyond })
-
-  -- the writer's failures
-  pub writer_told : (r r' : Option (List ℕ)) (o n : Standing S) (result : Result (Option ℕ) ReplayFault) → ReadsOn m r r' o n result
-      → n.out.failures ≡ writer_failures o.out.failures result
-  writer_told r r' o n (Ok None) q = q.0.ran.said.same
-  writer_told r r' o n (Ok (Some count)) q = q.closed.stopped.said.same
-  writer_told r r' o n (Err Faults.Read) q = q.0.ran.said.same
-  writer_told r r' o n (Err Faults.Write) q = q.stopped.said.failed
-  writer_told r r' o n (Err Faults.TooLong) q = q.0.ran.said.same
-  writer_told r r' o n (Err Faults.Short) q = absurd q
