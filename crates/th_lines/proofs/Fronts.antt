@@ -109,6 +109,6 @@ module _ {A : Type 0} (next : List ℕ → Rest → Option A) (bs : List ℕ) wh
       let found : is_name (take k bs) ≡ true → front_name bs ≡ Some (take k bs, drop k bs) = λ front. rw front refl in
       let seam = cut-seam bs k (front-all bs) (λ lt. prefix_len_stops is_name_byte bs 0 lt) in
       let none : (is_name (cut bs).0 ≡ true) → ⊥ = λ name.
-          let front : is_name (take k bs) ≡ true = subst (λ (l : List ℕ). is_name l ≡ true) (seam (name_bytes (cut bs).0 name)) name in
-          none-some _ (sym h ∙ found front) in
+      let front : is_name (take k bs) ≡ true = subst (λ (l : List ℕ). is_name l ≡ true) (seam (name_bytes (cut bs).0 name)) name in
+      none-some _ (sym h ∙ found front) in
       rw (not-true _ none) refl
