@@ -1,7 +1,7 @@
 //! What can be logged.
 ghost use Rattle.std.specs.Prelude.{◌≡◌, ◌<◌, ◌↔◌, Bool, IfOk, IfErr, IsTrue, IsOk};
 ghost use Rattle.th_model.specs.WatchMachine.{IsExact};
-ghost use Rattle.th_log.specs.History.{Machine};
+ghost use Rattle.th_log.specs.History.{Machine, live_after};
 
 use std::alloc::Global;
 use th_model::Short;
@@ -35,7 +35,8 @@ pub trait Object: Drop {
     /// What is seen of the object.
     ghost shows: { Self → Self.State };
 
-    /// What the calls that copy or compare values ask of the values' type: copies are equal, and tests exact.
+    /// What the calls that copy or compare values ask of the values' type: copies are equal, and
+    /// tests exact.
     ghost lawful: { Type 0 };
 
     /// The calls that are copied, foreseen and answered without memory.
@@ -86,7 +87,7 @@ pub trait Object: Drop {
     /// How many handles would be live after the call.
     fn live_after(&self, call: &Self::Call) -> u64
         ensures sound { is_sound (shows self.now) }
-        ensures after { result ≡ machine.live (machine.answer (shows self.now) call.now).1 };
+        ensures after { result ≡ live_after machine (shows self.now) call.now };
 
     /// Whether no sender is left.
     fn closed(&self) -> bool
@@ -107,7 +108,7 @@ pub trait Object: Drop {
 
     /// A call that spends a handle takes no memory.
     ghost spends_ok: { (p : Self.State) (c : Self.Call) → is_sound p
-        → machine.live (machine.answer p c).1 < machine.live p → takes_none c };
+        → live_after machine p c < machine.live p → takes_none c };
 }
 
 /// An object whose calls, replies and pictures are compared.
