@@ -1,4 +1,5 @@
--- What books and shares say, and when the shares account for every event (docs/HISTORIES.md, "Shares").
+-- What books and shares say, and when the shares account for every event (docs/HISTORIES.md,
+-- "Shares").
 use Rattle.std.specs.Prelude.{◌≡◌, ℕ, List, length, All, sum_by, refl}
 use Rattle.std.specs.Coded.{Coded, code_by, coded×, coded_ℕ}
 

@@ -32,7 +32,8 @@ impl<T: Clone + PartialEq + Drop> Watch<T> {
     // A replacement's reply, with a copy of the value before it.
     fn foresee_replace(&self, tx: TxId, value: &T) -> Result<WReply<T>, AllocError>
         requires { ClonesAreEqual T.is_clone }
-        ensures { IfOk result (λ reply. reply ≡ (answer T.eq self.now (call.Replace tx value.now)).0) }
+        ensures { IfOk result (λ reply.
+            reply ≡ (answer T.eq self.now (call.Replace tx value.now)).0) }
     {
         if !self.senders.contains(&tx.0) {
             return Ok(WReply::NoHandle(Some(value.clone()?)));
@@ -74,7 +75,8 @@ impl<T: Clone + PartialEq + Drop> Watch<T> {
     // An edit's reply.
     fn foresee_edit_by(&self, tx: TxId, change: &Edit<T>) -> Result<WReply<T>, AllocError>
         requires { ClonesAreEqual T.is_clone }
-        ensures { IfOk result (λ reply. reply ≡ (answer T.eq self.now (call.EditBy tx change.now)).0) }
+        ensures { IfOk result (λ reply.
+            reply ≡ (answer T.eq self.now (call.EditBy tx change.now)).0) }
     {
         if !self.senders.contains(&tx.0) {
             return Ok(WReply::NoHandle(Some(change.value().clone()?)));

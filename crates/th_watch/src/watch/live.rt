@@ -59,7 +59,8 @@ impl<T: Drop> Watch<T> {
 
     /// How many handles would be live after the call. At most logarithmic in live handles.
     pub fn live_after(&self, call: &WCall<T>) -> u64
-        ensures after { (eq : T → T → Bool) → result ≡ live_watchers (answer eq self.now call.now).1 }
+        ensures after { (eq : T → T → Bool) →
+            result ≡ live_watchers (answer eq self.now call.now).1 }
         ensures sound { IsSound self.now }
     {
         let _live = self.live();
