@@ -1,4 +1,6 @@
-//! A watch channel's log, at the values that lines carry.
+//! A watch channel's log.
+ghost use Rattle.std.specs.Prelude.{◌<◌};
+
 use crate::{Logged, Segment};
 use std::alloc::Global;
 use std::process::Abort;
@@ -6,11 +8,12 @@ use std::test::Fail;
 use th_model::WCall::{
     Borrow, Changed, CloneTx, EditBy, HasChanged, Replace, Send, Subscribe, Take,
 };
-use th_model::{Edit, RxId, TxId, Value, WCall, WReply};
+use th_model::WReply::{Modified, NewRx, NewTx, NoReceivers, Shown, Was};
+use th_model::{Edit, RxId, TxId, WCall, WReply};
 use th_seats::Share;
 use th_watch::Watch;
 
-type Log = Logged<Watch<Value>>;
+type Log = Logged<Watch<u64>>;
 
 const FIRST: TxId = TxId(1);
 
@@ -18,85 +21,52 @@ const SECOND: TxId = TxId(2);
 
 const READER: RxId = RxId(3);
 
-fn word(alloc: Global, bytes: &[u8]) -> Result<Value, Fail> {
-    Ok(Value::new(alloc, bytes)?)
-}
-
-// The log of a new channel with value a.
+// The log of a new channel with value 1.
 fn opened(alloc: Global) -> Result<(Log, Share), Fail> {
-    let channel = Watch::new(alloc, word(alloc, b"a")?)?;
+    let channel = Watch::new(alloc, 1)?;
     Ok(Logged::new(alloc, channel, 20, 7)?)
 }
 
-// One call, which has this reply.
-fn told(
+// Each call of the rows has the reply beside it.
+fn follow<const N: usize>(
     rt: &impl Abort,
     log: &mut Log,
     share: &mut Share,
-    call: WCall<Value>,
-    want: WReply<Value>,
-) -> Result<(), Fail> {
-    assert!(rt; log.ready(&call));
-    let receipt = log.apply(share, call)?;
-    assert_eq!(rt; receipt.reply(), &want);
+    rows: [(WCall<u64>, WReply<u64>); N],
+) -> Result<(), Fail>
+    requires { N < 100 }
+{
+    for (call, want) in rows {
+        assert!(rt; log.ready(&call));
+        let receipt = log.apply(share, call)?;
+        assert_eq!(rt; receipt.reply(), &want);
+    }
     Ok(())
 }
 
-// A second sender, two values sent, of which the first one finds no reader, and a reader.
-fn played(rt: &impl Abort, alloc: Global) -> Result<(Log, Share), Fail> {
-    let (mut log, mut share) = opened(alloc)?;
-    told(
-        rt,
-        &mut log,
-        &mut share,
-        CloneTx(FIRST),
-        WReply::NewTx(SECOND),
-    )?;
-    let back = WReply::NoReceivers(word(alloc, b"z")?);
-    told(
-        rt,
-        &mut log,
-        &mut share,
-        Send(SECOND, word(alloc, b"z")?),
-        back,
-    )?;
-    let was = WReply::Was(word(alloc, b"a")?);
-    told(
-        rt,
-        &mut log,
-        &mut share,
-        Replace(SECOND, word(alloc, b"b")?),
-        was,
-    )?;
-    told(
-        rt,
-        &mut log,
-        &mut share,
-        Subscribe(FIRST),
-        WReply::NewRx(READER),
-    )?;
-    told(
-        rt,
-        &mut log,
-        &mut share,
-        HasChanged(READER),
-        WReply::Changed(false),
-    )?;
-    let shown = WReply::Shown(word(alloc, b"b")?, false);
-    told(rt, &mut log, &mut share, Borrow(READER), shown)?;
-    Ok((log, share))
+// A second sender, a value that finds no reader, one that replaces the first, and a reader.
+fn play(rt: &impl Abort, log: &mut Log, share: &mut Share) -> Result<(), Fail> {
+    let rows = [
+        (CloneTx(FIRST), NewTx(SECOND)),
+        (Send(SECOND, 26), NoReceivers(26)),
+        (Replace(SECOND, 2), Was(1)),
+        (Subscribe(FIRST), NewRx(READER)),
+        (HasChanged(READER), WReply::Changed(false)),
+        (Borrow(READER), Shown(2, false)),
+    ];
+    follow(rt, log, share, rows)
 }
 
 #[test]
 fn watch_channels_are_logged_too(rt: HostRuntime) -> Result<(), Fail> {
-    let (mut log, _) = played(&rt, rt.alloc())?;
+    let (mut log, mut share) = opened(rt.alloc())?;
+    play(&rt, &mut log, &mut share)?;
     let segment = log.cut()?;
     assert_eq!(rt; segment.len(), 6);
     assert_eq!(rt;
-        (segment.start().version(), segment.start().next_number()),
-        (1, 2)
+        (segment.start().version(), segment.start().value()),
+        (1, &1)
     );
-    assert_eq!(rt; segment.start().value(), &word(rt.alloc(), b"a")?);
     assert_eq!(rt; segment.start().senders().len(), 1);
     assert!(rt; segment.start().readers().is_empty());
     assert_eq!(rt; (log.start().version(), log.start().next_number()), (2, 4));
@@ -106,25 +76,22 @@ fn watch_channels_are_logged_too(rt: HostRuntime) -> Result<(), Fail> {
 
 #[test]
 fn edits_are_entries(rt: HostRuntime) -> Result<(), Fail> {
-    let (mut log, mut share) = played(&rt, rt.alloc())?;
+    let (mut log, mut share) = opened(rt.alloc())?;
+    play(&rt, &mut log, &mut share)?;
     let one = log.cut()?;
-    let call: WCall<Value> = Changed(READER);
-    assert!(rt; !log.ready(&call));
-    let differ = EditBy(SECOND, Edit::Differ(word(rt.alloc(), b"c")?));
-    told(&rt, &mut log, &mut share, differ, WReply::Modified(true))?;
-    let shown = WReply::Shown(word(rt.alloc(), b"c")?, true);
-    told(&rt, &mut log, &mut share, Take(READER), shown)?;
+    let wait: WCall<u64> = Changed(READER);
+    assert!(rt; !log.ready(&wait));
+    let rows = [
+        (EditBy(SECOND, Edit::Differ(3)), Modified(true)),
+        (Take(READER), Shown(3, true)),
+    ];
+    follow(&rt, &mut log, &mut share, rows)?;
     let (_, last) = log.finish();
     let Ok(all) = Segment::join(one, last) else {
         return Err(Fail::new("apart"));
     };
     assert_eq!(rt; all.len(), 8);
-    let Some((call, _)) = all.entry(6) else {
-        return Err(Fail::new("no entry"));
-    };
-    assert_eq!(rt;
-        call,
-        &EditBy(SECOND, Edit::Differ(word(rt.alloc(), b"c")?))
-    );
+    let differ = EditBy(SECOND, Edit::Differ(3));
+    assert_eq!(rt; all.entry(6), Some((&differ, &Modified(true))));
     Ok(())
 }
