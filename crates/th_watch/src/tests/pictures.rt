@@ -60,10 +60,19 @@ fn a_picture_is_taken(rt: HostRuntime) -> Result<(), Fail> {
     assert_eq!(rt; (picture.senders().len(), picture.next_number()), (2, 7));
     channel.apply(WCall::Take(RxId(5)))?;
     assert!(rt; !picture.is_same(&channel.picture(rt.alloc())?));
+    Ok(())
+}
+
+#[test]
+fn a_channel_is_made_from_parts(rt: HostRuntime) -> Result<(), Fail> {
+    let channel = late_channel(rt.alloc())?;
+    let picture = channel.picture(rt.alloc())?;
     let Ok(again) = Watch::from_parts(rt.alloc(), picture) else {
         return Err(Fail::new("no memory for a channel"));
     };
+    assert_eq!(rt; again.is_unseen(RxId(2)), Some(false));
     assert_eq!(rt; again.is_unseen(RxId(5)), Some(true));
+    assert_eq!(rt; (again.version(), again.next_number()), (3, 7));
     Ok(())
 }
 

@@ -1,7 +1,6 @@
-use Rattle.std.proofs.Common.{◌≡◌, ℕ, ◌+◌, ◌<◌, List, length, drop, Bool, Option, Some, None, sym, ◌∙◌, ap, arith}
-use Rattle.std.specs.Vec.{vec_len}
+use Rattle.std.proofs.Common.{sym, ◌∙◌}
 use Rattle.th_log.specs.Outcome.{Told}
-use Rattle.th_log.specs.Walk.{stands, stranger_in, named_after, stranger}
+use Rattle.th_log.specs.Walk.{stands}
 use Rattle.th_log.proofs.Walks.{stranger_here, stranger_later}
 use Rattle.th_log.proofs.audits.find_stranger.Goals as goal
 

@@ -1,7 +1,7 @@
-use Rattle.std.proofs.Common.{◌≡◌, ℕ, length, drop, replicate, false}
+use Rattle.std.proofs.Common.{◌≡◌, length, drop, replicate, false}
 use Rattle.std.specs.Vec.{vec_len}
 use Rattle.th_log.specs.Outcome.{Told}
-use Rattle.th_log.specs.Walk.{stands, stranger, named_after}
+use Rattle.th_log.specs.Walk.{stands, stranger}
 use Rattle.th_log.proofs.audits.find_stranger.Given as goal
 
 abbrev pub invariant-loop-diary : goal.invariant-loop-diary

@@ -1,4 +1,4 @@
-use Rattle.std.proofs.Common.{◌≡◌, ℕ, length, drop}
+use Rattle.std.proofs.Common.{◌≡◌, length, drop}
 use Rattle.std.specs.Vec.{vec_len}
 use Rattle.th_log.specs.Outcome.{Told}
 use Rattle.th_log.specs.Walk.{stands, stranger_in, named_after}
