@@ -1,21 +1,18 @@
 -- A receive leaves a sound picture, and asks for memory where a value is to be read.
-use Rattle.std.proofs.Common.{◌≡◌, ℕ, ◌+◌, ◌-◌, ◌<◌, ◌≤◌, true, false, cond, eqb, ltb, length, Some, None, slice_get, refl, sym, ap, ◌∙◌, arith}
+use Rattle.std.proofs.Common.{◌≡◌, ℕ, ◌+◌, ◌-◌, ◌<◌, ◌≤◌, false, eqb, ltb, Some, slice_get, refl, ap, ◌∙◌, arith}
 use Rattle.std.proofs.lemmas.Bool.Decides.{nat_tests}
 use Rattle.th_model.specs.declared.handles.RxId.{RxId}
 use Rattle.th_model.specs.declared.broadcast.BCall.TheVariants.{TryRecv}
-use Rattle.th_model.specs.declared.broadcast.BReply.{BReply}
-use Rattle.th_model.specs.declared.broadcast.BReply.TheVariants as replies
-use Rattle.th_model.specs.BroadcastMachine.{end_reply, value_reply}
+use Rattle.th_model.specs.BroadcastMachine.{value_reply}
 use Rattle.th_model.specs.BroadcastPicture.{Picture, IsSound, TakesMemory, answer, at_place, receive, with_window}
 use Rattle.th_model.specs.Places.{place_of}
 use Rattle.th_model.specs.Window.{Window, IsToRead, first_of, placed}
-use Rattle.th_model.proofs.PlaceLemmas.{all-at, low_of-at}
+use Rattle.th_model.proofs.PlaceLemmas.{low_of-at}
 use Rattle.th_model.proofs.WindowLemmas.{slice_get-some}
 use Rattle.th_model.proofs.BroadcastSoundness.{sound-placed}
 use Rattle.th_shelf.specs.declared.received.Received.{Received}
 use Rattle.th_shelf.specs.declared.received.Received.TheVariants.{Nobody, Nothing, Missed, Value}
-use Rattle.th_shelf.specs.Receiving.{Skips, Reads, Receives}
-use Rattle.th_bcast.specs.Telling.{reply_to}
+use Rattle.th_shelf.specs.Receiving.{Receives}
 
 module _ {T : Type 0} (p : Picture T) (s : IsSound p) (rx : RxId) where
   -- the answer to a receiver at this place

@@ -10,10 +10,13 @@
 #![tactic(auto)]
 
 pub mod broadcast;
+pub mod foresee;
+pub mod live;
+pub mod parts;
 pub mod picture;
 #[cfg(test)]
 mod tests;
 mod told;
 
 pub use broadcast::Broadcast;
-pub use picture::PictureParts;
+pub use parts::PictureParts;

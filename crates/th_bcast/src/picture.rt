@@ -1,54 +1,21 @@
-//! A channel's picture as plain data: a channel can be made from it, and each of its parts read.
+//! A channel's picture: it is taken of a channel, a channel is made from it, and each part of it is
+//! read from the channel.
 ghost use Rattle.std.specs.Prelude.{◌≡◌, length, slice_get, IfOk, IfErr};
+ghost use Rattle.th_model.specs.Limits.{ClonesAreEqual};
 ghost use Rattle.std.specs.Option.{option_copied, option_map};
 ghost use Rattle.th_model.specs.Places.{place_of};
 ghost use Rattle.th_model.specs.Window.{value_at};
-ghost use Rattle.th_model.specs.BroadcastPicture.{picture_of, IsSound};
+ghost use Rattle.th_model.specs.BroadcastPicture.{IsSound};
 ghost use Rattle.th_shelf.specs.Receiving as receivers;
 ghost use Rattle.th_bcast.specs.Telling as senders;
 
 use crate::broadcast::Broadcast;
+use crate::parts::PictureParts;
 use std::alloc::Global;
-use std::collections::BTreeSet;
-use std::marker::{Model, PhantomData};
+use std::marker::PhantomData;
 use std::ops::Bound;
-use th_model::{RxId, Short, TxId};
-use th_shelf::{Shelf, WindowParts};
-
-/// A sound picture, as plain data.
-#[derive(Drop)]
-pub struct PictureParts<T> {
-    // The kept values, and the place of each live receiver.
-    pub(crate) window: WindowParts<T>,
-    // The numbers of the live senders.
-    pub(crate) senders: BTreeSet<u64>,
-    // The next handle number.
-    pub(crate) next: u64,
-}
-
-impl<T> Model for PictureParts<T> {
-    ghost use Rattle.th_model.specs.BroadcastPicture.{Picture, IsSound, picture_of};
-
-    ghost Value = { Picture T };
-
-    ghost view = { λ a. picture_of a.window a.senders.keys a.next };
-
-    ghost invariant = { λ a. IsSound (picture_of a.window a.senders.keys a.next) };
-}
-
-impl<T> PictureParts<T> {
-    /// The picture of this window, these senders, and the next handle number.
-    pub fn new(window: WindowParts<T>, senders: BTreeSet<u64>, next: u64) -> PictureParts<T>
-        requires { IsSound (picture_of window senders.keys next) }
-        ensures { result ≡ picture_of window senders.keys next }
-    {
-        PictureParts {
-            window,
-            senders,
-            next,
-        }
-    }
-}
+use th_model::{RxId, Short, TxId, copy_numbers};
+use th_shelf::{Shelf, copy_window};
 
 impl<T: Clone, S: Shelf<T> + Drop> Broadcast<T, S> {
     /// A channel that looks like this. Where memory is refused, the parts come back.
@@ -74,6 +41,24 @@ impl<T: Clone, S: Shelf<T> + Drop> Broadcast<T, S> {
                 },
             }),
         }
+    }
+
+    /// What is seen of the channel now, as plain data, with a clone of each kept value.
+    pub fn picture(&self, alloc: Global) -> Result<PictureParts<T>, Short<()>>
+        requires { ClonesAreEqual T.is_clone }
+        ensures { IfOk result (λ picture. picture ≡ self.now) }
+    {
+        let Ok(window) = copy_window(alloc, &self.shelf) else {
+            return Err(Short { call: () });
+        };
+        let Ok(senders) = copy_numbers(&self.senders) else {
+            return Err(Short { call: () });
+        };
+        Ok(PictureParts {
+            window,
+            senders,
+            next: self.next,
+        })
     }
 
     /// The most values that are kept.

@@ -1,5 +1,5 @@
 -- What a receive finds, and which receiver comes next where all are gone through.
-use Rattle.std.specs.Prelude.{◌≡◌, ℕ, ◌+◌, ◌-◌, ◌<◌, nat_lt, List, Option, Some, None, slice_get}
+use Rattle.std.specs.Prelude.{◌≡◌, ℕ, ◌+◌, ◌-◌, ◌<◌, nat_lt, Option, Some, None, slice_get}
 use Rattle.std.specs.List.{filter}
 use Rattle.th_model.specs.Places.{Places, place_of}
 use Rattle.th_model.specs.Window.{Window, IsToRead, first_of, placed, skipped}

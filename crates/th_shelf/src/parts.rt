@@ -1,5 +1,6 @@
 //! What a shelf can be made from.
-ghost use Rattle.std.specs.Prelude.{◌≡◌};
+ghost use Rattle.std.specs.Prelude.{◌≡◌, ◌↔◌, IsTrue};
+ghost use Rattle.th_model.specs.WatchMachine.{IsExact};
 ghost use Rattle.th_model.specs.Window.{IsWindow};
 ghost use Rattle.th_shelf.specs.Plain.{queue_window};
 
@@ -67,11 +68,39 @@ impl<T> WindowParts<T> {
         self.tail
     }
 
+    /// The kept values, in order up to the tail.
+    pub fn kept(&self) -> &VecDeque<T>
+        ensures { result.now.items ≡ self.now.kept }
+    {
+        &self.kept
+    }
+
+    /// The place of each live receiver, by its number.
+    pub fn places(&self) -> &BTreeMap<u64, u64>
+        ensures { result.now.entries ≡ self.now.places }
+    {
+        &self.places
+    }
+
     /// The kept values, and the place of each live receiver.
     pub fn into_parts(self) -> (VecDeque<T>, BTreeMap<u64, u64>)
         ensures kept { result.0.items ≡ self.kept }
         ensures places { result.1.entries ≡ self.places }
     {
         (self.kept, self.places)
+    }
+}
+
+impl<T: PartialEq> WindowParts<T> {
+    /// Whether it is the same window. Linear in values and receivers.
+    pub fn is_same(&self, other: &WindowParts<T>) -> bool
+        requires { IsExact T.eq }
+        ensures { IsTrue result ↔ (self.now ≡ other.now) }
+    {
+        let capacity = self.capacity == other.capacity;
+        let tail = self.tail == other.tail;
+        let places = self.places == other.places;
+        let kept = self.kept == other.kept;
+        capacity & tail & places & kept
     }
 }

@@ -8,10 +8,12 @@
 //! ```
 #![tactic(auto)]
 
+pub mod parts;
 pub mod refused;
 #[cfg(test)]
 mod tests;
 pub mod watch;
 
+pub use parts::PictureParts;
 pub use refused::EditRefused;
 pub use watch::Watch;

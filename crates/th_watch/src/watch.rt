@@ -1,10 +1,12 @@
 //! The channel's state and its calls.
-ghost use Rattle.std.specs.Prelude.{◌≡◌, ◌≢◌, nat_lt, ◌↔◌, ◌≤◌, ◌<◌, ◌-◌, ◌^◌, Bool, true, false, [], ◌∷◌, IsTrue, IsOk, IfOk, IfErr, OnOk, OnErr, is_some};
+ghost use Rattle.std.specs.Prelude.{◌≡◌, ◌≢◌, ℕ, nat_lt, ◌↔◌, ◌≤◌, ◌<◌, ◌-◌, ◌^◌, Bool, true, false, [], ◌∷◌, IsTrue, IsOk, IfOk, IfErr, OnOk, OnErr, is_some};
 ghost use Rattle.th_model.specs.Limits.{ClonesAreEqual};
 ghost use Rattle.th_model.specs.WatchMachine.{IsExact, reader_of, with_reader, opened, paired};
-ghost use Rattle.th_model.specs.WatchPicture.{IsSound, IsRefused, picture_of, see, answer, uncompared, marked, subscribe, with_version, is_ready, WouldWait, Meets, TakesMemory, TakesNoMemory};
+ghost use Rattle.th_model.specs.WatchPicture.{IsSound, IsRefused, mark_at, picture_of, see, answer, uncompared, marked, subscribe, with_version, is_ready, WouldWait, Meets, TakesMemory, TakesNoMemory};
 ghost use Rattle.th_model.specs.declared.watch.WCall.TheVariants.{Send, Replace, EditBy, Borrow, Take, HasChanged, TryChanged, Changed, MarkChanged, MarkUnchanged, Subscribe, CloneRx, CloneTx, DropTx, DropRx, IsClosed, Readers};
 
+mod foresee;
+mod live;
 mod modify;
 mod picture;
 
@@ -66,6 +68,7 @@ fn mark_for(version: u64, unseen: bool) -> u64
     requires { 0 < version }
     ensures within { result ≤ version }
     ensures unseen { nat_lt result version ≡ unseen }
+    ensures mark { (rx : ℕ) → (rx, result) ≡ mark_at version (rx, unseen) }
 {
     if unseen { 0 } else { version }
 }

@@ -1,11 +1,11 @@
 //! A channel made from its picture, and the parts of it.
 use crate::PictureParts;
-use crate::tests::{Channel, follow};
+use crate::tests::{Channel, follow, reply_to};
 use std::alloc::{AllocError, Global};
 use std::collections::{BTreeMap, BTreeSet, VecDeque};
 use std::test::Fail;
 use th_model::BCall::{
-    CloneTx, DropTx, Left, Queued, Readers, Send, Subscribe, SubscribeOldest, TryRecv,
+    CloneTx, DropRx, DropTx, Left, Queued, Readers, Send, Subscribe, SubscribeOldest, TryRecv,
 };
 use th_model::BReply::{Closed, Count, Done, Empty, Lagged, NewRx, NewTx, NoHandle, Sent, Value};
 use th_model::{Capacity, RxId, TxId};
@@ -133,4 +133,55 @@ fn a_channel_is_made_from_its_picture(rt: HostRuntime) -> Result<(), Fail> {
         (TryRecv(MIDDLE), Closed),
     ];
     follow(&rt, &mut channel, closing)
+}
+
+fn picture_of(alloc: Global, channel: &Channel) -> Result<PictureParts<u64>, Fail> {
+    match channel.picture(alloc) {
+        Ok(picture) => Ok(picture),
+        Err(_) => Ok(channel.picture(alloc)?),
+    }
+}
+
+#[test]
+fn a_picture_is_taken(rt: HostRuntime) -> Result<(), Fail> {
+    let mut channel = late_channel(rt.alloc())?;
+    let picture = picture_of(rt.alloc(), &channel)?;
+    let twin = late_channel(rt.alloc())?;
+    assert!(rt; picture.is_same(&picture_of(rt.alloc(), &twin)?));
+    assert_eq!(rt;
+        (picture.window().capacity(), picture.window().tail()),
+        (4, 1_007)
+    );
+    assert_eq!(rt; picture.window().kept().front(), Some(&13));
+    assert_eq!(rt; picture.window().kept().len(), 4);
+    assert_eq!(rt; picture.window().places().get(&2), Some(&1_001));
+    assert_eq!(rt; (picture.senders().len(), picture.next_number()), (2, 11));
+    let lag = [(TryRecv(BEHIND), Lagged(2))];
+    follow(&rt, &mut channel, lag)?;
+    assert!(rt; !picture.is_same(&picture_of(rt.alloc(), &channel)?));
+    Ok(())
+}
+
+// Five handles are live at first.
+#[test]
+fn replies_are_foreseen(rt: HostRuntime) -> Result<(), Fail> {
+    let mut channel = late_channel(rt.alloc())?;
+    assert_eq!(rt; channel.live(), 5);
+    let rows = [
+        (Send(TxId(1), 17), NoHandle(Some(17)), 5),
+        (TryRecv(BEHIND), Lagged(2), 5),
+        (TryRecv(BEHIND), Value(13), 5),
+        (CloneTx(OLD), NewTx(TxId(11)), 6),
+        (SubscribeOldest(OLD), NewRx(RxId(12)), 7),
+        (DropTx(TxId(11)), Done, 6),
+        (DropRx(RxId(12)), Done, 5),
+        (DropRx(RxId(12)), NoHandle(None), 5),
+    ];
+    for (call, want, live) in rows {
+        assert_eq!(rt; channel.live_after(&call), live);
+        assert_eq!(rt; channel.foresee(&call)?, want);
+        assert_eq!(rt; reply_to(&mut channel, call)?, want);
+        assert_eq!(rt; channel.live(), live);
+    }
+    Ok(())
 }

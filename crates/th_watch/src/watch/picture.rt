@@ -1,15 +1,21 @@
-//! The channel's picture as plain data: a channel can be made from it, and each of its parts read.
-ghost use Rattle.std.specs.Prelude.{◌≡◌, length, slice_get};
+//! The channel's picture: it is taken of a channel, a channel is made from it, and each part of it
+//! is read from the channel.
+ghost use Rattle.std.specs.Prelude.{◌≡◌, ◌<◌, length, map, slice_get, IfOk, IfErr};
+ghost use Rattle.std.specs.Map.{keys_of};
+ghost use Rattle.th_model.specs.Limits.{ClonesAreEqual};
+ghost use Rattle.th_model.specs.Handles.{IsRising};
 ghost use Rattle.std.specs.Option.{option_map};
 ghost use Rattle.th_model.specs.WatchMachine.{reader_of};
-ghost use Rattle.th_model.specs.WatchPicture.{IsSound, picture_of};
+ghost use Rattle.th_model.specs.WatchPicture.{IsSound, mark_at, picture_of, shown};
 ghost use Rattle.th_watch.specs.Held.{IsHeld};
 ghost use Rattle.th_watch.specs.Telling.{above, numbers_above};
 
-use crate::watch::Watch;
+use crate::parts::PictureParts;
+use crate::watch::{Watch, mark_for};
+use std::alloc::{AllocError, Global};
 use std::collections::{BTreeMap, BTreeSet};
 use std::ops::Bound;
-use th_model::{RxId, TxId};
+use th_model::{RxId, Short, TxId, copy_numbers};
 
 // The reader with the lowest number above `after`, or of all, and its mark.
 fn next_mark(marks: &BTreeMap<u64, u64>, after: Option<RxId>) -> Option<(RxId, u64)>
@@ -26,7 +32,54 @@ fn next_mark(marks: &BTreeMap<u64, u64>, after: Option<RxId>) -> Option<(RxId, u
     }
 }
 
+// Whether this version is unseen by each reader, by the version that it saw last.
+fn readers_of(
+    alloc: Global,
+    marks: &BTreeMap<u64, u64>,
+    version: u64,
+) -> Result<BTreeMap<u64, bool>, AllocError>
+    requires { IsRising (keys_of marks.now.entries) }
+    ensures { IfOk result (λ readers. readers.entries ≡ map (shown version) marks.now.entries) }
+{
+    let mut readers = BTreeMap::new(alloc);
+    for (rx, mark) in marks {
+        readers.insert(*rx, *mark < version)?;
+    }
+    Ok(readers)
+}
+
+// A version that each reader saw last: this one, or 0 where it is unseen.
+fn marks_of(
+    alloc: Global,
+    readers: &BTreeMap<u64, bool>,
+    version: u64,
+) -> Result<BTreeMap<u64, u64>, AllocError>
+    requires version { 0 < version }
+    requires rising { IsRising (keys_of readers.now.entries) }
+    ensures { IfOk result (λ marks. marks.entries ≡ map (mark_at version) readers.now.entries) }
+{
+    let mut marks = BTreeMap::new(alloc);
+    for (rx, unseen) in readers {
+        marks.insert(*rx, mark_for(version, *unseen))?;
+    }
+    Ok(marks)
+}
+
 impl<T: Drop> Watch<T> {
+    /// A channel that looks like this. Where memory is refused, the parts come back.
+    pub fn from_parts(
+        alloc: Global,
+        parts: PictureParts<T>,
+    ) -> Result<Watch<T>, Short<PictureParts<T>>>
+        ensures ok { IfOk result (λ channel. channel ≡ parts) }
+        ensures short { IfErr result (λ short. short.call ≡ parts) }
+    {
+        let Ok(marks) = marks_of(alloc, &parts.readers, parts.version) else {
+            return Err(Short { call: parts });
+        };
+        Ok(Watch::from_picture(parts.version, parts.last, marks, parts.senders, parts.next))
+    }
+
     /// A channel that looks like this: the newest value and its version, the version that each live
     /// reader saw last (0 to the newest; one below it is unseen), the live senders, and the number
     /// that the next handle gets. It takes no memory.
@@ -117,5 +170,24 @@ impl<T: Drop> Watch<T> {
         ensures sound { IsSound self.now }
     {
         self.next
+    }
+}
+
+impl<T: Clone + Drop> Watch<T> {
+    /// What is seen of the channel now, as plain data, with a clone of the newest value.
+    pub fn picture(&self, alloc: Global) -> Result<PictureParts<T>, Short<()>>
+        requires { ClonesAreEqual T.is_clone }
+        ensures { IfOk result (λ picture. picture ≡ self.now) }
+    {
+        let Ok(readers) = readers_of(alloc, &self.marks, self.version) else {
+            return Err(Short { call: () });
+        };
+        let Ok(senders) = copy_numbers(&self.senders) else {
+            return Err(Short { call: () });
+        };
+        let Ok(last) = self.last.clone() else {
+            return Err(Short { call: () });
+        };
+        Ok(PictureParts::new(self.version, last, readers, senders, self.next))
     }
 }

@@ -1,4 +1,4 @@
-use Rattle.std.proofs.Common.{◌≡◌, false, length, sym, ◌∙◌, arith}
+use Rattle.std.proofs.Common.{◌≡◌, length, sym, ◌∙◌, arith}
 use Rattle.th_model.specs.Handles.{is_full}
 use Rattle.th_model.proofs.HandleLemmas.{next_is_free, few_of_room, more_of_room}
 use Rattle.th_model.proofs.BroadcastSoundness.{sound-joined, low-le}

@@ -1,4 +1,4 @@
-use Rattle.std.proofs.Common.{◌≡◌, ◌≤◌, ◌-◌, None, length, arith}
+use Rattle.std.proofs.Common.{◌≡◌, None, arith}
 use Rattle.th_model.specs.Places.{place_of}
 use Rattle.th_shelf.proofs.Trimming.{joined_trim, joined_window}
 use Rattle.th_shelf.proofs.plain.PlainShelfShelf.join_oldest.Goals as goal

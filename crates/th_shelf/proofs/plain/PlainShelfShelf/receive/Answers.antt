@@ -1,9 +1,8 @@
-use Rattle.std.proofs.Common.{◌≡◌, ◌+◌, ◌-◌, ◌<◌, ◌≤◌, ℕ, List, length, Some, refl, sym, ap, ◌∙◌, arith}
+use Rattle.std.proofs.Common.{◌≡◌, ◌-◌, ◌<◌, ◌≤◌, Some, refl, sym, ap, ◌∙◌, arith}
 use Rattle.std.specs.Ordering.{nat_cmp}
 use Rattle.std.specs.BTreeMap.{is_at}
 use Rattle.std.proofs.lemmas.Map.Steps.{set_value_same}
-use Rattle.th_model.specs.Places.{Places, place_of, with_place}
-use Rattle.th_model.specs.Window.{IsToRead}
+use Rattle.th_model.specs.Places.{Places, place_of}
 use Rattle.th_model.proofs.PlaceLemmas.{all-at}
 use Rattle.th_shelf.proofs.Trimming.{low_at, read_trim, read_window, jumped_trim, jumped_window}
 use Rattle.th_shelf.proofs.Written.{rising_from_sorted, set_value-with}

@@ -1,0 +1,4 @@
+pub mod Grows
+pub mod Walks
+pub mod Diaries
+pub mod Auditing
