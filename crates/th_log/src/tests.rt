@@ -3,6 +3,7 @@ ghost use Rattle.std.specs.Prelude.{◌<◌};
 
 mod audits;
 mod segments;
+mod story;
 mod stubborn;
 mod watch;
 

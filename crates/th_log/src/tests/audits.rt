@@ -26,7 +26,10 @@ fn four(
 }
 
 // A diary of these receipts, in their order.
-fn noted(alloc: Global, receipts: Vec<Receipt<Channel>>) -> Result<Diary<Channel>, Fail> {
+pub(crate) fn noted(
+    alloc: Global,
+    receipts: Vec<Receipt<Channel>>,
+) -> Result<Diary<Channel>, Fail> {
     let mut diary = Diary::new(alloc);
     for receipt in receipts {
         diary.reserve(1)?;

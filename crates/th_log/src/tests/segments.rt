@@ -12,7 +12,7 @@ fn is_apart(a: Segment<Channel>, b: Segment<Channel>) -> bool {
     matches!(Segment::join(a, b), Err(JoinFault::Apart(_, _)))
 }
 
-fn joined(a: Segment<Channel>, b: Segment<Channel>) -> Result<Segment<Channel>, Fail> {
+pub(crate) fn joined(a: Segment<Channel>, b: Segment<Channel>) -> Result<Segment<Channel>, Fail> {
     match Segment::join(a, b) {
         Ok(segment) => Ok(segment),
         Err(_) => Err(Fail::new("not joined")),
