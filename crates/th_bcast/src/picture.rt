@@ -1,6 +1,7 @@
 //! A channel's picture: it is taken of a channel, a channel is made from it, and each part of it is
 //! read from the channel.
 ghost use Rattle.std.specs.Prelude.{◌≡◌, length, slice_get, IfOk, IfErr};
+ghost use Rattle.th_model.specs.Handles.{is_sender};
 ghost use Rattle.th_model.specs.Limits.{ClonesAreEqual};
 ghost use Rattle.std.specs.Option.{option_copied, option_map};
 ghost use Rattle.th_model.specs.Places.{place_of};
@@ -116,6 +117,13 @@ impl<T: Clone, S: Shelf<T> + Drop> Broadcast<T, S> {
         ensures { result ≡ length self.now.senders }
     {
         self.senders.len() as u64
+    }
+
+    /// Whether this sender is live. Logarithmic in live senders.
+    pub fn has_sender(&self, tx: TxId) -> bool
+        ensures { result ≡ is_sender self.now.senders tx.0 }
+    {
+        self.senders.contains(&tx.0)
     }
 
     /// The sender with the lowest number above `after`, or of all. Logarithmic in live senders.

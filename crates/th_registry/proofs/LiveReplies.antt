@@ -1,10 +1,10 @@
 -- An event by live handles is not answered that there is no such handle.
-use Rattle.std.proofs.Common.{◌≡◌, ℕ, true, false, length, Option, Some, None, is_some, slice_get, Result, Ok, Err, refl, sym, ap, ◌∙◌}
+use Rattle.std.proofs.Common.{◌≡◌, ℕ, Bool, true, false, length, Option, Some, None, is_some, slice_get, Result, Ok, refl, sym, ap, ◌∙◌}
 use Rattle.std.specs.Map.{values_of}
-use Rattle.std.specs.Prelude.{nat_eq}
+use Rattle.std.specs.Prelude.{List, nat_eq, not, ◌&&◌}
+use Rattle.std.proofs.Math.Bool.{not-not}
 use Rattle.std.specs.Cmp.Lexicographic.{pointwise}
 use Rattle.std.proofs.lemmas.Bool.{false≢true}
-use Rattle.std.proofs.lemmas.Option.{none-some, same_Some}
 use Rattle.th_model.specs.declared.handles.RxId.{RxId}
 use Rattle.th_model.specs.declared.broadcast.BCall.{BCall}
 use Rattle.th_model.specs.declared.broadcast.BCall.TheVariants as BCalls
@@ -17,16 +17,15 @@ use Rattle.th_model.specs.declared.watch.WReply.TheVariants as WReplies
 use Rattle.th_model.specs.declared.verb.Start.TheVariants as Starts
 use Rattle.th_model.specs.BroadcastMachine as broadcast
 use Rattle.th_model.specs.WatchMachine as watch
-use Rattle.th_model.specs.Handles.{is_full}
+use Rattle.th_model.specs.Handles.{is_full, is_sender}
 use Rattle.th_model.specs.Places.{place_of, with_place}
 use Rattle.th_model.proofs.BroadcastProperness.{cond_case}
 use Rattle.th_registry.specs.declared.channel.Channel.TheVariants.{Broadcast, Watch}
 use Rattle.th_registry.specs.declared.outcome.ChannelReply.TheVariants as ChannelReplies
 use Rattle.th_registry.specs.declared.outcome.NoEvent.{NoEvent}
-use Rattle.th_registry.specs.declared.outcome.NoEvent.TheVariants as NoEvents
-use Rattle.th_registry.specs.Calls.{Bytes, rx, broadcast_asked, broadcast_by_receiver, broadcast_by_sender, watch_asked, watch_by_receiver, watch_by_sender}
-use Rattle.th_registry.specs.Events.{Event, Binds, Subscribes, Sends, Asks, Receives, Resubscribes, DropsTx, DropsRx, Hub, Own, By, Told, NewTx, NewRx, Replied, by_asker, by_sender, through_hub, broadcast_made_rx, broadcast_made_tx, broadcast_outcome, broadcast_waits, watch_call, watch_made_rx, watch_made_tx, watch_outcome, watch_waits}
-use Rattle.th_registry.specs.Hub.{came, on_channel, broadcast_replies, broadcast_event, moved, watch_replies, channel_event}
+use Rattle.th_registry.specs.Calls.{Bytes, tx, rx, broadcast_asked, broadcast_by_receiver, broadcast_by_sender, watch_asked, watch_by_receiver, watch_by_sender}
+use Rattle.th_registry.specs.Events.{Event, Binds, Subscribes, Sends, Asks, Receives, Resubscribes, DropsTx, DropsRx, Hub, Own, Replied, broadcast_made_rx, broadcast_made_tx, broadcast_outcome, broadcast_waits, watch_made_rx, watch_made_tx, watch_outcome, watch_waits}
+use Rattle.th_registry.specs.Hub.{came, on_channel, broadcast_replies, broadcast_event, moved, watch_replies, watch_event, channel_event}
 use Rattle.th_registry.specs.Endless.{EndlessChannel, EndlessTopics, endless}
 use Rattle.th_registry.specs.Live.{Handle, Sender, Receiver, is_live, is_live_on, AskedBy, lacks_handle}
 use Rattle.th_registry.specs.Laws.{LiveHandlesAreServed}
@@ -34,57 +33,7 @@ use Rattle.th_registry.proofs.LiveNumbers.{lives}
 use Rattle.th_registry.proofs.LiveBroadcast as b
 use Rattle.th_registry.proofs.LiveWatch as w
 use Rattle.th_registry.proofs.LiveChannel.{IsCallBy, IsWatchCallBy, sent-by, watch-sent-by, asked-by, watch-asked-by, received-by, watch-received-by, lives-is_live}
-use Rattle.th_registry.proofs.LiveTopics.{step}
-
--- through the hub's own sender nobody is told so
-
-through-known : (told : Told) → lacks_handle (through_hub told) ≡ false
-through-known (Ok (NewTx t)) = refl
-through-known (Ok (NewRx r)) = refl
-through-known (Ok (Replied (ChannelReplies.Broadcast (BReplies.Sent n)))) = refl
-through-known (Ok (Replied (ChannelReplies.Broadcast (BReplies.NoReceivers v)))) = refl
-through-known (Ok (Replied (ChannelReplies.Broadcast (BReplies.Exhausted v)))) = refl
-through-known (Ok (Replied (ChannelReplies.Broadcast (BReplies.Value v)))) = refl
-through-known (Ok (Replied (ChannelReplies.Broadcast BReplies.Empty))) = refl
-through-known (Ok (Replied (ChannelReplies.Broadcast BReplies.Closed))) = refl
-through-known (Ok (Replied (ChannelReplies.Broadcast (BReplies.Lagged n)))) = refl
-through-known (Ok (Replied (ChannelReplies.Broadcast (BReplies.NewRx r)))) = refl
-through-known (Ok (Replied (ChannelReplies.Broadcast (BReplies.NewTx t)))) = refl
-through-known (Ok (Replied (ChannelReplies.Broadcast (BReplies.Count n)))) = refl
-through-known (Ok (Replied (ChannelReplies.Broadcast BReplies.Done))) = refl
-through-known (Ok (Replied (ChannelReplies.Broadcast BReplies.TooMany))) = refl
-through-known (Ok (Replied (ChannelReplies.Broadcast (BReplies.NoHandle v)))) = refl
-through-known (Ok (Replied (ChannelReplies.Watch WReplies.Done))) = refl
-through-known (Ok (Replied (ChannelReplies.Watch (WReplies.NoReceivers v)))) = refl
-through-known (Ok (Replied (ChannelReplies.Watch (WReplies.Exhausted v)))) = refl
-through-known (Ok (Replied (ChannelReplies.Watch (WReplies.Was v)))) = refl
-through-known (Ok (Replied (ChannelReplies.Watch (WReplies.Modified b)))) = refl
-through-known (Ok (Replied (ChannelReplies.Watch (WReplies.Shown v b)))) = refl
-through-known (Ok (Replied (ChannelReplies.Watch (WReplies.Changed b)))) = refl
-through-known (Ok (Replied (ChannelReplies.Watch WReplies.Marked))) = refl
-through-known (Ok (Replied (ChannelReplies.Watch WReplies.NotYet))) = refl
-through-known (Ok (Replied (ChannelReplies.Watch WReplies.Closed))) = refl
-through-known (Ok (Replied (ChannelReplies.Watch (WReplies.Gone b)))) = refl
-through-known (Ok (Replied (ChannelReplies.Watch (WReplies.NewRx r)))) = refl
-through-known (Ok (Replied (ChannelReplies.Watch (WReplies.NewTx t)))) = refl
-through-known (Ok (Replied (ChannelReplies.Watch (WReplies.Count n)))) = refl
-through-known (Ok (Replied (ChannelReplies.Watch WReplies.TooMany))) = refl
-through-known (Ok (Replied (ChannelReplies.Watch (WReplies.NoHandle v)))) = refl
-through-known (Err why) = refl
-
-by-known : (by : By) (told : Told) → lacks_handle told ≡ false → lacks_handle (by_sender by told) ≡ false
-by-known Hub told h = through-known told
-by-known (Own t) told h = h
-
-asker-known : (event : Event) (told : Told) → lacks_handle told ≡ false → lacks_handle (by_asker event told) ≡ false
-asker-known Binds told h = through-known told
-asker-known (Subscribes start by) told h = by-known by told h
-asker-known (Sends t verb) told h = h
-asker-known (Asks by question) told h = by-known by told h
-asker-known (Receives r verb) told h = h
-asker-known (Resubscribes r) told h = h
-asker-known (DropsTx by) told h = by-known by told h
-asker-known (DropsRx r) told h = h
+use Rattle.th_registry.proofs.LiveTopics.{step, hubs_sender}
 
 -- what comes of a reply
 
@@ -207,80 +156,82 @@ watch-outcome-known (Receives r verb) reply h = watch-plain-known reply h
 watch-outcome-known (DropsTx by) reply h = watch-plain-known reply h
 watch-outcome-known (DropsRx r) reply h = watch-plain-known reply h
 
+-- an event that goes through the hub's own sender is none where that is not live
+hub-lives : (senders : List ℕ) → not (is_sender senders 1) ≡ false → is_sender senders 1 ≡ true
+hub-lives senders e = sym (not-not (is_sender senders 1)) ∙ ap not e
+
 -- an event of a broadcast channel
 module _ (c : broadcast.Endless Bytes) where
-  speaks : (o : Option (BCall Bytes)) (x : Handle) → IsCallBy o x → lives (b.numbers c) x ≡ true → (call : BCall Bytes) → o ≡ Some call → lives (b.numbers c) (b.speaker call) ≡ true
-  speaks None x by h call e = absurd (none-some call e)
-  speaks (Some k) x by h call e = ap (λ z. lives (b.numbers c) (b.speaker z)) (sym (same_Some k call e)) ∙ ap (lives (b.numbers c)) by.0 ∙ h
+  abbrev IsServed : Event → Result (BReply Bytes) NoEvent × broadcast.Endless Bytes → Type 0
+  IsServed event a = lacks_handle (came (broadcast_outcome event) a.0) ≡ false
 
-  known : (event : Event) (o : Option (BCall Bytes)) → ((call : BCall Bytes) → o ≡ Some call → lives (b.numbers c) (b.speaker call) ≡ true) →
-      lacks_handle (by_asker event (came (broadcast_outcome event) (broadcast_replies endless c o).0)) ≡ false
-  known event None h = asker-known event (Err NoEvents.WrongKind) refl
-  known event (Some call) h =
-      cond_case (λ (a : Result (BReply Bytes) NoEvent × broadcast.Endless Bytes). lacks_handle (by_asker event (came (broadcast_outcome event) a.0)) ≡ false) (broadcast_waits call (broadcast.step c call).0) _ _
-      (λ _. asker-known event (Err NoEvents.Blocked) refl)
-      (λ _. asker-known event (Ok (broadcast_outcome event (broadcast.step c call).0)) (outcome-known event (broadcast.step c call).0 (b.call_known c call (h call refl))))
+  -- by a handle that is live, unless there is no sender to go through
+  abbrev IsServing : (by_hub : Bool) → Handle → Type 0
+  IsServing by_hub x = (by_hub && not (is_sender c.senders 1)) ≡ false → lives (b.numbers c) x ≡ true
 
-  one : (event : Event) (k : BCall Bytes) → lives (b.numbers c) (b.speaker k) ≡ true → lacks_handle (by_asker event (came (broadcast_outcome event) (broadcast_replies endless c (Some k)).0)) ≡ false
-  one event k h = known event (Some k) (λ call e. ap (λ z. lives (b.numbers c) (b.speaker z)) (sym (same_Some k call e)) ∙ h)
+  known : (event : Event) (by_hub : Bool) (call : BCall Bytes) → IsServing by_hub (b.speaker call) → IsServed event (broadcast_replies endless c by_hub (Some call))
+  known event by_hub call live =
+      let reply = (broadcast.step c call).0 in
+      cond_case (IsServed event) (by_hub && not (is_sender c.senders 1)) _ _ (λ _. refl)
+      (λ there. cond_case (IsServed event) (broadcast_waits call reply) _ _ (λ _. refl) (λ _. outcome-known event reply (b.call_known c call (live there))))
 
-  moved-known : (r : RxId) → lives (b.numbers c) (Receiver r) ≡ true → lacks_handle (came (broadcast_outcome (Resubscribes r)) (broadcast_event endless c (Resubscribes r)).0) ≡ false
-  moved-known r live = elim (place_of c.index r.0) as (λ o. is_some o ≡ true → lacks_handle (came (broadcast_outcome (Resubscribes r)) (moved endless r (Ok (broadcast.at_index c o (λ _. broadcast.subscribe c)).0, (broadcast.at_index c o (λ _. broadcast.subscribe c)).1)).0) ≡ false) [
+  by-table : (event : Event) (by_hub : Bool) (o : Option (BCall Bytes)) (x : Handle) → IsCallBy o x → IsServing by_hub x → IsServed event (broadcast_replies endless c by_hub o)
+  by-table event by_hub None x by live = refl
+  by-table event by_hub (Some call) x by live = known event by_hub call (λ there. ap (lives (b.numbers c)) by.0 ∙ live there)
+
+  moved-known : (r : RxId) → lives (b.numbers c) (Receiver r) ≡ true → IsServed (Resubscribes r) (broadcast_event endless c (Resubscribes r))
+  moved-known r live = elim (place_of c.index r.0) as (λ o. is_some o ≡ true → IsServed (Resubscribes r) (moved endless r (Ok (broadcast.at_index c o (λ _. broadcast.subscribe c)).0, (broadcast.at_index c o (λ _. broadcast.subscribe c)).1))) [
     | None ↦ λ no. absurd (false≢true no)
-    | Some i ↦ λ _. cond_case (λ (a : BReply Bytes × broadcast.Endless Bytes). lacks_handle (came (broadcast_outcome (Resubscribes r)) (moved endless r (Ok a.0, a.1)).0) ≡ false) (is_full (length c.index) c.next) (BReplies.TooMany, c)
+    | Some i ↦ λ _. cond_case (λ (a : BReply Bytes × broadcast.Endless Bytes). IsServed (Resubscribes r) (moved endless r (Ok a.0, a.1))) (is_full (length c.index) c.next) (BReplies.TooMany, c)
         (BReplies.NewRx (rx c.next), broadcast.numbered (broadcast.with_index c (with_place c.index c.next (broadcast.tail_of c)))) (λ _. refl) (λ _. refl)
   ] live
 
-  abbrev answer : Event → Told
-  answer event = came (broadcast_outcome event) (broadcast_event endless c event).0
-
-  event_known : (event : Event) → ((x : Handle) → AskedBy event x → lives (b.numbers c) x ≡ true) → lacks_handle (by_asker event (came (broadcast_outcome event) (broadcast_event endless c event).0)) ≡ false
-  event_known Binds live = through-known (answer Binds)
-  event_known (Subscribes start Hub) live = through-known (answer (Subscribes start Hub))
-  event_known (Subscribes Starts.Tail (Own t)) live = one (Subscribes Starts.Tail (Own t)) (BCalls.Subscribe t) (live (Sender t) refl)
-  event_known (Subscribes Starts.Oldest (Own t)) live = one (Subscribes Starts.Oldest (Own t)) (BCalls.SubscribeOldest t) (live (Sender t) refl)
-  event_known (Sends t verb) live = known (Sends t verb) (broadcast_by_sender verb t) (speaks (broadcast_by_sender verb t) (Sender t) (sent-by verb t) (live (Sender t) refl))
-  event_known (Asks Hub question) live = through-known (answer (Asks Hub question))
-  event_known (Asks (Own t) question) live = known (Asks (Own t) question) (broadcast_asked question t) (speaks (broadcast_asked question t) (Sender t) (asked-by question t) (live (Sender t) refl))
-  event_known (Receives r verb) live = known (Receives r verb) (broadcast_by_receiver verb r) (speaks (broadcast_by_receiver verb r) (Receiver r) (received-by verb r) (live (Receiver r) refl))
+  event_known : (event : Event) → ((x : Handle) → AskedBy event x → lives (b.numbers c) x ≡ true) → IsServed event (broadcast_event endless c event)
+  event_known Binds live = known Binds true (BCalls.CloneTx (tx 1)) (hub-lives c.senders)
+  event_known (Subscribes Starts.Tail Hub) live = known (Subscribes Starts.Tail Hub) true (BCalls.Subscribe (tx 1)) (hub-lives c.senders)
+  event_known (Subscribes Starts.Oldest Hub) live = known (Subscribes Starts.Oldest Hub) true (BCalls.SubscribeOldest (tx 1)) (hub-lives c.senders)
+  event_known (Subscribes Starts.Tail (Own t)) live = known (Subscribes Starts.Tail (Own t)) false (BCalls.Subscribe t) (λ _. live (Sender t) refl)
+  event_known (Subscribes Starts.Oldest (Own t)) live = known (Subscribes Starts.Oldest (Own t)) false (BCalls.SubscribeOldest t) (λ _. live (Sender t) refl)
+  event_known (Sends t verb) live = by-table (Sends t verb) false (broadcast_by_sender verb t) (Sender t) (sent-by verb t) (λ _. live (Sender t) refl)
+  event_known (Asks Hub question) live = by-table (Asks Hub question) true (broadcast_asked question (tx 1)) hubs_sender (asked-by question (tx 1)) (hub-lives c.senders)
+  event_known (Asks (Own t) question) live = by-table (Asks (Own t) question) false (broadcast_asked question t) (Sender t) (asked-by question t) (λ _. live (Sender t) refl)
+  event_known (Receives r verb) live = by-table (Receives r verb) false (broadcast_by_receiver verb r) (Receiver r) (received-by verb r) (λ _. live (Receiver r) refl)
   event_known (Resubscribes r) live = moved-known r (live (Receiver r) refl)
-  event_known (DropsTx Hub) live = through-known (answer (DropsTx Hub))
-  event_known (DropsTx (Own t)) live = one (DropsTx (Own t)) (BCalls.DropTx t) (live (Sender t) refl)
-  event_known (DropsRx r) live = one (DropsRx r) (BCalls.DropRx r) (live (Receiver r) refl)
+  event_known (DropsTx Hub) live = known (DropsTx Hub) true (BCalls.DropTx (tx 1)) (hub-lives c.senders)
+  event_known (DropsTx (Own t)) live = known (DropsTx (Own t)) false (BCalls.DropTx t) (λ _. live (Sender t) refl)
+  event_known (DropsRx r) live = known (DropsRx r) false (BCalls.DropRx r) (λ _. live (Receiver r) refl)
 
 -- and one of a watch channel
 module _ (c : watch.Endless Bytes) where
-  watch-speaks : (o : Option (WCall Bytes)) (x : Handle) → IsWatchCallBy o x → lives (w.numbers c) x ≡ true → (call : WCall Bytes) → o ≡ Some call → lives (w.numbers c) (w.speaker call) ≡ true
-  watch-speaks None x by h call e = absurd (none-some call e)
-  watch-speaks (Some k) x by h call e = ap (λ z. lives (w.numbers c) (w.speaker z)) (sym (same_Some k call e)) ∙ ap (lives (w.numbers c)) by.0 ∙ h
+  abbrev IsWatchServed : Event → Result (WReply Bytes) NoEvent × watch.Endless Bytes → Type 0
+  IsWatchServed event a = lacks_handle (came (watch_outcome event) a.0) ≡ false
 
-  watch-known : (event : Event) (o : Option (WCall Bytes)) → ((call : WCall Bytes) → o ≡ Some call → lives (w.numbers c) (w.speaker call) ≡ true) →
-      lacks_handle (by_asker event (came (watch_outcome event) (watch_replies endless c o).0)) ≡ false
-  watch-known event None h = asker-known event (Err NoEvents.WrongKind) refl
-  watch-known event (Some call) h =
-      cond_case (λ (a : Result (WReply Bytes) NoEvent × watch.Endless Bytes). lacks_handle (by_asker event (came (watch_outcome event) a.0)) ≡ false) (watch_waits call (endless.watch c call).0) _ _
-      (λ _. asker-known event (Err NoEvents.Blocked) refl)
-      (λ _. asker-known event (Ok (watch_outcome event (endless.watch c call).0)) (watch-outcome-known event (endless.watch c call).0 (w.call_known (pointwise nat_eq) c call (h call refl))))
+  abbrev IsWatchServing : (by_hub : Bool) → Handle → Type 0
+  IsWatchServing by_hub x = (by_hub && not (is_sender c.senders 1)) ≡ false → lives (w.numbers c) x ≡ true
 
-  watch-one : (event : Event) (k : WCall Bytes) → lives (w.numbers c) (w.speaker k) ≡ true → lacks_handle (by_asker event (came (watch_outcome event) (watch_replies endless c (Some k)).0)) ≡ false
-  watch-one event k h = watch-known event (Some k) (λ call e. ap (λ z. lives (w.numbers c) (w.speaker z)) (sym (same_Some k call e)) ∙ h)
+  watch-known : (event : Event) (by_hub : Bool) (call : WCall Bytes) → IsWatchServing by_hub (w.speaker call) → IsWatchServed event (watch_replies endless c by_hub (Some call))
+  watch-known event by_hub call live =
+      let reply = (endless.watch c call).0 in
+      cond_case (IsWatchServed event) (by_hub && not (is_sender c.senders 1)) _ _ (λ _. refl)
+      (λ there. cond_case (IsWatchServed event) (watch_waits call reply) _ _ (λ _. refl) (λ _. watch-outcome-known event reply (w.call_known (pointwise nat_eq) c call (live there))))
 
-  abbrev watch_answer : Event → Told
-  watch_answer event = came (watch_outcome event) (watch_replies endless c (watch_call event)).0
+  watch-by-table : (event : Event) (by_hub : Bool) (o : Option (WCall Bytes)) (x : Handle) → IsWatchCallBy o x → IsWatchServing by_hub x → IsWatchServed event (watch_replies endless c by_hub o)
+  watch-by-table event by_hub None x by live = refl
+  watch-by-table event by_hub (Some call) x by live = watch-known event by_hub call (λ there. ap (lives (w.numbers c)) by.0 ∙ live there)
 
-  watch_event_known : (event : Event) → ((x : Handle) → AskedBy event x → lives (w.numbers c) x ≡ true) → lacks_handle (by_asker event (came (watch_outcome event) (watch_replies endless c (watch_call event)).0)) ≡ false
-  watch_event_known Binds live = through-known (watch_answer Binds)
-  watch_event_known (Subscribes start Hub) live = through-known (watch_answer (Subscribes start Hub))
-  watch_event_known (Subscribes Starts.Tail (Own t)) live = watch-one (Subscribes Starts.Tail (Own t)) (WCalls.Subscribe t) (live (Sender t) refl)
-  watch_event_known (Subscribes Starts.Oldest (Own t)) live = refl
-  watch_event_known (Sends t verb) live = watch-known (Sends t verb) (watch_by_sender verb t) (watch-speaks (watch_by_sender verb t) (Sender t) (watch-sent-by verb t) (live (Sender t) refl))
-  watch_event_known (Asks Hub question) live = through-known (watch_answer (Asks Hub question))
-  watch_event_known (Asks (Own t) question) live = watch-known (Asks (Own t) question) (watch_asked question t) (watch-speaks (watch_asked question t) (Sender t) (watch-asked-by question t) (live (Sender t) refl))
-  watch_event_known (Receives r verb) live = watch-known (Receives r verb) (watch_by_receiver verb r) (watch-speaks (watch_by_receiver verb r) (Receiver r) (watch-received-by verb r) (live (Receiver r) refl))
+  watch_event_known : (event : Event) → ((x : Handle) → AskedBy event x → lives (w.numbers c) x ≡ true) → IsWatchServed event (watch_event endless c event)
+  watch_event_known Binds live = watch-known Binds true (WCalls.CloneTx (tx 1)) (hub-lives c.senders)
+  watch_event_known (Subscribes Starts.Tail Hub) live = watch-known (Subscribes Starts.Tail Hub) true (WCalls.Subscribe (tx 1)) (hub-lives c.senders)
+  watch_event_known (Subscribes Starts.Tail (Own t)) live = watch-known (Subscribes Starts.Tail (Own t)) false (WCalls.Subscribe t) (λ _. live (Sender t) refl)
+  watch_event_known (Subscribes Starts.Oldest by) live = refl
+  watch_event_known (Sends t verb) live = watch-by-table (Sends t verb) false (watch_by_sender verb t) (Sender t) (watch-sent-by verb t) (λ _. live (Sender t) refl)
+  watch_event_known (Asks Hub question) live = watch-by-table (Asks Hub question) true (watch_asked question (tx 1)) hubs_sender (watch-asked-by question (tx 1)) (hub-lives c.senders)
+  watch_event_known (Asks (Own t) question) live = watch-by-table (Asks (Own t) question) false (watch_asked question t) (Sender t) (watch-asked-by question t) (λ _. live (Sender t) refl)
+  watch_event_known (Receives r verb) live = watch-by-table (Receives r verb) false (watch_by_receiver verb r) (Receiver r) (watch-received-by verb r) (λ _. live (Receiver r) refl)
   watch_event_known (Resubscribes r) live = refl
-  watch_event_known (DropsTx Hub) live = through-known (watch_answer (DropsTx Hub))
-  watch_event_known (DropsTx (Own t)) live = watch-one (DropsTx (Own t)) (WCalls.DropTx t) (live (Sender t) refl)
-  watch_event_known (DropsRx r) live = watch-one (DropsRx r) (WCalls.DropRx r) (live (Receiver r) refl)
+  watch_event_known (DropsTx Hub) live = watch-known (DropsTx Hub) true (WCalls.DropTx (tx 1)) (hub-lives c.senders)
+  watch_event_known (DropsTx (Own t)) live = watch-known (DropsTx (Own t)) false (WCalls.DropTx t) (λ _. live (Sender t) refl)
+  watch_event_known (DropsRx r) live = watch-known (DropsRx r) false (WCalls.DropRx r) (λ _. live (Receiver r) refl)
 
 channel_known : (c : EndlessChannel) (event : Event) → ((x : Handle) → AskedBy event x → is_live c x ≡ true) → lacks_handle (channel_event endless c event).0 ≡ false
 channel_known (Broadcast e) event live = event_known e event (λ x k. lives-is_live (Broadcast e) x ∙ live x k)

@@ -1,5 +1,6 @@
 -- A hub of endless states is seen as a hub of pictures.
 use Rattle.std.proofs.Common.{◌≡◌, ℕ, zero, suc, ◌+◌, ◌*◌, ◌<◌, ◌≤◌, ◌^◌, ◌&&◌, Bool, true, false, cond, nat_eq, nat_lt, nat_le, [], ◌∷◌, ◌++◌, map, length, Option, Some, None, is_some, slice_get, position, Result, Ok, Err, refl, sym, ap, subst, ◌∙◌, arith}
+use Rattle.std.specs.Prelude.{not}
 use Rattle.std.specs.Option.{option_map}
 use Rattle.std.specs.Map.{keys_of, values_of}
 use Rattle.std.specs.Cmp.Lexicographic.{pointwise}
@@ -10,10 +11,10 @@ use Rattle.std.proofs.Math.Pow.{pow_mono}
 use Rattle.std.proofs.Math.Nat.{pow-succ'}
 use Rattle.indexmap.specs.IndexMap.{set_value_at}
 use Rattle.th_model.specs.declared.broadcast.BCall.{BCall}
+use Rattle.th_model.specs.Handles.{is_sender}
 use Rattle.th_model.specs.Limits.{IsCapacity, doubled, capacity_of}
 use Rattle.th_model.specs.declared.broadcast.BCall.TheVariants as BCalls
 use Rattle.th_model.specs.declared.broadcast.BReply.{BReply}
-use Rattle.th_model.specs.declared.watch.WCall.{WCall}
 use Rattle.th_model.specs.declared.watch.WReply.{WReply}
 use Rattle.th_model.specs.declared.kind.Kind.{Kind}
 use Rattle.th_model.specs.declared.handles.RxId.{RxId}
@@ -23,6 +24,7 @@ use Rattle.th_model.specs.WatchMachine as watch
 use Rattle.th_model.specs.WatchPicture as seen_watch
 use Rattle.th_model.proofs.BroadcastSeen as broadcast_seen
 use Rattle.th_model.proofs.BroadcastProperness as broadcast_proper
+use Rattle.th_model.proofs.BroadcastProperness.{cond_case}
 use Rattle.th_model.proofs.WatchSeen as watch_seen
 use Rattle.th_model.proofs.WatchProperness as watch_proper
 use Rattle.th_registry.specs.declared.channel.Channel.TheVariants.{Broadcast, Watch}
@@ -35,9 +37,9 @@ use Rattle.th_model.specs.declared.making.Making.TheVariants as Makings
 use Rattle.th_registry.specs.declared.opening.Refusal.{Refusal}
 use Rattle.th_registry.specs.declared.opening.Refusal.TheVariants as Refusals
 use Rattle.th_registry.specs.Calls.{Bytes}
-use Rattle.th_registry.specs.Events.{Event, Binds, Subscribes, Sends, Asks, Receives, Resubscribes, DropsTx, DropsRx, Told, broadcast_call, broadcast_outcome, broadcast_waits, watch_call, watch_outcome, watch_waits, by_asker}
+use Rattle.th_registry.specs.Events.{Event, Binds, Subscribes, Sends, Asks, Receives, Resubscribes, DropsTx, DropsRx, Told, broadcast_call, broadcast_waits, is_by_hub, is_hub, watch_call, watch_waits}
 use Rattle.th_registry.specs.Kinds.{kind_of}
-use Rattle.th_registry.specs.Hub.{Find, List, Open, On, most_topics, found_in, found_at, find, list, written, on_channel, added, made_broadcast, made, open_topic, came, broadcast_replies, moved, broadcast_event, watch_replies, channel_event, say}
+use Rattle.th_registry.specs.Hub.{Find, List, Open, On, most_topics, found_in, found_at, find, list, written, on_channel, added, made_broadcast, made, open_topic, replies, broadcast_replies, moved, broadcast_event, watch_event, as_broadcast, as_watch, channel_event, say}
 use Rattle.th_registry.specs.Endless.{EndlessChannel, EndlessTopics, endless, IsProperChannel, AreProper}
 use Rattle.th_registry.specs.Pictures.{SeenChannel, SeenTopics, pictures, see_channel, see_topics}
 use Rattle.th_registry.specs.Laws.{SaysWhatIsSeen, StaysProper}
@@ -154,23 +156,40 @@ called-seen : {C D R : Type 0} (see : C → D) (c : C) (s : R × C) (waits : Boo
 called-seen see c s true = refl
 called-seen see c s false = refl
 
-proper-called : {C R : Type 0} (P : C → Type 0) (c : C) (s : R × C) (waits : Bool) → P c → P s.1 → P (called waits c s).1
-proper-called P c s true before after = before
-proper-called P c s false before after = after
+replies-seen : {C D K R : Type 0} (see : C → D) (step : C → K → R × C) (answer : D → K → R × D) (waits : K → R → Bool) (no_sender : Bool) (c : C) (call : Option K) →
+    ((k : K) → answer (see c) k ≡ ((step c k).0, see (step c k).1)) →
+    replies answer waits no_sender (see c) call ≡ ((replies step waits no_sender c call).0, see (replies step waits no_sender c call).1)
+replies-seen see step answer waits no_sender c None seen = refl
+replies-seen see step answer waits true c (Some call) seen = refl
+replies-seen see step answer waits false c (Some call) seen =
+    ap (λ s. called (waits call s.0) (see c) s) (seen call) ∙ called-seen see c (step c call) (waits call (step c call).0)
+
+proper-replies : {C K R : Type 0} (P : C → Type 0) (step : C → K → R × C) (waits : K → R → Bool) (no_sender : Bool) (c : C) (call : Option K) →
+    P c → ((k : K) → P (step c k).1) → P (replies step waits no_sender c call).1
+proper-replies P step waits no_sender c None before after = before
+proper-replies P step waits true c (Some call) before after = before
+proper-replies {R = R} P step waits false c (Some call) before after =
+    cond_case (λ (s : Replies R _). P s.1) (waits call (step c call).0) _ _ (λ _. before) (λ _. after call)
+
+-- the senders are seen as they are
+senders-seen : (e : broadcast.Endless Bytes) → (seen_broadcast.see e).senders ≡ e.senders
+unfolding seen_broadcast.see
+senders-seen e = refl
+
+watch_senders-seen : (e : watch.Endless Bytes) → (seen_watch.see e).senders ≡ e.senders
+unfolding seen_watch.see
+watch_senders-seen e = refl
 
 module _ (e : broadcast.Endless Bytes) (proper : broadcast.IsProper e) where
-  broadcast_replies-seen : (call : Option (BCall Bytes)) →
-      broadcast_replies pictures (seen_broadcast.see e) call ≡ see_broadcast (broadcast_replies endless e call)
-  broadcast_replies-seen None = refl
-  broadcast_replies-seen (Some call) =
-      ap (λ s. called (broadcast_waits call s.0) (seen_broadcast.see e) s) (broadcast_seen.answer_seen e call proper)
-      ∙ called-seen seen_broadcast.see e (broadcast.step e call) (broadcast_waits call (broadcast.step e call).0)
+  broadcast_replies-seen : (by_hub : Bool) (call : Option (BCall Bytes)) →
+      broadcast_replies pictures (seen_broadcast.see e) by_hub call ≡ see_broadcast (broadcast_replies endless e by_hub call)
+  broadcast_replies-seen by_hub call =
+      ap (λ ks. replies pictures.broadcast broadcast_waits (by_hub && not (is_sender ks 1)) (seen_broadcast.see e) call) (senders-seen e)
+      ∙ replies-seen seen_broadcast.see endless.broadcast pictures.broadcast broadcast_waits (by_hub && not (is_sender e.senders 1)) e call (λ k. broadcast_seen.answer_seen e k proper)
 
-  proper-broadcast_replies : (call : Option (BCall Bytes)) → broadcast.IsProper (broadcast_replies endless e call).1
-  proper-broadcast_replies None = proper
-  proper-broadcast_replies (Some call) =
-      proper-called broadcast.IsProper e (broadcast.step e call) (broadcast_waits call (broadcast.step e call).0) proper
-      (broadcast_proper.step_proper e call proper)
+  proper-broadcast_replies : (by_hub : Bool) (call : Option (BCall Bytes)) → broadcast.IsProper (broadcast_replies endless e by_hub call).1
+  proper-broadcast_replies by_hub call =
+      proper-replies broadcast.IsProper endless.broadcast broadcast_waits (by_hub && not (is_sender e.senders 1)) e call proper (λ k. broadcast_proper.step_proper e k proper)
 
 moved-seen : (r : RxId) (s : Replies (BReply Bytes) (broadcast.Endless Bytes)) → broadcast.IsProper s.1 →
     moved pictures r (see_broadcast s) ≡ see_broadcast (moved endless r s)
@@ -210,52 +229,42 @@ proper-moved r (Err why, e) proper = proper
 module _ (e : broadcast.Endless Bytes) (proper : broadcast.IsProper e) where
   broadcast-seen : (event : Event) → broadcast_event pictures (seen_broadcast.see e) event ≡ see_broadcast (broadcast_event endless e event)
   broadcast-seen (Resubscribes r) =
-      ap (moved pictures r) (broadcast_replies-seen e proper (broadcast_call (Resubscribes r)))
-      ∙ moved-seen r (broadcast_replies endless e (broadcast_call (Resubscribes r)))
-      (proper-broadcast_replies e proper (broadcast_call (Resubscribes r)))
-  broadcast-seen Binds = broadcast_replies-seen e proper (broadcast_call Binds)
-  broadcast-seen (Subscribes start by) = broadcast_replies-seen e proper (broadcast_call (Subscribes start by))
-  broadcast-seen (Sends t verb) = broadcast_replies-seen e proper (broadcast_call (Sends t verb))
-  broadcast-seen (Asks by question) = broadcast_replies-seen e proper (broadcast_call (Asks by question))
-  broadcast-seen (Receives r verb) = broadcast_replies-seen e proper (broadcast_call (Receives r verb))
-  broadcast-seen (DropsTx by) = broadcast_replies-seen e proper (broadcast_call (DropsTx by))
-  broadcast-seen (DropsRx r) = broadcast_replies-seen e proper (broadcast_call (DropsRx r))
+      ap (moved pictures r) (broadcast_replies-seen e proper false (broadcast_call (Resubscribes r)))
+      ∙ moved-seen r (broadcast_replies endless e false (broadcast_call (Resubscribes r)))
+      (proper-broadcast_replies e proper false (broadcast_call (Resubscribes r)))
+  broadcast-seen Binds = broadcast_replies-seen e proper true (broadcast_call Binds)
+  broadcast-seen (Subscribes start by) = broadcast_replies-seen e proper (is_hub by) (broadcast_call (Subscribes start by))
+  broadcast-seen (Sends t verb) = broadcast_replies-seen e proper false (broadcast_call (Sends t verb))
+  broadcast-seen (Asks by question) = broadcast_replies-seen e proper (is_hub by) (broadcast_call (Asks by question))
+  broadcast-seen (Receives r verb) = broadcast_replies-seen e proper false (broadcast_call (Receives r verb))
+  broadcast-seen (DropsTx by) = broadcast_replies-seen e proper (is_hub by) (broadcast_call (DropsTx by))
+  broadcast-seen (DropsRx r) = broadcast_replies-seen e proper false (broadcast_call (DropsRx r))
 
   proper-broadcast : (event : Event) → broadcast.IsProper (broadcast_event endless e event).1
   proper-broadcast (Resubscribes r) =
-      proper-moved r (broadcast_replies endless e (broadcast_call (Resubscribes r)))
-      (proper-broadcast_replies e proper (broadcast_call (Resubscribes r)))
-  proper-broadcast Binds = proper-broadcast_replies e proper (broadcast_call Binds)
-  proper-broadcast (Subscribes start by) = proper-broadcast_replies e proper (broadcast_call (Subscribes start by))
-  proper-broadcast (Sends t verb) = proper-broadcast_replies e proper (broadcast_call (Sends t verb))
-  proper-broadcast (Asks by question) = proper-broadcast_replies e proper (broadcast_call (Asks by question))
-  proper-broadcast (Receives r verb) = proper-broadcast_replies e proper (broadcast_call (Receives r verb))
-  proper-broadcast (DropsTx by) = proper-broadcast_replies e proper (broadcast_call (DropsTx by))
-  proper-broadcast (DropsRx r) = proper-broadcast_replies e proper (broadcast_call (DropsRx r))
+      proper-moved r (broadcast_replies endless e false (broadcast_call (Resubscribes r)))
+      (proper-broadcast_replies e proper false (broadcast_call (Resubscribes r)))
+  proper-broadcast Binds = proper-broadcast_replies e proper true (broadcast_call Binds)
+  proper-broadcast (Subscribes start by) = proper-broadcast_replies e proper (is_hub by) (broadcast_call (Subscribes start by))
+  proper-broadcast (Sends t verb) = proper-broadcast_replies e proper false (broadcast_call (Sends t verb))
+  proper-broadcast (Asks by question) = proper-broadcast_replies e proper (is_hub by) (broadcast_call (Asks by question))
+  proper-broadcast (Receives r verb) = proper-broadcast_replies e proper false (broadcast_call (Receives r verb))
+  proper-broadcast (DropsTx by) = proper-broadcast_replies e proper (is_hub by) (broadcast_call (DropsTx by))
+  proper-broadcast (DropsRx r) = proper-broadcast_replies e proper false (broadcast_call (DropsRx r))
 
 module _ (e : watch.Endless Bytes) (proper : watch.IsProper e) where
-  watch-seen : (call : Option (WCall Bytes)) → watch_replies pictures (seen_watch.see e) call ≡ see_watch (watch_replies endless e call)
-  watch-seen None = refl
-  watch-seen (Some call) =
-      ap (λ s. called (watch_waits call s.0) (seen_watch.see e) s) (watch_seen.answer_seen (pointwise nat_eq) e call proper)
-      ∙ called-seen seen_watch.see e (endless.watch e call) (watch_waits call (endless.watch e call).0)
+  watch-seen : (event : Event) → watch_event pictures (seen_watch.see e) event ≡ see_watch (watch_event endless e event)
+  watch-seen event =
+      ap (λ ks. replies pictures.watch watch_waits (is_by_hub event && not (is_sender ks 1)) (seen_watch.see e) (watch_call event)) (watch_senders-seen e)
+      ∙ replies-seen seen_watch.see endless.watch pictures.watch watch_waits (is_by_hub event && not (is_sender e.senders 1)) e (watch_call event) (λ k. watch_seen.answer_seen (pointwise nat_eq) e k proper)
 
-  proper-watch : (call : Option (WCall Bytes)) → watch.IsProper (watch_replies endless e call).1
-  proper-watch None = proper
-  proper-watch (Some call) =
-      proper-called watch.IsProper e (endless.watch e call) (watch_waits call (endless.watch e call).0) proper
-      (watch_proper.step_proper e proper (pointwise nat_eq) call)
-
--- what is said of an event, by what was replied
-abbrev broadcast_said : {C : Type 0} → Event → Replies (BReply Bytes) C → Told
-broadcast_said event s = by_asker event (came (broadcast_outcome event) s.0)
-
-abbrev watch_said : {C : Type 0} → Event → Replies (WReply Bytes) C → Told
-watch_said event s = by_asker event (came (watch_outcome event) s.0)
+  proper-watch : (event : Event) → watch.IsProper (watch_event endless e event).1
+  proper-watch event =
+      proper-replies watch.IsProper endless.watch watch_waits (is_by_hub event && not (is_sender e.senders 1)) e (watch_call event) proper (λ k. watch_proper.step_proper e proper (pointwise nat_eq) k)
 
 channel-seen : (c : EndlessChannel) → IsProperChannel c → (event : Event) → channel_event pictures (see_channel c) event ≡ see_told (channel_event endless c event)
-channel-seen (Broadcast e) proper event = ap (λ s. (broadcast_said event s, Broadcast s.1)) (broadcast-seen e proper event)
-channel-seen (Watch e) proper event = ap (λ s. (watch_said event s, Watch s.1)) (watch-seen e proper (watch_call event))
+channel-seen (Broadcast e) proper event = ap (as_broadcast pictures event) (broadcast-seen e proper event)
+channel-seen (Watch e) proper event = ap (as_watch pictures event) (watch-seen e proper event)
 
 set-seen : (ts : EndlessTopics) (n : ℕ) (c : EndlessChannel) → set_value_at (see_topics ts) n (see_channel c) ≡ see_topics (set_value_at ts n c)
 set-seen [] n c = refl
@@ -362,7 +371,7 @@ proper-open ts name making h = elim (is_some (find ts name)) as (λ b. AreProper
 
 proper-channel : (c : EndlessChannel) → IsProperChannel c → (event : Event) → IsProperChannel (channel_event endless c event).1
 proper-channel (Broadcast e) h event = proper-broadcast e h event
-proper-channel (Watch e) h event = proper-watch e h (watch_call event)
+proper-channel (Watch e) h event = proper-watch e h event
 
 proper-set : (ts : EndlessTopics) (n : ℕ) (c : EndlessChannel) → AreProper ts → IsProperChannel c → AreProper (set_value_at ts n c)
 proper-set [] n c h p = tt

@@ -2,6 +2,7 @@
 use Rattle.std.specs.Prelude.{nat_eq}
 use Rattle.std.specs.Cmp.Lexicographic.{pointwise}
 use Rattle.std.specs.List.{AllByRecursion}
+use Rattle.th_model.specs.Handles.{is_sender}
 use Rattle.th_model.specs.BroadcastMachine as broadcast
 use Rattle.th_model.specs.WatchMachine as watch
 use Rattle.th_registry.specs.declared.channel.Channel.{Channel}
@@ -19,8 +20,10 @@ EndlessTopics = Topics (broadcast.Endless Bytes) (watch.Endless Bytes)
 abbrev pub endless : Machines (broadcast.Endless Bytes) (watch.Endless Bytes)
 endless = record {
   broadcast = broadcast.step;
+  broadcast_has_sender = λ e tx. is_sender e.senders tx.0;
   broadcast_opened = broadcast.opened;
   watch = watch.step (pointwise nat_eq);
+  watch_has_sender = λ e tx. is_sender e.senders tx.0;
   watch_opened = λ value. watch.opened value 1;
 }
 

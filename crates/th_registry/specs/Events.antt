@@ -18,7 +18,6 @@ use Rattle.th_model.specs.declared.verb.Start.TheVariants.{Tail, Oldest}
 use Rattle.th_registry.specs.declared.outcome.ChannelReply.{ChannelReply}
 use Rattle.th_registry.specs.declared.outcome.ChannelReply.TheVariants.{Broadcast, Watch}
 use Rattle.th_registry.specs.declared.outcome.NoEvent.{NoEvent}
-use Rattle.th_registry.specs.declared.outcome.NoEvent.TheVariants.{NoSender}
 use Rattle.th_registry.specs.Calls.{Bytes, tx, broadcast_by_sender, watch_by_sender, broadcast_asked, watch_asked, broadcast_by_receiver, watch_by_receiver}
 
 -- by which sender: the hub's own, which is sender 1 of each topic, or the asker's
@@ -29,6 +28,10 @@ pub data By : Type 0 where
 abbrev pub sender_of : By → TxId
 sender_of Hub = tx 1
 sender_of (Own t) = t
+
+abbrev pub is_hub : By → Bool
+is_hub Hub = true
+is_hub (Own t) = false
 
 -- by the asker's own sender, or else by the hub's
 abbrev pub any_sender : Option TxId → By
@@ -49,6 +52,14 @@ pub data Event : Type 0 where
   -- the end of a sender, and of a receiver
   DropsTx : By → Event
   DropsRx : RxId → Event
+
+-- whether an event goes through the hub's own sender
+abbrev pub is_by_hub : Event → Bool
+is_by_hub Binds = true
+is_by_hub (Subscribes start by) = is_hub by
+is_by_hub (Asks by question) = is_hub by
+is_by_hub (DropsTx by) = is_hub by
+is_by_hub event = false
 
 -- the call of a broadcast channel, and of a watch channel, if it has one
 abbrev pub broadcast_call : Event → Option (BCall Bytes)
@@ -119,23 +130,6 @@ watch_outcome event reply = Replied (Watch reply)
 -- what is said of an event: what came of it, or why there was none
 abbrev pub Told : Type 0
 Told = Result Outcome NoEvent
-
--- by the hub's own sender: where that is not live, there is no sender to go through
-abbrev pub through_hub : Told → Told
-through_hub (Ok (Replied (Broadcast (BReplies.NoHandle v)))) = Err NoSender
-through_hub (Ok (Replied (Watch (WReplies.NoHandle v)))) = Err NoSender
-through_hub told = told
-
-abbrev pub by_sender : By → Told → Told
-by_sender Hub told = through_hub told
-by_sender (Own t) told = told
-
-abbrev pub by_asker : Event → Told → Told
-by_asker Binds told = through_hub told
-by_asker (Subscribes start by) told = by_sender by told
-by_asker (Asks by question) told = by_sender by told
-by_asker (DropsTx by) told = by_sender by told
-by_asker event told = told
 
 -- Whether memory is asked for before a channel replies so: for a new handle, and for a value that is handed out. A send
 -- takes none, since the slots of a broadcast channel are made with it, and a watch channel moves the value.

@@ -1,10 +1,11 @@
 -- The hub: topics in order of opening, and what they say to what is asked of them.
-use Rattle.std.specs.Prelude.{ℕ, ◌≡◌, ◌^◌, ◌⊎◌, nat_eq, nat_le, nat_lt, if◌then◌else◌, [], ◌∷◌, ◌++◌, length, map, Option, Some, None, is_some, slice_get, position, Result, Ok, Err, is_ok, Bool, true, false}
+use Rattle.std.specs.Prelude.{ℕ, ◌≡◌, ◌^◌, ◌⊎◌, nat_eq, nat_le, nat_lt, if◌then◌else◌, [], ◌∷◌, ◌++◌, length, map, Option, Some, None, is_some, slice_get, position, Result, Ok, Err, is_ok, Bool, true, false, not, ◌&&◌}
 use Rattle.std.specs.Prelude as prelude
 use Rattle.std.specs.Option.{option_map}
 use Rattle.std.specs.Map.{keys_of, values_of}
 use Rattle.std.specs.Cmp.Lexicographic.{pointwise}
 use Rattle.indexmap.specs.IndexMap.{set_value_at}
+use Rattle.th_model.specs.declared.handles.TxId.{TxId}
 use Rattle.th_model.specs.declared.handles.RxId.{RxId}
 use Rattle.th_model.specs.declared.broadcast.BCall.{BCall}
 use Rattle.th_model.specs.declared.broadcast.BCall.TheVariants as BCalls
@@ -25,18 +26,20 @@ use Rattle.th_registry.specs.declared.opening.Found.{Found}
 use Rattle.th_registry.specs.declared.outcome.NoEvent.{NoEvent}
 use Rattle.th_registry.specs.declared.outcome.NoEvent.TheVariants as NoEvents
 use Rattle.th_registry.specs.Kinds.{kind_of}
-use Rattle.th_registry.specs.Calls.{Bytes}
-use Rattle.th_registry.specs.Events.{Event, Resubscribes, Outcome, Told, broadcast_call, broadcast_outcome, broadcast_waits, watch_call, watch_outcome, watch_waits, by_asker, takes_memory}
+use Rattle.th_registry.specs.Calls.{Bytes, tx}
+use Rattle.th_registry.specs.Events.{Event, Resubscribes, Outcome, Told, broadcast_call, broadcast_outcome, broadcast_waits, watch_call, watch_outcome, watch_waits, is_by_hub, takes_memory}
 
 -- the most topics of a hub
 abbrev pub most_topics : ℕ
 most_topics = 1024
 
--- the channels' machines, on endless states or on pictures
+-- the channels' machines, on endless states or on pictures: the step by a call, whether a sender is live, and new channels
 pub record Machines (B W : Type 0) : Type 0 where
   pub broadcast : B → BCall Bytes → BReply Bytes × B
+  pub broadcast_has_sender : B → TxId → Bool
   pub broadcast_opened : (capacity base : ℕ) → B
   pub watch : W → WCall Bytes → WReply Bytes × W
+  pub watch_has_sender : W → TxId → Bool
   pub watch_opened : Bytes → W
 
 -- what is asked of a hub
@@ -67,6 +70,16 @@ IsRefusal (Find name) found = ⊥
 IsRefusal List topics = topics ≡ Err (record { call = tt })
 IsRefusal (Open name making) opened = opened ≡ Err Refusals.Short
 IsRefusal (On topic event) told = told ≡ Err NoEvents.Short
+
+-- What a channel replies to a call, or the first reason why there is no event: the kind has no such call; it goes
+-- through the hub's own sender, and that is not live; it would wait.
+abbrev pub replies : {C K R : Type 0} → (step : C → K → R × C) (waits : K → R → Bool) (no_sender : Bool) →
+    C → Option K → Result R NoEvent × C
+replies step waits no_sender c None = (Err NoEvents.WrongKind, c)
+replies step waits no_sender c (Some call) =
+    if no_sender then (Err NoEvents.NoSender, c)
+    else if waits call (step c call).0 then (Err NoEvents.Blocked, c)
+    else (Ok (step c call).0, (step c call).1)
 
 -- what came of an event, by the reply to its call
 abbrev pub came : {R : Type 0} → (R → Outcome) → Result R NoEvent → Told
@@ -138,12 +151,10 @@ module _ {B W : Type 0} (m : Machines B W) where
   open_topic ts name making =
       if is_some (find ts name) then (Err Refusals.Exists, ts) else added ts name (made making)
 
-  -- one call of a broadcast channel, if it has the call; one that would wait is no event
-  abbrev pub broadcast_replies : B → Option (BCall Bytes) → Result (BReply Bytes) NoEvent × B
-  broadcast_replies c None = (Err NoEvents.WrongKind, c)
-  broadcast_replies c (Some call) =
-      if broadcast_waits call (m.broadcast c call).0 then (Err NoEvents.Blocked, c)
-      else (Ok (m.broadcast c call).0, (m.broadcast c call).1)
+  -- one call of a broadcast channel, through the hub's own sender or not
+  abbrev pub broadcast_replies : B → (by_hub : Bool) → Option (BCall Bytes) → Result (BReply Bytes) NoEvent × B
+  broadcast_replies c by_hub call =
+      replies m.broadcast broadcast_waits (by_hub && not (m.broadcast_has_sender c (tx 1))) c call
 
   -- once there is a new receiver, the old one is spent
   abbrev pub moved : RxId → Result (BReply Bytes) NoEvent × B → Result (BReply Bytes) NoEvent × B
@@ -152,26 +163,27 @@ module _ {B W : Type 0} (m : Machines B W) where
 
   -- what a broadcast channel replies to an event
   abbrev pub broadcast_event : B → Event → Result (BReply Bytes) NoEvent × B
-  broadcast_event c (Resubscribes r) = moved r (broadcast_replies c (broadcast_call (Resubscribes r)))
-  broadcast_event c event = broadcast_replies c (broadcast_call event)
+  broadcast_event c (Resubscribes r) = moved r (broadcast_replies c false (broadcast_call (Resubscribes r)))
+  broadcast_event c event = broadcast_replies c (is_by_hub event) (broadcast_call event)
 
   -- the same of a watch channel
-  abbrev pub watch_replies : W → Option (WCall Bytes) → Result (WReply Bytes) NoEvent × W
-  watch_replies c None = (Err NoEvents.WrongKind, c)
-  watch_replies c (Some call) =
-      if watch_waits call (m.watch c call).0 then (Err NoEvents.Blocked, c)
-      else (Ok (m.watch c call).0, (m.watch c call).1)
+  abbrev pub watch_replies : W → (by_hub : Bool) → Option (WCall Bytes) → Result (WReply Bytes) NoEvent × W
+  watch_replies c by_hub call =
+      replies m.watch watch_waits (by_hub && not (m.watch_has_sender c (tx 1))) c call
+
+  abbrev pub watch_event : W → Event → Result (WReply Bytes) NoEvent × W
+  watch_event c event = watch_replies c (is_by_hub event) (watch_call event)
 
   abbrev pub as_broadcast : Event → Result (BReply Bytes) NoEvent × B → Told × Channel B W
-  as_broadcast event s = (by_asker event (came (broadcast_outcome event) s.0), Broadcast s.1)
+  as_broadcast event s = (came (broadcast_outcome event) s.0, Broadcast s.1)
 
   abbrev pub as_watch : Event → Result (WReply Bytes) NoEvent × W → Told × Channel B W
-  as_watch event s = (by_asker event (came (watch_outcome event) s.0), Watch s.1)
+  as_watch event s = (came (watch_outcome event) s.0, Watch s.1)
 
   -- what a channel says of an event
   abbrev pub channel_event : Channel B W → Event → Told × Channel B W
   channel_event (Broadcast c) event = as_broadcast event (broadcast_event c event)
-  channel_event (Watch c) event = as_watch event (watch_replies c (watch_call event))
+  channel_event (Watch c) event = as_watch event (watch_event c event)
 
   -- one event of the hub, or why there was none
   abbrev pub event : Topics B W → ℕ → Event → Told × Topics B W

@@ -28,23 +28,23 @@ abbrev pub watch_asks : Result (WReply Bytes) NoEvent → Bool
 watch_asks (Ok reply) = watch_takes reply
 watch_asks (Err why) = false
 
-abbrev pub BroadcastSays : broadcast.Picture Bytes → Option (BCall Bytes) → Result (BReply Bytes) NoEvent → broadcast.Picture Bytes → Type 0
-BroadcastSays old call said new =
-    SaysOrShort broadcast_asks (broadcast_replies pictures old call) old said new
+abbrev pub BroadcastSays : broadcast.Picture Bytes → (by_hub : Bool) → Option (BCall Bytes) → Result (BReply Bytes) NoEvent → broadcast.Picture Bytes → Type 0
+BroadcastSays old by_hub call said new =
+    SaysOrShort broadcast_asks (broadcast_replies pictures old by_hub call) old said new
 
-abbrev pub WatchSays : watch.Picture Bytes → Option (WCall Bytes) → Result (WReply Bytes) NoEvent → watch.Picture Bytes → Type 0
-WatchSays old call said new =
-    SaysOrShort watch_asks (watch_replies pictures old call) old said new
+abbrev pub WatchSays : watch.Picture Bytes → (by_hub : Bool) → Option (WCall Bytes) → Result (WReply Bytes) NoEvent → watch.Picture Bytes → Type 0
+WatchSays old by_hub call said new =
+    SaysOrShort watch_asks (watch_replies pictures old by_hub call) old said new
 
 -- the same, as what comes of an event that makes no handle
-abbrev pub BroadcastTells : broadcast.Picture Bytes → Option (BCall Bytes) → Told → broadcast.Picture Bytes → Type 0
-BroadcastTells old call told new =
-    let s = broadcast_replies pictures old call in
+abbrev pub BroadcastTells : broadcast.Picture Bytes → (by_hub : Bool) → Option (BCall Bytes) → Told → broadcast.Picture Bytes → Type 0
+BroadcastTells old by_hub call told new =
+    let s = broadcast_replies pictures old by_hub call in
     SaysOrShort needs_memory (came (λ reply. Replied (Broadcast reply)) s.0, s.1) old told new
 
-abbrev pub WatchTells : watch.Picture Bytes → Option (WCall Bytes) → Told → watch.Picture Bytes → Type 0
-WatchTells old call told new =
-    let s = watch_replies pictures old call in
+abbrev pub WatchTells : watch.Picture Bytes → (by_hub : Bool) → Option (WCall Bytes) → Told → watch.Picture Bytes → Type 0
+WatchTells old by_hub call told new =
+    let s = watch_replies pictures old by_hub call in
     SaysOrShort needs_memory (came (λ reply. Replied (Watch reply)) s.0, s.1) old told new
 
 -- a new receiver, and then the end of the old one

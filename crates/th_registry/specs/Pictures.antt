@@ -1,6 +1,7 @@
 -- The hub as it is seen: of each channel its picture.
 use Rattle.std.specs.Prelude.{map, nat_eq}
 use Rattle.std.specs.Cmp.Lexicographic.{pointwise}
+use Rattle.th_model.specs.Handles.{is_sender}
 use Rattle.th_model.specs.BroadcastMachine as broadcast_machine
 use Rattle.th_model.specs.BroadcastPicture as broadcast
 use Rattle.th_model.specs.WatchMachine as watch_machine
@@ -20,8 +21,10 @@ SeenTopics = Topics (broadcast.Picture Bytes) (watch.Picture Bytes)
 abbrev pub pictures : Machines (broadcast.Picture Bytes) (watch.Picture Bytes)
 pictures = record {
   broadcast = broadcast.answer;
+  broadcast_has_sender = λ p tx. is_sender p.senders tx.0;
   broadcast_opened = λ capacity base. broadcast.see (broadcast_machine.opened capacity base);
   watch = watch.answer (pointwise nat_eq);
+  watch_has_sender = λ p tx. is_sender p.senders tx.0;
   watch_opened = λ value. watch.see (watch_machine.opened value 1);
 }
 

@@ -1,6 +1,6 @@
 //! The events of one channel.
 ghost use Rattle.std.specs.Prelude.{◌≡◌, Some};
-ghost use Rattle.th_registry.specs.Events.{Asks, Binds, DropsRx, DropsTx, Hub, NewRx, Own, Receives, Resubscribes, Sends, Subscribes, any_sender, broadcast_call, broadcast_made_rx, through_hub, watch_call, watch_made_rx};
+ghost use Rattle.th_registry.specs.Events.{Asks, Binds, DropsRx, DropsTx, Hub, NewRx, Own, Receives, Resubscribes, Sends, Subscribes, any_sender, broadcast_call, broadcast_made_rx, sender_of, watch_call, watch_made_rx};
 ghost use Rattle.th_registry.specs.Outcomes.{BroadcastMoves, BroadcastSays, BroadcastTells, ChannelTells, WatchSays, WatchTells};
 ghost use Rattle.th_registry.specs.Typed.{made_rx, made_tx, outcome_of, replied};
 
@@ -26,17 +26,28 @@ pub type LocalChannel = Channel<LocalBroadcast, Watch<Value>>;
 // The hub's own sender is the first handle of each topic.
 const HUB_SENDER: TxId = TxId(1);
 
-// One call, if the channel has it and it does not wait.
+// The sender that is given, or else the hub's own.
+fn sender_or_hub(sender: Option<TxId>) -> TxId
+    ensures { result ≡ sender_of (any_sender sender) }
+{
+    sender.unwrap_or(HUB_SENDER)
+}
+
+// One call, through the hub's own sender or not; or the first reason why there is no event.
 #[inline(always)]
 fn call_broadcast(
     channel: &mut LocalBroadcast,
+    by_hub: bool,
     call: Option<BCall<Value>>,
 ) -> Result<BReply<Value>, NoEvent>
-    ensures { BroadcastSays channel.old call result channel.new }
+    ensures { BroadcastSays channel.old by_hub call result channel.new }
 {
     let Some(call) = call else {
         return Err(NoEvent::WrongKind);
     };
+    if by_hub && !channel.has_sender(HUB_SENDER) {
+        return Err(NoEvent::NoSender);
+    }
     if !channel.ready(&call) {
         return Err(NoEvent::Blocked);
     }
@@ -50,13 +61,17 @@ fn call_broadcast(
 #[inline(always)]
 fn call_watch(
     channel: &mut Watch<Value>,
+    by_hub: bool,
     call: Option<WCall<Value>>,
 ) -> Result<WReply<Value>, NoEvent>
-    ensures { WatchSays channel.old call result channel.new }
+    ensures { WatchSays channel.old by_hub call result channel.new }
 {
     let Some(call) = call else {
         return Err(NoEvent::WrongKind);
     };
+    if by_hub && !channel.has_sender(HUB_SENDER) {
+        return Err(NoEvent::NoSender);
+    }
     if !channel.ready(&call) {
         return Err(NoEvent::Blocked);
     }
@@ -70,11 +85,12 @@ fn call_watch(
 #[inline(always)]
 fn tell_broadcast(
     channel: &mut LocalBroadcast,
+    by_hub: bool,
     call: Option<BCall<Value>>,
 ) -> Result<ChannelReply, NoEvent>
-    ensures { BroadcastTells channel.old call (replied result) channel.new }
+    ensures { BroadcastTells channel.old by_hub call (replied result) channel.new }
 {
-    match call_broadcast(channel, call) {
+    match call_broadcast(channel, by_hub, call) {
         Ok(reply) => Ok(ChannelReply::Broadcast(reply)),
         Err(why) => Err(why),
     }
@@ -84,11 +100,12 @@ fn tell_broadcast(
 #[inline(always)]
 fn tell_watch(
     channel: &mut Watch<Value>,
+    by_hub: bool,
     call: Option<WCall<Value>>,
 ) -> Result<ChannelReply, NoEvent>
-    ensures { WatchTells channel.old call (replied result) channel.new }
+    ensures { WatchTells channel.old by_hub call (replied result) channel.new }
 {
-    match call_watch(channel, call) {
+    match call_watch(channel, by_hub, call) {
         Ok(reply) => Ok(ChannelReply::Watch(reply)),
         Err(why) => Err(why),
     }
@@ -104,8 +121,10 @@ pub fn by_sender(
     ensures { ChannelTells channel.old (Sends tx verb) (replied result) channel.new }
 {
     match channel {
-        Channel::Broadcast(channel) => tell_broadcast(channel, broadcast_by_sender(verb, tx)),
-        Channel::Watch(channel) => tell_watch(channel, watch_by_sender(verb, tx)),
+        Channel::Broadcast(channel) => {
+            tell_broadcast(channel, false, broadcast_by_sender(verb, tx))
+        }
+        Channel::Watch(channel) => tell_watch(channel, false, watch_by_sender(verb, tx)),
     }
 }
 
@@ -119,18 +138,29 @@ pub fn by_receiver(
     ensures { ChannelTells channel.old (Receives rx verb) (replied result) channel.new }
 {
     match channel {
-        Channel::Broadcast(channel) => tell_broadcast(channel, broadcast_by_receiver(verb, rx)),
-        Channel::Watch(channel) => tell_watch(channel, watch_by_receiver(verb, rx)),
+        Channel::Broadcast(channel) => {
+            tell_broadcast(channel, false, broadcast_by_receiver(verb, rx))
+        }
+        Channel::Watch(channel) => tell_watch(channel, false, watch_by_receiver(verb, rx)),
     }
 }
 
-// A question through a sender.
-fn ask_by(channel: &mut LocalChannel, tx: TxId, question: Question) -> Result<ChannelReply, NoEvent>
-    ensures { ChannelTells channel.old (Asks (Own tx) question) (replied result) channel.new }
+/// A question through this sender, or through the hub's own where there is none.
+pub fn ask(
+    channel: &mut LocalChannel,
+    sender: Option<TxId>,
+    question: Question,
+) -> Result<ChannelReply, NoEvent>
+    ensures { let event = Asks (any_sender sender) question in
+        ChannelTells channel.old event (replied result) channel.new }
 {
+    let tx = sender_or_hub(sender);
+    let by_hub = sender.is_none();
     match channel {
-        Channel::Broadcast(channel) => tell_broadcast(channel, broadcast_asked(question, tx)),
-        Channel::Watch(channel) => tell_watch(channel, watch_asked(question, tx)),
+        Channel::Broadcast(channel) => {
+            tell_broadcast(channel, by_hub, broadcast_asked(question, tx))
+        }
+        Channel::Watch(channel) => tell_watch(channel, by_hub, watch_asked(question, tx)),
     }
 }
 
@@ -139,8 +169,8 @@ pub fn drop_tx(channel: &mut LocalChannel, tx: TxId) -> Result<ChannelReply, NoE
     ensures { ChannelTells channel.old (DropsTx (Own tx)) (replied result) channel.new }
 {
     match channel {
-        Channel::Broadcast(channel) => tell_broadcast(channel, Some(BCall::DropTx(tx))),
-        Channel::Watch(channel) => tell_watch(channel, Some(WCall::DropTx(tx))),
+        Channel::Broadcast(channel) => tell_broadcast(channel, false, Some(BCall::DropTx(tx))),
+        Channel::Watch(channel) => tell_watch(channel, false, Some(WCall::DropTx(tx))),
     }
 }
 
@@ -149,8 +179,20 @@ pub fn drop_rx(channel: &mut LocalChannel, rx: RxId) -> Result<ChannelReply, NoE
     ensures { ChannelTells channel.old (DropsRx rx) (replied result) channel.new }
 {
     match channel {
-        Channel::Broadcast(channel) => tell_broadcast(channel, Some(BCall::DropRx(rx))),
-        Channel::Watch(channel) => tell_watch(channel, Some(WCall::DropRx(rx))),
+        Channel::Broadcast(channel) => tell_broadcast(channel, false, Some(BCall::DropRx(rx))),
+        Channel::Watch(channel) => tell_watch(channel, false, Some(WCall::DropRx(rx))),
+    }
+}
+
+/// The end of the hub's own sender.
+pub fn end(channel: &mut LocalChannel) -> Result<ChannelReply, NoEvent>
+    ensures { ChannelTells channel.old (DropsTx Hub) (replied result) channel.new }
+{
+    match channel {
+        Channel::Broadcast(channel) => {
+            tell_broadcast(channel, true, Some(BCall::DropTx(HUB_SENDER)))
+        }
+        Channel::Watch(channel) => tell_watch(channel, true, Some(WCall::DropTx(HUB_SENDER))),
     }
 }
 
@@ -160,19 +202,19 @@ pub fn bind(channel: &mut LocalChannel) -> Result<Made<TxId>, NoEvent>
 {
     match channel {
         Channel::Broadcast(channel) => {
-            match call_broadcast(channel, Some(BCall::CloneTx(HUB_SENDER))) {
+            match call_broadcast(channel, true, Some(BCall::CloneTx(HUB_SENDER))) {
                 Ok(BReply::NewTx(tx)) => Ok(Made::New(tx)),
-                Ok(BReply::NoHandle(_)) => Err(NoEvent::NoSender),
                 Ok(reply) => Ok(Made::Not(ChannelReply::Broadcast(reply))),
                 Err(why) => Err(why),
             }
         }
-        Channel::Watch(channel) => match call_watch(channel, Some(WCall::CloneTx(HUB_SENDER))) {
-            Ok(WReply::NewTx(tx)) => Ok(Made::New(tx)),
-            Ok(WReply::NoHandle(_)) => Err(NoEvent::NoSender),
-            Ok(reply) => Ok(Made::Not(ChannelReply::Watch(reply))),
-            Err(why) => Err(why),
-        },
+        Channel::Watch(channel) => {
+            match call_watch(channel, true, Some(WCall::CloneTx(HUB_SENDER))) {
+                Ok(WReply::NewTx(tx)) => Ok(Made::New(tx)),
+                Ok(reply) => Ok(Made::Not(ChannelReply::Watch(reply))),
+                Err(why) => Err(why),
+            }
+        }
     }
 }
 
@@ -197,9 +239,10 @@ fn made_by_watch(reply: WReply<Value>) -> Made<RxId>
 }
 
 // The call of a broadcast channel that makes a receiver which begins so.
-fn broadcast_subscribing(start: Start, tx: TxId) -> BCall<Value>
-    ensures { Some result ≡ broadcast_call (Subscribes start (Own tx)) }
+fn broadcast_subscribing(start: Start, sender: Option<TxId>) -> BCall<Value>
+    ensures { Some result ≡ broadcast_call (Subscribes start (any_sender sender)) }
 {
+    let tx = sender_or_hub(sender);
     match start {
         Start::Tail => BCall::Subscribe(tx),
         Start::Oldest => BCall::SubscribeOldest(tx),
@@ -207,31 +250,39 @@ fn broadcast_subscribing(start: Start, tx: TxId) -> BCall<Value>
 }
 
 // The call of a watch channel, if it has one.
-fn watch_subscribing(start: Start, tx: TxId) -> Option<WCall<Value>>
-    ensures { result ≡ watch_call (Subscribes start (Own tx)) }
+fn watch_subscribing(start: Start, sender: Option<TxId>) -> Option<WCall<Value>>
+    ensures { result ≡ watch_call (Subscribes start (any_sender sender)) }
 {
+    let tx = sender_or_hub(sender);
     match start {
         Start::Tail => Some(WCall::Subscribe(tx)),
         Start::Oldest => None,
     }
 }
 
-// A new receiver, by a sender.
-fn subscribe_by(channel: &mut LocalChannel, start: Start, tx: TxId) -> Result<Made<RxId>, NoEvent>
-    ensures { let event = Subscribes start (Own tx) in
+/// A new receiver that begins so, by this sender, or by the hub's own where there is none.
+pub fn subscribe(
+    channel: &mut LocalChannel,
+    start: Start,
+    sender: Option<TxId>,
+) -> Result<Made<RxId>, NoEvent>
+    ensures { let event = Subscribes start (any_sender sender) in
         ChannelTells channel.old event (made_rx (λ r. r) result) channel.new }
 {
+    let by_hub = sender.is_none();
     match channel {
         Channel::Broadcast(channel) => {
-            match call_broadcast(channel, Some(broadcast_subscribing(start, tx))) {
+            match call_broadcast(channel, by_hub, Some(broadcast_subscribing(start, sender))) {
                 Ok(reply) => Ok(made_by_broadcast(reply)),
                 Err(why) => Err(why),
             }
         }
-        Channel::Watch(channel) => match call_watch(channel, watch_subscribing(start, tx)) {
-            Ok(reply) => Ok(made_by_watch(reply)),
-            Err(why) => Err(why),
-        },
+        Channel::Watch(channel) => {
+            match call_watch(channel, by_hub, watch_subscribing(start, sender)) {
+                Ok(reply) => Ok(made_by_watch(reply)),
+                Err(why) => Err(why),
+            }
+        }
     }
 }
 
@@ -261,63 +312,4 @@ pub fn resubscribe(channel: &mut LocalChannel, rx: RxId) -> Result<Made<RxId>, N
         },
         Channel::Watch(_) => Err(NoEvent::WrongKind),
     }
-}
-
-// What is said of an event by the hub's own sender: there is no sender to go through where that is not live.
-fn through_hub(told: Result<ChannelReply, NoEvent>) -> Result<ChannelReply, NoEvent>
-    ensures { replied result ≡ through_hub (replied told) }
-{
-    match told {
-        Ok(ChannelReply::Broadcast(BReply::NoHandle(_))) => Err(NoEvent::NoSender),
-        Ok(ChannelReply::Watch(WReply::NoHandle(_))) => Err(NoEvent::NoSender),
-        told => told,
-    }
-}
-
-// The same of one that makes a receiver.
-fn made_through_hub(told: Result<Made<RxId>, NoEvent>) -> Result<Made<RxId>, NoEvent>
-    ensures { made_rx (λ r. r) result ≡ through_hub (made_rx (λ r. r) told) }
-{
-    match told {
-        Ok(Made::Not(ChannelReply::Broadcast(BReply::NoHandle(_)))) => Err(NoEvent::NoSender),
-        Ok(Made::Not(ChannelReply::Watch(WReply::NoHandle(_)))) => Err(NoEvent::NoSender),
-        told => told,
-    }
-}
-
-/// A new receiver that begins so, by this sender, or by the hub's own where there is none.
-pub fn subscribe(
-    channel: &mut LocalChannel,
-    start: Start,
-    sender: Option<TxId>,
-) -> Result<Made<RxId>, NoEvent>
-    ensures { let event = Subscribes start (any_sender sender) in
-        ChannelTells channel.old event (made_rx (λ r. r) result) channel.new }
-{
-    match sender {
-        Some(tx) => subscribe_by(channel, start, tx),
-        None => made_through_hub(subscribe_by(channel, start, HUB_SENDER)),
-    }
-}
-
-/// A question through this sender, or through the hub's own where there is none.
-pub fn ask(
-    channel: &mut LocalChannel,
-    sender: Option<TxId>,
-    question: Question,
-) -> Result<ChannelReply, NoEvent>
-    ensures { ChannelTells channel.old (Asks (any_sender sender) question) (replied result)
-        channel.new }
-{
-    match sender {
-        Some(tx) => ask_by(channel, tx, question),
-        None => through_hub(ask_by(channel, HUB_SENDER, question)),
-    }
-}
-
-/// The end of the hub's own sender.
-pub fn end(channel: &mut LocalChannel) -> Result<ChannelReply, NoEvent>
-    ensures { ChannelTells channel.old (DropsTx Hub) (replied result) channel.new }
-{
-    through_hub(drop_tx(channel, HUB_SENDER))
 }

@@ -83,6 +83,7 @@ fn each_part_is_told(rt: HostRuntime) -> Result<(), Fail> {
     assert_eq!(rt; channel.next_receiver(Some(MIDDLE)), Some((AHEAD, 1_007)));
     assert_eq!(rt; channel.next_receiver(Some(AHEAD)), None);
     assert_eq!(rt; channel.sender_count(), 2);
+    assert!(rt; channel.has_sender(OLD) && !channel.has_sender(TxId(1)));
     assert_eq!(rt; channel.next_sender(None), Some(OLD));
     assert_eq!(rt; channel.next_sender(Some(OLD)), Some(YOUNG));
     assert_eq!(rt; channel.next_sender(Some(YOUNG)), None);

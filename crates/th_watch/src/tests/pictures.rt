@@ -41,6 +41,7 @@ fn each_part_is_told(rt: HostRuntime) -> Result<(), Fail> {
     assert_eq!(rt; channel.next_reader(Some(RxId(2))), Some((RxId(5), true)));
     assert_eq!(rt; channel.next_reader(Some(RxId(5))), None);
     assert_eq!(rt; channel.sender_count(), 2);
+    assert!(rt; channel.has_sender(TxId(4)) && !channel.has_sender(TxId(2)));
     assert_eq!(rt; channel.next_sender(None), Some(TxId(1)));
     assert_eq!(rt; channel.next_sender(Some(TxId(1))), Some(TxId(4)));
     assert_eq!(rt; channel.next_sender(Some(TxId(4))), None);

@@ -3,7 +3,7 @@
 ghost use Rattle.std.specs.Prelude.{◌≡◌, ◌<◌, length, map, slice_get, IfOk, IfErr};
 ghost use Rattle.std.specs.Map.{keys_of};
 ghost use Rattle.th_model.specs.Limits.{ClonesAreEqual};
-ghost use Rattle.th_model.specs.Handles.{IsRising};
+ghost use Rattle.th_model.specs.Handles.{IsRising, is_sender};
 ghost use Rattle.std.specs.Option.{option_map};
 ghost use Rattle.th_model.specs.WatchMachine.{reader_of};
 ghost use Rattle.th_model.specs.WatchPicture.{IsSound, mark_at, picture_of, shown};
@@ -147,6 +147,13 @@ impl<T: Drop> Watch<T> {
         ensures { result ≡ length self.now.senders }
     {
         self.senders.len() as u64
+    }
+
+    /// Whether this sender is live. Logarithmic in live senders.
+    pub fn has_sender(&self, tx: TxId) -> bool
+        ensures { result ≡ is_sender self.now.senders tx.0 }
+    {
+        self.senders.contains(&tx.0)
     }
 
     /// The sender with the lowest number above `after`, or of all. Logarithmic in live senders.

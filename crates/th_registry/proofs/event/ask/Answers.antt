@@ -1,5 +1,15 @@
-use Rattle.th_registry.proofs.Events.{asks-hub}
+use Rattle.std.proofs.Common.{sym}
+use Rattle.th_registry.specs.declared.channel.Channel.TheVariants.{Broadcast, Watch}
+use Rattle.th_registry.specs.Events.{needs_memory}
+use Rattle.th_registry.proofs.Events.{hub_given, tells-as}
 use Rattle.th_registry.proofs.event.ask.Goals as goal
 
-pub returns-in-None : goal.returns-in-None
-returns-in-None c = rw (c.in-None.is, c.through_hub.ensures) (asks-hub c.args.channel.now c.args.question c.ask_by-in-None.ensures)
+pub returns-in-Broadcast : goal.returns-in-Broadcast
+returns-in-Broadcast c =
+    rw (c.in-Broadcast.is, hub_given c.args.sender c.is_none-by_hub.result c.is_none-by_hub.ensures, sym c.sender_or_hub-tx.ensures, sym c.broadcast_asked.ensures)
+    (tells-as needs_memory (λ p. Broadcast p) c.tell_broadcast.ensures)
+
+pub returns-in-Watch : goal.returns-in-Watch
+returns-in-Watch c =
+    rw (c.in-Watch.is, hub_given c.args.sender c.is_none-by_hub.result c.is_none-by_hub.ensures, sym c.sender_or_hub-tx.ensures, sym c.watch_asked.ensures)
+    (tells-as needs_memory (λ p. Watch p) c.tell_watch.ensures)

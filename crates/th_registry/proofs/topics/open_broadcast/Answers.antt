@@ -1,13 +1,11 @@
-use Rattle.std.proofs.Common.{◌≡◌, ◌<◌, ◌≤◌, nat_eq, length, [], ◌∷◌, ◌++◌, Ok, refl, sym, ap, ◌∙◌, inl, arith}
-use Rattle.std.specs.Cmp.Lexicographic.{pointwise}
-use Rattle.indexmap.specs.IndexMap.{insert_entry}
+use Rattle.std.proofs.Common.{◌≡◌, ◌<◌, ◌≤◌, length, [], ◌∷◌, ◌++◌, Ok, refl, sym, ap, ◌∙◌, inl, arith}
 use Rattle.th_model.specs.BroadcastMachine.{opened}
 use Rattle.th_model.specs.BroadcastPicture.{Picture, see}
 use Rattle.th_registry.specs.declared.channel.Channel.TheVariants.{Broadcast}
 use Rattle.th_model.specs.declared.making.Making.TheVariants as Makings
 use Rattle.th_registry.specs.Calls.{Bytes}
 use Rattle.th_registry.proofs.Openings.{made-none, made-some, opens-bad, opens-full, opens-new, opens-short, insert-new}
-use Rattle.th_registry.specs.Pictures.{SeenTopics, pictures}
+use Rattle.th_registry.specs.Pictures.{pictures}
 use Rattle.th_registry.proofs.topics.open_broadcast.Goals as goal
 
 pub returns-in_default : goal.returns-in_default

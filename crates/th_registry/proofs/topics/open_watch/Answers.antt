@@ -1,13 +1,11 @@
-use Rattle.std.proofs.Common.{◌≡◌, ◌<◌, ◌≤◌, nat_eq, length, [], ◌∷◌, ◌++◌, Ok, refl, sym, ap, ◌∙◌, inl, arith}
-use Rattle.std.specs.Cmp.Lexicographic.{pointwise}
-use Rattle.indexmap.specs.IndexMap.{insert_entry}
+use Rattle.std.proofs.Common.{◌≡◌, ◌<◌, ◌≤◌, length, [], ◌∷◌, ◌++◌, Ok, refl, sym, ap, ◌∙◌, inl, arith}
 use Rattle.th_model.specs.WatchMachine.{opened}
 use Rattle.th_model.specs.WatchPicture.{Picture, see}
 use Rattle.th_registry.specs.declared.channel.Channel.TheVariants.{Watch}
 use Rattle.th_model.specs.declared.making.Making.TheVariants as Makings
 use Rattle.th_registry.specs.Calls.{Bytes}
 use Rattle.th_registry.proofs.Openings.{opens-full, opens-new, opens-short, insert-new}
-use Rattle.th_registry.specs.Pictures.{SeenTopics, pictures}
+use Rattle.th_registry.specs.Pictures.{pictures}
 use Rattle.th_registry.proofs.topics.open_watch.Goals as goal
 
 pub returns-then-len-ge-MOST_TOPICS : goal.returns-then-len-ge-MOST_TOPICS

@@ -1,6 +1,5 @@
-use Rattle.std.proofs.Common.{rules, ◌≡◌, Option, Some, None}
+use Rattle.std.proofs.Common.{rules, Option, Some, None}
 use Rattle.th_registry.specs.declared.opening.Found.{Found}
-use Rattle.th_registry.specs.Hub.{find}
 use Rattle.th_registry.proofs.Events.{finds}
 use Rattle.th_registry.proofs.local.LocalDeskDesk.find.Goals as goal
 
