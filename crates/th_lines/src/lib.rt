@@ -26,7 +26,7 @@ pub mod write_buffer;
 pub use command::{Action, Actor, Command};
 pub use counted::{Counted, Moved};
 pub use fault::{LineFault, WriteFailed};
-pub use fields::name_and_more;
+pub use fields::name_and_rest;
 pub use intake::Intake;
 pub use print::{print_line, print_reply};
 pub use read::{read_command, read_step};

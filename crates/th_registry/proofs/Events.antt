@@ -16,7 +16,8 @@ use Rattle.th_registry.specs.declared.channel.Channel.TheVariants.{Broadcast, Wa
 use Rattle.th_registry.specs.declared.outcome.ChannelReply.TheVariants as Replies
 use Rattle.th_registry.specs.Calls.{Bytes, tx}
 use Rattle.th_registry.specs.Events.{Event, Asks, Hub, Own, NewTx, NewRx, Replied, Subscribes, Told, any_sender, broadcast_takes, needs_memory, takes_memory, through_hub, watch_takes}
-use Rattle.th_registry.specs.Hub.{On, written, on_channel, channel_event, Says}
+use Rattle.th_registry.specs.declared.opening.Found.{Found}
+use Rattle.th_registry.specs.Hub.{Find, On, find, written, on_channel, channel_event, Says}
 use Rattle.th_registry.specs.Outcomes.{ChannelTells}
 use Rattle.th_registry.specs.Pictures.{SeenChannel, SeenTopics, pictures}
 
@@ -25,6 +26,10 @@ set-same : {K X : Type 0} (es : List (K × X)) (i : ℕ) (w : X) → slice_get (
 set-same [] i w h = refl
 set-same (e ∷ es) zero w h = ap (λ x. (e.0, x) ∷ es) (sym (same_Some e.1 w h))
 set-same (e ∷ es) (suc i) w h = ap (λ rest. e ∷ rest) (set-same es i w h)
+
+-- the topic that is found is what is said
+pub finds : (ts : SeenTopics) (name : Bytes) (found : Option Found) → find ts name ≡ found → Says pictures ts (Find name) found ts
+finds ts name found e = inl (λ i. (e i, ts))
 
 -- what its channel tells is what the topic says
 pub topic-says : {c new : SeenChannel} {told : Told} (ts : SeenTopics) (topic : ℕ) (e : Event) →

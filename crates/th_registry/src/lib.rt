@@ -18,11 +18,10 @@ pub mod opening;
 pub mod outcome;
 #[cfg(test)]
 mod tests;
-pub mod topics;
+mod topics;
 
 pub use channel::Channel;
 pub use desk::Desk;
 pub use local::LocalDesk;
 pub use opening::{Found, Refusal, TopicId};
 pub use outcome::{ChannelReply, Made, NoEvent, Unspent};
-pub use topics::Topics;

@@ -7,17 +7,18 @@ use crate::desk::Desk;
 use crate::event;
 use crate::opening::{Found, Refusal, TopicId};
 use crate::outcome::{ChannelReply, Made, NoEvent, Unspent};
-use crate::topics::Topics;
+use crate::topics::{Channels, list, open_broadcast, open_watch};
+use indexmap::IndexMap;
 use std::alloc::Global;
 use std::marker::Model;
 use th_model::{
     Listing, Making, NameRef, Question, ReceiverVerb, RxId, SenderVerb, Short, Start, TxId,
 };
 
-/// Topics that hold their channels plainly.
+/// At most 1,024 topics by name, in order of opening, each with its channel.
 #[derive(Drop)]
 pub struct LocalDesk {
-    topics: Topics,
+    channels: Channels,
 }
 
 impl Model for LocalDesk {
@@ -25,7 +26,7 @@ impl Model for LocalDesk {
 
     ghost Value = { SeenTopics };
 
-    ghost view = { λ d. d.topics };
+    ghost view = { λ d. d.channels.entries };
 }
 
 impl LocalDesk {
@@ -34,7 +35,7 @@ impl LocalDesk {
         ensures { result ≡ [] }
     {
         LocalDesk {
-            topics: Topics::new(alloc),
+            channels: IndexMap::new(alloc),
         }
     }
 }
@@ -59,20 +60,35 @@ impl Desk for LocalDesk {
     ghost says = { Says pictures };
 
     fn find(&self, name: &NameRef<'_>) -> Option<Found> {
-        self.topics.find(name)
+        match self.channels.get_full(name) {
+            Some((number, _, channel)) => Some(Found {
+                topic: TopicId(number as u64),
+                kind: channel.kind(),
+            }),
+            None => None,
+        }
     }
 
     fn list(&self) -> Result<Listing, Short<()>> {
-        self.topics.list()
+        list(&self.channels)
     }
 
     fn open_topic(&mut self, name: NameRef<'_>, making: Making) -> Result<u64, Refusal> {
-        self.topics.open_topic(name, making)
+        if self.find(&name).is_some() {
+            return Err(Refusal::Exists);
+        }
+        let name = name.to_name();
+        match making {
+            Making::Broadcast(asked) => open_broadcast(&mut self.channels, name, asked, 0),
+            Making::BroadcastAt(asked, base) => {
+                open_broadcast(&mut self.channels, name, asked, base)
+            }
+            Making::Watch(value) => open_watch(&mut self.channels, name, value),
+        }
     }
 
     fn bind(&mut self, topic: TopicId) -> Result<Made<TxId>, NoEvent> {
-        let topics = &mut self.topics;
-        let Some(channel) = topics.channels.get_index_mut(topic.0 as usize) else {
+        let Some(channel) = self.channels.get_index_mut(topic.0 as usize) else {
             return Err(NoEvent::NoTopic);
         };
         event::bind(channel)
@@ -84,8 +100,7 @@ impl Desk for LocalDesk {
         start: Start,
         sender: &mut Option<TxId>,
     ) -> Result<Made<RxId>, NoEvent> {
-        let topics = &mut self.topics;
-        let Some(channel) = topics.channels.get_index_mut(topic.0 as usize) else {
+        let Some(channel) = self.channels.get_index_mut(topic.0 as usize) else {
             return Err(NoEvent::NoTopic);
         };
         event::subscribe(channel, start, *sender)
@@ -98,8 +113,7 @@ impl Desk for LocalDesk {
         sender: &mut TxId,
         verb: SenderVerb,
     ) -> Result<ChannelReply, NoEvent> {
-        let topics = &mut self.topics;
-        let Some(channel) = topics.channels.get_index_mut(topic.0 as usize) else {
+        let Some(channel) = self.channels.get_index_mut(topic.0 as usize) else {
             return Err(NoEvent::NoTopic);
         };
         event::by_sender(channel, *sender, verb)
@@ -111,8 +125,7 @@ impl Desk for LocalDesk {
         sender: &mut Option<TxId>,
         question: Question,
     ) -> Result<ChannelReply, NoEvent> {
-        let topics = &mut self.topics;
-        let Some(channel) = topics.channels.get_index_mut(topic.0 as usize) else {
+        let Some(channel) = self.channels.get_index_mut(topic.0 as usize) else {
             return Err(NoEvent::NoTopic);
         };
         event::ask(channel, *sender, question)
@@ -125,16 +138,14 @@ impl Desk for LocalDesk {
         receiver: &mut RxId,
         verb: ReceiverVerb,
     ) -> Result<ChannelReply, NoEvent> {
-        let topics = &mut self.topics;
-        let Some(channel) = topics.channels.get_index_mut(topic.0 as usize) else {
+        let Some(channel) = self.channels.get_index_mut(topic.0 as usize) else {
             return Err(NoEvent::NoTopic);
         };
         event::by_receiver(channel, *receiver, verb)
     }
 
     fn resubscribe(&mut self, topic: TopicId, receiver: &mut RxId) -> Result<Made<RxId>, NoEvent> {
-        let topics = &mut self.topics;
-        let Some(channel) = topics.channels.get_index_mut(topic.0 as usize) else {
+        let Some(channel) = self.channels.get_index_mut(topic.0 as usize) else {
             return Err(NoEvent::NoTopic);
         };
         event::resubscribe(channel, *receiver)
@@ -145,8 +156,7 @@ impl Desk for LocalDesk {
         topic: TopicId,
         sender: TxId,
     ) -> Result<ChannelReply, Unspent<TxId>> {
-        let topics = &mut self.topics;
-        let Some(channel) = topics.channels.get_index_mut(topic.0 as usize) else {
+        let Some(channel) = self.channels.get_index_mut(topic.0 as usize) else {
             return Err(unspent(sender, NoEvent::NoTopic));
         };
         match event::drop_tx(channel, sender) {
@@ -160,8 +170,7 @@ impl Desk for LocalDesk {
         topic: TopicId,
         receiver: RxId,
     ) -> Result<ChannelReply, Unspent<RxId>> {
-        let topics = &mut self.topics;
-        let Some(channel) = topics.channels.get_index_mut(topic.0 as usize) else {
+        let Some(channel) = self.channels.get_index_mut(topic.0 as usize) else {
             return Err(unspent(receiver, NoEvent::NoTopic));
         };
         match event::drop_rx(channel, receiver) {
@@ -171,8 +180,7 @@ impl Desk for LocalDesk {
     }
 
     fn end(&mut self, topic: TopicId) -> Result<ChannelReply, NoEvent> {
-        let topics = &mut self.topics;
-        let Some(channel) = topics.channels.get_index_mut(topic.0 as usize) else {
+        let Some(channel) = self.channels.get_index_mut(topic.0 as usize) else {
             return Err(NoEvent::NoTopic);
         };
         event::end(channel)

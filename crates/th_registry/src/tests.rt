@@ -5,7 +5,6 @@ use crate::desk::Desk;
 use crate::local::LocalDesk;
 use crate::opening::{Found, Refusal, TopicId};
 use crate::outcome::{ChannelReply, Made, NoEvent, Unspent};
-use crate::topics::Topics;
 use std::alloc::Global;
 use std::process::Abort;
 use std::test::Fail;
@@ -120,47 +119,44 @@ fn comes_back<H: PartialEq + Drop>(
 
 #[test]
 fn topics_are_opened_and_found(rt: HostRuntime) {
-    let mut topics = Topics::new(rt.alloc());
-    assert!(rt; topics.find(&name(&rt, b"t")).is_none(), "no topic yet");
-    let opened = topics.open_topic(name(&rt, b"t"), Making::Broadcast(10));
+    let mut desk = LocalDesk::new(rt.alloc());
+    assert!(rt; desk.find(&name(&rt, b"t")).is_none(), "no topic yet");
+    let opened = desk.open_topic(name(&rt, b"t"), Making::Broadcast(10));
     assert!(rt; opened == Ok(16), "10 asked for");
     let first = Making::Watch(value(&rt, rt.alloc(), b"x"));
-    let opened = topics.open_topic(name(&rt, b"u"), first);
+    let opened = desk.open_topic(name(&rt, b"u"), first);
     assert!(rt; opened == Ok(1), "a watch topic");
-    let again = topics.open_topic(name(&rt, b"u"), Making::Broadcast(0));
+    let again = desk.open_topic(name(&rt, b"u"), Making::Broadcast(0));
     assert!(rt;
         again == Err(Refusal::Exists),
         "a name that is there, before its capacity"
     );
-    let none = topics.open_topic(name(&rt, b"v"), Making::Broadcast(0));
+    let none = desk.open_topic(name(&rt, b"v"), Making::Broadcast(0));
     assert!(rt; none == Err(Refusal::BadCapacity), "capacity 0");
-    let more = topics.open_topic(name(&rt, b"v"), Making::BroadcastAt(65_537, 0));
+    let more = desk.open_topic(name(&rt, b"v"), Making::BroadcastAt(65_537, 0));
     assert!(rt; more == Err(Refusal::BadCapacity), "capacity 65,537");
-    assert!(rt; topics.find(&name(&rt, b"v")).is_none(), "a refused topic");
+    assert!(rt; desk.find(&name(&rt, b"v")).is_none(), "a refused topic");
     let t = Found {
         topic: TopicId(0),
         kind: Kind::Broadcast,
     };
-    assert!(rt; topics.find(&name(&rt, b"t")) == Some(t), "the first topic");
+    assert!(rt; desk.find(&name(&rt, b"t")) == Some(t), "the first topic");
     let u = Found {
         topic: TopicId(1),
         kind: Kind::Watch,
     };
-    assert!(rt;
-        topics.find(&name(&rt, b"u")) == Some(u),
-        "the second topic"
-    );
+    assert!(rt; desk.find(&name(&rt, b"u")) == Some(u), "the second topic");
 }
 
 #[test]
 fn topics_are_listed(rt: HostRuntime) -> Result<(), Fail> {
-    let mut topics = Topics::new(rt.alloc());
-    let opened = topics.open_topic(name(&rt, b"z"), Making::Broadcast(1));
+    let mut desk = LocalDesk::new(rt.alloc());
+    let opened = desk.open_topic(name(&rt, b"z"), Making::Broadcast(1));
     assert!(rt; opened == Ok(1), "topic z");
     let first = Making::Watch(value(&rt, rt.alloc(), b"x"));
-    let opened = topics.open_topic(name(&rt, b"a"), first);
+    let opened = desk.open_topic(name(&rt, b"a"), first);
     assert!(rt; opened == Ok(1), "topic a");
-    let Ok(listing) = topics.list() else {
+    let Ok(listing) = desk.list() else {
         return Err(Fail::new("no listing"));
     };
     let rows = listing.rows();

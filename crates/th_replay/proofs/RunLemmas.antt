@@ -1,10 +1,10 @@
 -- How a replay goes on, step after step.
-use Rattle.std.proofs.Common.{◌≡◌, ℕ, ◌+◌, ◌<◌, ◌≤◌, Bool, true, false, List, [], ◌∷◌, ◌++◌, length, refl, sym, ap, ◌∙◌, append-nil, arith, inl, inr, Option, Some, None, Ok, Err, subst, length-append}
+use Rattle.std.proofs.Common.{◌≡◌, ℕ, ◌+◌, ◌<◌, ◌≤◌, Bool, true, false, List, [], ◌∷◌, ◌++◌, length, refl, sym, ap, ◌∙◌, append-nil, arith, Option, Some, None, Ok, Err, subst, length-append}
 use Rattle.std.specs.Prelude.{Result, IfOk}
 use Rattle.std.specs.Io.KnownBytes.{Consumes, IsAtEnd}
 use Rattle.std.proofs.KnownBytes.{Consumes-nil, Consumes-trans, Consumes-kept}
 use Rattle.std.proofs.lemmas.Bool.{false≢true}
-use Rattle.th_lines.specs.Intake.{Came, Reading, Fills, Finds, IsSameLine, lines_after, nothing_came}
+use Rattle.th_lines.specs.Intake.{Came, Reading, Fills, Finds, lines_after, nothing_came}
 use Rattle.th_lines.specs.Lines.{Line, line_of, lines_from}
 use Rattle.th_lines.specs.Output.{Output, Adds, Flushes, WritesAll, WritesFront}
 use Rattle.th_lines.specs.Replies.{spell}
@@ -16,7 +16,6 @@ use Rattle.th_lines.proofs.OutputLemmas.{adds_flushed, flushed_adds, waiting_fro
 use Rattle.th_lines.proofs.StandingLemmas.{answers_line, both, looks_on, stands, stops_after, stops_at, stops_here, takes_on, writes_on}
 use Rattle.th_replay.specs.Session.{LineMachine, Turns}
 use Rattle.th_replay.specs.Progress.{AnswersAll, AnswersNext, AnswersOne, BreaksOff, Closes, ClosesOrFails, Finishes, FlushesOn, IsFull, ReadsOn, Underway}
-use Rattle.th_replay.specs.Outcome.{writer_failures}
 use Rattle.th_replay.specs.declared.fault.RunFault.{RunFault}
 use Rattle.th_replay.specs.declared.fault.RunFault.TheVariants.{Write, TooLong}
 use Rattle.th_replay.specs.declared.fault.ReplayFault.{ReplayFault}

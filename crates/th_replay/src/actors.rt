@@ -1,14 +1,14 @@
 //! The hub of a schedule.
 ghost use Rattle.std.specs.Prelude.{◌≡◌, None, slice_get, remove, IfOk};
 ghost use Rattle.std.specs.Map.{values_of};
-ghost use Rattle.th_lines.specs.Lines.{Good};
+ghost use Rattle.th_lines.specs.Intake.{line_given};
 ghost use Rattle.th_replay.specs.Session.{Turns};
 ghost use Rattle.th_replay.specs.Schedule.{IsAnswer, answers, asks_by_holding, asks_by_place, by_holding, by_place, has_quit, is_short, picture_asks, picture_step, place_of, seen_start};
 
 use indexmap::IndexMap;
 use std::alloc::{AllocError, Global};
 use std::marker::Model;
-use th_lines::{Code, Command, LineFault, Reply, name_and_more, read_command};
+use th_lines::{Code, Command, LineFault, Reply, name_and_rest, read_command};
 use th_model::{Name, NameRef};
 use th_registry::LocalDesk;
 use th_session::Session;
@@ -73,18 +73,25 @@ impl Hub {
         })
     }
 
-    /// Answers a line of at most 4,096 bytes, without its end: finds the actor whose name stands first, and reads and
-    /// carries out the command behind it. A line that spells none is answered 10 and begins nobody, whoever says it. One
-    /// look-up of the actor's name, and none of it is copied but where the actor begins.
+    /// Answers a line, which is given without its end, or as `None` where it has more than 4,096 bytes: finds the actor
+    /// whose name stands first, and reads and carries out the command behind it. A line that spells none is answered 10
+    /// and begins nobody, whoever says it, and one that is too long 23. One look-up of the actor's name, and none of it is
+    /// copied but where the actor begins.
     #[inline(always)]
-    pub fn answer(&mut self, alloc: Global, line: &[u8]) -> Reply
-        ensures { Turns answers self.old (Good line.now) result self.new }
+    pub fn answer(&mut self, alloc: Global, line: Option<&[u8]>) -> Reply
+        ensures { Turns answers self.old (line_given line.entry) result self.new }
     {
-        let Some((name, bytes)) = name_and_more(Some(line)) else {
+        let Some(line) = line else {
+            return Reply::Refused(Code::LongLine);
+        };
+        let Some((name, rest)) = name_and_rest(line) else {
+            return Reply::Refused(Code::BadLine);
+        };
+        let Some(text) = rest else {
             return Reply::Refused(Code::BadLine);
         };
         let place = self.actors.get_index_of(&name);
-        match read_command(alloc, bytes) {
+        match read_command(alloc, text) {
             Ok(command) => match place {
                 Some(place) => self.carry_out(place, command),
                 None => self.carry_out_first(alloc, name, command),
@@ -106,7 +113,7 @@ impl Hub {
             return Reply::Refused(Code::NotHeld);
         };
         let reply = step(session, &mut self.desk, command);
-        if has_quit(&reply) {
+        if let Reply::Bye = &reply {
             self.take_out(place);
         }
         reply

@@ -1,18 +1,16 @@
 //! A schedule that is being carried out.
 ghost use Rattle.std.specs.Prelude.{◌≡◌, ◌≤◌, ◌+◌, [], IfOk, OnOk};
 ghost use Rattle.th_lines.specs.Device.{failures_after, one_more};
-ghost use Rattle.th_lines.specs.Intake.{line_given};
 ghost use Rattle.th_replay.specs.Outcome.{Comes, devices, reader_failures, writer_failures};
 ghost use Rattle.th_replay.specs.Progress.{AnswersAll, AnswersNext, ClosesOrFails, FillsOn, FlushesOn, ReadsOn, beginning, stands};
 ghost use Rattle.th_replay.specs.Schedule.{answers, seen_start};
-ghost use Rattle.th_replay.specs.Session.{Turns};
 
 use crate::actors::Hub;
 use crate::fault::{ReplayFault, RunFault};
 use std::alloc::{AllocError, Global};
 use std::io::{Read, Write};
 use std::marker::Model;
-use th_lines::{Code, Counted, Intake, Moved, Reply, WriteBuffer, WriteFailed};
+use th_lines::{Counted, Intake, Moved, WriteBuffer, WriteFailed};
 
 /// The hub of a schedule, with the lines that came to it and the replies that wait to be written.
 #[derive(Drop)]
@@ -43,17 +41,6 @@ impl Model for Runner {
     } };
 
     ghost invariant = { λ r. IsBounded r.intake.came r.answered r.limit };
-}
-
-// The hub's reply to a line, `None` where it is too long.
-#[inline(always)]
-fn answer(hub: &mut Hub, alloc: Global, line: Option<&[u8]>) -> Reply
-    ensures { Turns answers hub.old (line_given line.entry) result hub.new }
-{
-    match line {
-        Some(bytes) => hub.answer(alloc, bytes),
-        None => Reply::Refused(Code::LongLine),
-    }
 }
 
 impl Runner {
@@ -199,7 +186,7 @@ impl Runner {
         if !self.intake.next_line() {
             return Ok(false);
         }
-        let reply = answer(&mut self.hub, alloc, self.intake.line(true));
+        let reply = self.hub.answer(alloc, self.intake.line(true));
         self.answered += 1;
         match self.out.append(writer, &reply) {
             Ok(()) => Ok(true),
@@ -221,7 +208,7 @@ impl Runner {
         if !self.intake.last_line() {
             return self.count_written(writer);
         }
-        let reply = answer(&mut self.hub, alloc, self.intake.line(false));
+        let reply = self.hub.answer(alloc, self.intake.line(false));
         self.answered += 1;
         match self.out.append(writer, &reply) {
             Ok(()) => self.count_written(writer),

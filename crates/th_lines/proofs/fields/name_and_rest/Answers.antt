@@ -1,43 +1,22 @@
-use Rattle.std.proofs.Common.{rules, arith, ◌≡◌, ◌+◌, ◌<◌, ◌∙◌, ℕ, List, length, take, drop, get_or, Some, None, true, sym, ap, subst}
-use Rattle.std.proofs.lemmas.List.{take_all}
-use Rattle.th_model.specs.Names.{is_name}
-use Rattle.th_lines.proofs.Cuts.{range_rest}
-use Rattle.th_lines.proofs.Fronts.{front-more, front-other, front-refused}
-use Rattle.th_lines.proofs.Grammar.{name-again}
+use Rattle.std.proofs.Common.{◌≡◌, ℕ, List, [], ◌∷◌, sym, ap, ◌∙◌}
+use Rattle.std.proofs.lemmas.List.{nil_from_length}
+use Rattle.th_lines.proofs.Fronts.{front-alone, front-more, front-none, front-other}
 use Rattle.th_lines.proofs.Readers.{parts}
 use Rattle.th_lines.proofs.fields.name_and_rest.Goals as goal
 
 pub returns-in_default : goal.returns-in_default
-returns-in_default c =
-    let bs : List ℕ = c.args.bytes.now in
-    let k : ℕ = c.front_name_bytes-count.result in
-    let none : (is_name (take k bs) ≡ true) → ⊥ = search rules in
-    sym (front-refused parts bs k c.front_name_bytes-count.ensures.all c.front_name_bytes-count.ensures.next none)
+returns-in_default c = sym (front-none parts c.args.bytes.now (sym c.in_default.ensures))
 
-pub returns-then-count-bytes : goal.returns-then-count-bytes
-returns-then-count-bytes c =
-    let bs : List ℕ = c.args.bytes.now in
-    let k : ℕ = c.front_name_bytes-count.result in
-    let whole : take k bs ≡ bs = take_all k bs (omega (arith, c.if-count-bytes.true)) in
-    let name : is_name (take k bs) ≡ true = search rules in
-    let all : is_name bs ≡ true = subst (λ (l : List ℕ). is_name l ≡ true) whole name in
-    ap (λ (l : List ℕ). Some (l, None)) (c.in-Ok.ensures.value ∙ whole) ∙ sym (name-again parts bs None all)
+pub returns-in_default-split_first : goal.returns-in_default-split_first
+returns-in_default-split_first c =
+    let none : c.in-Some.behind.now ≡ [] = nil_from_length _ c.in_default-split_first.ensures.cases in
+    sym (front-alone parts c.args.bytes.now c.in-Some.name c.in-Some.behind.now (sym c.in-Some.ensures) none)
 
-pub returns-then-bytes-count-ne32 : goal.returns-then-bytes-count-ne32
-returns-then-bytes-count-ne32 c =
-    let bs : List ℕ = c.args.bytes.now in
-    let k : ℕ = c.front_name_bytes-count.result in
-    let lt : k < length bs = omega (arith, c.if-count-bytes.false) in
-    let other : (get_or bs k 0 ≡ 32) → ⊥ = search rules in
-    sym (front-other parts bs k lt c.front_name_bytes-count.ensures.all (c.front_name_bytes-count.ensures.next lt) other)
+pub returns-then-next-ne32 : goal.returns-then-next-ne32
+returns-then-next-ne32 c =
+    sym (front-other parts c.args.bytes.now c.in-Some.name c.in-Some.behind.now c.in-Some-split_first.next.now c.in-Some-split_first.rest.now (sym c.in-Some.ensures) c.in-Some-split_first.ensures.cases.0 c.if-next-ne32.true)
 
 pub returns : goal.returns
 returns c =
-    let bs : List ℕ = c.args.bytes.now in
-    let k : ℕ = c.front_name_bytes-count.result in
-    let lt : k < length bs = omega (arith, c.if-count-bytes.false) in
-    let space : get_or bs k 0 ≡ 32 = search rules in
-    let name : is_name (take k bs) ≡ true = search rules in
-    ap (λ (more : List ℕ). Some (c.in-Ok.name, Some more)) (range_rest bs (k + 1))
-    ∙ ap (λ (n : List ℕ). Some (n, Some (drop (k + 1) bs))) c.in-Ok.ensures.value
-    ∙ sym (front-more parts bs k lt c.front_name_bytes-count.ensures.all space name)
+    let space = c.in-Some-split_first.ensures.cases.0 ∙ ap (λ (b : ℕ). b ∷ c.in-Some-split_first.rest.now) c.if-next-ne32.false in
+    sym (front-more parts c.args.bytes.now c.in-Some.name c.in-Some.behind.now c.in-Some-split_first.rest.now (sym c.in-Some.ensures) space)

@@ -7,4 +7,4 @@ use Rattle.th_registry.proofs.local.LocalDeskDesk.resubscribe.Goals as goal
 pub returns-clause-event : goal.returns-clause-event
 returns-clause-event c =
     let there = sym c.get_index_mut.ensures.value ∙ ap option_copied_mut c.in-Some.is in
-    desk-says c.args.topic.0 (Resubscribes c.args.receiver.now) (c.topics.view_is ∙ c.self.view_is) there c.resubscribe.ensures
+    desk-says c.args.topic.0 (Resubscribes c.args.receiver.now) c.self.view_is there c.resubscribe.ensures

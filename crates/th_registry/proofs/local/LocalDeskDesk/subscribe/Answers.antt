@@ -8,4 +8,4 @@ pub returns-clause-event : goal.returns-clause-event
 returns-clause-event c =
     let there = sym c.get_index_mut.ensures.value ∙ ap option_copied_mut c.in-Some.is in
     subscribes-own c.args.topic.0 c.args.start c.args.sender.now
-    (desk-says c.args.topic.0 (Subscribes c.args.start (any_sender c.args.sender.now)) (c.topics.view_is ∙ c.self.view_is) there c.subscribe.ensures)
+    (desk-says c.args.topic.0 (Subscribes c.args.start (any_sender c.args.sender.now)) c.self.view_is there c.subscribe.ensures)

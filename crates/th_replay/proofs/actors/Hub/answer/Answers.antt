@@ -1,36 +1,82 @@
-use Rattle.std.proofs.Common.{◌≡◌, ◌∙◌, None, Some, ap, sym, subst}
+use Rattle.std.proofs.Common.{◌≡◌, ◌∙◌, List, ℕ, Option, None, Some, ap, sym, subst}
 use Rattle.std.specs.Prelude.{Err}
+use Rattle.std.specs.Borrow.{Bor}
 use Rattle.th_lines.specs.Commands.{carries_value, command_of}
-use Rattle.th_lines.specs.Reads.{Reads}
+use Rattle.th_lines.specs.Intake.{line_given}
+use Rattle.th_lines.specs.Lines.{Line}
+use Rattle.th_lines.specs.Reads.{IsAsked, Reads, rest_of}
 use Rattle.th_lines.specs.declared.fault.LineFault.{LineFault}
+use Rattle.th_lines.specs.declared.reply.Code.TheVariants as Codes
+use Rattle.th_lines.specs.declared.reply.Reply.TheVariants.{Refused}
 use Rattle.th_registry.specs.Pictures.{SeenTopics}
-use Rattle.th_replay.specs.Schedule.{Hub, place_of}
-use Rattle.th_replay.proofs.Orders.{answered_command, bad_command, bad_line, short_command, step_unnamed}
+use Rattle.th_replay.specs.Schedule.{Hub, answers, place_of}
+use Rattle.th_replay.specs.Session.{Turns}
+use Rattle.th_replay.proofs.Orders.{answered_command, bad_command, bad_line, named, short_command, step_named, step_unnamed, too_long}
 use Rattle.th_replay.proofs.actors.Hub.answer.Goals as goal
 
 pub returns-in_default : goal.returns-in_default
-returns-in_default c = bad_line _ _ (step_unnamed _ (sym c.in_default.ensures))
+returns-in_default c =
+    let hub : Hub SeenTopics = c.args.self.now in
+    subst (λ (l : Line). Turns answers hub l (Refused Codes.LongLine) hub) (sym (ap line_given c.in_default.is)) (too_long hub)
+
+pub returns-in_default-name_and_rest : goal.returns-in_default-name_and_rest
+returns-in_default-name_and_rest c =
+    let hub : Hub SeenTopics = c.args.self.now in
+    subst (λ (l : Line). Turns answers hub l (Refused Codes.BadLine) hub) (sym (ap line_given c.in-Some.is))
+    (bad_line hub c.in-Some.line.now (step_unnamed _ (sym c.in_default-name_and_rest.ensures)))
+
+pub returns-in_default-rest : goal.returns-in_default-rest
+returns-in_default-rest c =
+    let hub : Hub SeenTopics = c.args.self.now in
+    let first : named c.in-Some.line.now ≡ Some (c.in-Some-name_and_rest.name, None) =
+    sym c.in-Some-name_and_rest.ensures ∙ ap (λ (r : Option (Bor (List ℕ))). Some (c.in-Some-name_and_rest.name, rest_of r)) c.in_default-rest.is in
+    subst (λ (l : Line). Turns answers hub l (Refused Codes.BadLine) hub) (sym (ap line_given c.in-Some.is))
+    (bad_line hub c.in-Some.line.now (step_named _ _ None first))
 
 pub carry_out_first-requires : goal.carry_out_first-requires
 carry_out_first-requires c =
-    sym (ap (λ (hub : Hub SeenTopics). place_of hub.actors c.in-Some.name) c.self.view_is) ∙ (sym c.get_index_of-place.ensures.index ∙ c.in-None.is)
+    sym (ap (λ (hub : Hub SeenTopics). place_of hub.actors c.in-Some-name_and_rest.name) c.self.view_is) ∙ (sym c.get_index_of-place.ensures.index ∙ c.in-None.is)
 
 pub returns-in-Some-place : goal.returns-in-Some-place
 returns-in-Some-place c =
-    let at : Some c.in-Some-place.place ≡ place_of c.args.self.now.actors c.in-Some.name =
-    sym c.in-Some-place.is ∙ c.get_index_of-place.ensures.index ∙ ap (λ (hub : Hub SeenTopics). place_of hub.actors c.in-Some.name) c.self.view_is in
-    answered_command _ _ _ _ c.in-Some.ensures c.in-Ok.command (Some c.in-Some-place.place) _ _ c.in-Ok.ensures.exact at c.carry_out.ensures
+    let hub : Hub SeenTopics = c.args.self.now in
+    let name = c.in-Some-name_and_rest.name in
+    let first : named c.in-Some.line.now ≡ Some (name, Some c.in-Some-rest.text.now) =
+    sym c.in-Some-name_and_rest.ensures ∙ ap (λ (r : Option (Bor (List ℕ))). Some (name, rest_of r)) c.in-Some-rest.is in
+    let at : Some c.in-Some-place.place ≡ place_of hub.actors name =
+    sym c.in-Some-place.is ∙ c.get_index_of-place.ensures.index ∙ ap (λ (h : Hub SeenTopics). place_of h.actors name) c.self.view_is in
+    subst (λ (l : Line). Turns answers hub l c.carry_out.result c.carry_out.new.self) (sym (ap line_given c.in-Some.is))
+    (answered_command hub c.in-Some.line.now name c.in-Some-rest.text.now first c.in-Ok.command (Some c.in-Some-place.place) _ _ c.in-Ok.ensures.exact at c.carry_out.ensures)
 
 pub returns-in-None : goal.returns-in-None
 returns-in-None c =
-    let at : None ≡ place_of c.args.self.now.actors c.in-Some.name =
-    sym c.in-None.is ∙ c.get_index_of-place.ensures.index ∙ ap (λ (hub : Hub SeenTopics). place_of hub.actors c.in-Some.name) c.self.view_is in
-    answered_command _ _ _ _ c.in-Some.ensures c.in-Ok.command None _ _ c.in-Ok.ensures.exact at c.carry_out_first.ensures
+    let hub : Hub SeenTopics = c.args.self.now in
+    let name = c.in-Some-name_and_rest.name in
+    let first : named c.in-Some.line.now ≡ Some (name, Some c.in-Some-rest.text.now) =
+    sym c.in-Some-name_and_rest.ensures ∙ ap (λ (r : Option (Bor (List ℕ))). Some (name, rest_of r)) c.in-Some-rest.is in
+    let at : None ≡ place_of hub.actors name =
+    sym c.in-None.is ∙ c.get_index_of-place.ensures.index ∙ ap (λ (h : Hub SeenTopics). place_of h.actors name) c.self.view_is in
+    subst (λ (l : Line). Turns answers hub l c.carry_out_first.result c.carry_out_first.new.self) (sym (ap line_given c.in-Some.is))
+    (answered_command hub c.in-Some.line.now name c.in-Some-rest.text.now first c.in-Ok.command None _ _ c.in-Ok.ensures.exact at c.carry_out_first.ensures)
 
 pub returns-in-Err-BadLine : goal.returns-in-Err-BadLine
 returns-in-Err-BadLine c =
-    bad_command _ _ _ _ c.in-Some.ensures (subst (λ (f : LineFault). Reads carries_value (Err f) (command_of c.in-Some.bytes.now)) c.in-Err-BadLine.field-0-is c.in-Err-BadLine.ensures.exact)
+    let hub : Hub SeenTopics = c.args.self.now in
+    let name = c.in-Some-name_and_rest.name in
+    let first : named c.in-Some.line.now ≡ Some (name, Some c.in-Some-rest.text.now) =
+    sym c.in-Some-name_and_rest.ensures ∙ ap (λ (r : Option (Bor (List ℕ))). Some (name, rest_of r)) c.in-Some-rest.is in
+    let bad : command_of c.in-Some-rest.text.now ≡ None =
+    subst (λ (f : LineFault). Reads carries_value (Err f) (command_of c.in-Some-rest.text.now)) c.in-Err-BadLine.field-0-is c.in-Err-BadLine.ensures.exact in
+    subst (λ (l : Line). Turns answers hub l (Refused Codes.BadLine) hub) (sym (ap line_given c.in-Some.is))
+    (bad_command hub c.in-Some.line.now name c.in-Some-rest.text.now first bad)
 
 pub returns-in-Err-Short : goal.returns-in-Err-Short
 returns-in-Err-Short c =
-    short_command _ _ _ _ c.in-Some.ensures (subst (λ (f : LineFault). Reads carries_value (Err f) (command_of c.in-Some.bytes.now)) c.in-Err-Short.field-0-is c.in-Err-Short.ensures.exact)
+    let hub : Hub SeenTopics = c.args.self.now in
+    let name = c.in-Some-name_and_rest.name in
+    let first : named c.in-Some.line.now ≡ Some (name, Some c.in-Some-rest.text.now) =
+    sym c.in-Some-name_and_rest.ensures ∙ ap (λ (r : Option (Bor (List ℕ))). Some (name, rest_of r)) c.in-Some-rest.is in
+    let short : IsAsked carries_value (command_of c.in-Some-rest.text.now) =
+    subst (λ (f : LineFault). Reads carries_value (Err f) (command_of c.in-Some-rest.text.now)) c.in-Err-Short.field-0-is c.in-Err-Short.ensures.exact in
+    subst (λ (l : Line). Turns answers hub l (Refused Codes.NoMemory) hub) (sym (ap line_given c.in-Some.is))
+    (short_command hub c.in-Some.line.now name c.in-Some-rest.text.now first short)

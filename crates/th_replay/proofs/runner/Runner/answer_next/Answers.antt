@@ -37,9 +37,9 @@ returns-in-Ok g c =
     let at : Course → Standing (Hub SeenTopics) = λ k. stands g.W.Write.contents c.args.writer.now k in
     let out : Output = output g.W.Write.contents c.append.new.writer c.append.new.self in
     let mid = c.next_line.new.self in
-    let new : Standing (Hub SeenTopics) = record { state = c.answer-reply.new.hub; came = mid.came; answered = i.answered + 1; limit = i.limit; out = out } in
+    let new : Standing (Hub SeenTopics) = record { state = c.answer-reply.new.self; came = mid.came; answered = i.answered + 1; limit = i.limit; out = out } in
     subst (λ (k : Course). AnswersOne answers (at k) new) c.self.view_is
-    (next_one answers (at o) mid _ c.answer-reply.result c.answer-reply.new.hub out c.if-not-next_line.ensures c.line.ensures c.answer-reply.ensures
+    (next_one answers (at o) mid _ c.answer-reply.result c.answer-reply.new.self out c.if-not-next_line.ensures c.line.ensures c.answer-reply.ensures
     c.in-Ok.ensures c.if-self.false)
 
 pub returns : goal.returns
@@ -48,6 +48,6 @@ returns g c =
     let o : Course = record { hub = i.hub; came = i.intake.came; waiting = i.out; answered = i.answered; limit = i.limit } in
     let at : Course → Standing (Hub SeenTopics) = λ k. stands g.W.Write.contents c.args.writer.now k in
     let out : Output = output g.W.Write.contents c.append.new.writer c.append.new.self in
-    subst (λ (k : Course). Stops (Turns answers) (at k) [] false false c.answer-reply.new.hub out) c.self.view_is
-    (next_broken answers (at o) c.next_line.new.self _ c.answer-reply.result c.answer-reply.new.hub out c.if-not-next_line.ensures c.line.ensures
+    subst (λ (k : Course). Stops (Turns answers) (at k) [] false false c.answer-reply.new.self out) c.self.view_is
+    (next_broken answers (at o) c.next_line.new.self _ c.answer-reply.result c.answer-reply.new.self out c.if-not-next_line.ensures c.line.ensures
     c.answer-reply.ensures c.in-Err.ensures)

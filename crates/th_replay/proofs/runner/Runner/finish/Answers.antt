@@ -47,7 +47,7 @@ returns g c =
     let o : Course = record { hub = i.hub; came = i.intake.came; waiting = i.out; answered = i.answered; limit = i.limit } in
     let at : Course → Standing (Hub SeenTopics) = λ k. stands g.W.Write.contents c.args.writer.now k in
     let new : Standing (Hub SeenTopics) =
-    stands g.W.Write.contents c.append.new.writer (record { hub = c.answer-reply.new.hub; came = c.last_line.new.self.came; waiting = c.append.new.self; answered = i.answered + 1; limit = i.limit }) in
+    stands g.W.Write.contents c.append.new.writer (record { hub = c.answer-reply.new.self; came = c.last_line.new.self.came; waiting = c.append.new.self; answered = i.answered + 1; limit = i.limit }) in
     let ahead : i.intake.came.ahead ≡ [] = ap (λ (k : Course). k.came.ahead) c.self.view_is ∙ c.requires in
     let last = c.line.ensures ∙ ap (λ (r : Reading). line_of false r.line) c.if-not-last_line.ensures.1 in
     subst (λ (k : Course). Stops (Turns answers) (at k) [] true false new.state new.out) c.self.view_is

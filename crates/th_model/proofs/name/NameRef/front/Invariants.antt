@@ -1,7 +1,7 @@
 use Rattle.std.proofs.Common.{◌≡◌, ◌-◌, ◌≤◌, length, take, true}
 use Rattle.std.specs.List.{list_all}
 use Rattle.th_model.specs.Names.{is_name_byte}
-use Rattle.th_model.proofs.name.front_name_bytes.Given as goal
+use Rattle.th_model.proofs.name.NameRef.front.Given as goal
 
 abbrev pub invariant-loop-count : goal.invariant-loop-count
 invariant-loop-count l = record {
