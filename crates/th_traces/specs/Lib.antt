@@ -1,0 +1,6 @@
+pub mod Spelled
+pub mod Versions
+pub mod Broadcast
+pub mod Watch
+pub mod Traces
+pub mod ToCome

@@ -1,0 +1,36 @@
+//! The first line of a trace.
+ghost use Rattle.std.specs.Prelude.{◌≡◌};
+ghost use Rattle.th_traces.specs.Versions.{digit, has_call, version_with};
+
+use th_model::{BCall, Value};
+
+/// The version of a broadcast trace. A watch trace has one version alone.
+#[derive(Clone, Copy, Debug, Drop, PartialEq, Eq)]
+pub enum Version {
+    /// Without the call `subscribe-oldest`.
+    One,
+    /// With it.
+    Two,
+}
+
+impl Version {
+    /// The version of a trace with this call too, which begins at `One`.
+    pub fn with_call(self, call: &BCall<Value>) -> Version
+        ensures { result ≡ version_with self call.now }
+    {
+        match call {
+            BCall::SubscribeOldest(_) => Version::Two,
+            _ => self,
+        }
+    }
+
+    // The digit that it is spelled by.
+    pub(crate) fn digit(self) -> &'static [u8]
+        ensures { result.now ≡ digit self }
+    {
+        match self {
+            Version::One => b"1",
+            Version::Two => b"2",
+        }
+    }
+}
