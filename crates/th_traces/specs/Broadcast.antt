@@ -6,6 +6,7 @@ use Rattle.th_model.specs.declared.broadcast.BCall.TheVariants.{Send, TryRecv, R
 use Rattle.th_model.specs.declared.broadcast.BReply.{BReply}
 use Rattle.th_model.specs.declared.broadcast.BReply.TheVariants.{Sent, NoReceivers, Exhausted, Value, Empty, Closed, Lagged, NewRx, NewTx, Count, Done, TooMany, NoHandle}
 use Rattle.th_model.specs.BroadcastPicture.{Picture}
+use Rattle.th_model.specs.Places.{Places}
 use Rattle.th_traces.specs.declared.head.Version.{Version}
 use Rattle.th_traces.specs.Spelled.{Bytes, Told}
 use Rattle.th_traces.specs.Versions.{digit}
@@ -45,13 +46,19 @@ reply_fields (NoHandle back) = codes "no-handle" ∷ []
 abbrev pub standing : ℕ × ℕ → ℕ × Bytes
 standing rx = (rx.0, decimal rx.1)
 
+-- what lines with these parts tell, in a trace of this version
+abbrev pub told_of : Version → (capacity low tail : ℕ) → List Bytes → Places → List ℕ → ℕ → Told
+told_of version capacity low tail kept places senders next = record {
+  head = codes "TRACE" ∷ digit version ∷ codes "B" ∷ decimal capacity ∷ [];
+  start = decimal low ∷ decimal tail ∷ [];
+  next = next;
+  kept = kept;
+  senders = senders;
+  receivers = map standing places;
+}
+
 -- what the lines of a picture tell, in a trace of this version
 abbrev pub told : Version → Picture Bytes → Told
-told version p = record {
-  head = codes "TRACE" ∷ digit version ∷ codes "B" ∷ decimal p.window.capacity ∷ [];
-  start = decimal p.window.low ∷ decimal p.window.tail ∷ [];
-  next = p.next;
-  kept = p.window.kept;
-  senders = p.senders;
-  receivers = map standing p.window.places;
-}
+told version p =
+    let w = p.window in
+    told_of version w.capacity w.low w.tail w.kept w.places p.senders p.next

@@ -1,6 +1,6 @@
 //! The first line of a trace.
 ghost use Rattle.std.specs.Prelude.{◌≡◌};
-ghost use Rattle.th_traces.specs.Versions.{digit, has_call, version_with};
+ghost use Rattle.th_traces.specs.Versions.{version_with};
 
 use th_model::{BCall, Value};
 
@@ -21,16 +21,6 @@ impl Version {
         match call {
             BCall::SubscribeOldest(_) => Version::Two,
             _ => self,
-        }
-    }
-
-    // The digit that it is spelled by.
-    pub(crate) fn digit(self) -> &'static [u8]
-        ensures { result.now ≡ digit self }
-    {
-        match self {
-            Version::One => b"1",
-            Version::Two => b"2",
         }
     }
 }

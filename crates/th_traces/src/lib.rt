@@ -8,11 +8,15 @@
 #![tactic(auto)]
 
 pub mod broadcast_entry;
+pub mod broadcast_lines;
 pub mod head;
 mod put;
 pub mod stage;
 pub mod watch_entry;
+pub mod watch_lines;
 
 pub use broadcast_entry::print_broadcast_entry;
+pub use broadcast_lines::BroadcastLines;
 pub use head::Version;
 pub use watch_entry::print_watch_entry;
+pub use watch_lines::WatchLines;

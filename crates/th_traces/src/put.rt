@@ -74,3 +74,21 @@ pub fn put_number_and_value(words: &[u8], n: u64, value: &Value, out: &mut Vec<u
     prove!(bytes.len() <= 1024);
     put_number_and(words, n, bytes, out);
 }
+
+// Appends some words, a number, a few more words, and a number, as a line.
+pub fn put_numbers(words: &[u8], n: u64, more: &[u8], m: u64, out: &mut Vec<u8>)
+    requires short { (length words.now ≤ 100) × (length more.now ≤ 100) }
+    requires free { vec_len out.old + 2000 ≤ vec_capacity out.old }
+    ensures text { out.new.items
+        ≡ out.old.items ++ ended (words.now ++ (decimal n ++ (more.now ++ decimal m))) }
+    ensures most { vec_len out.new ≤ vec_len out.old + 2000 }
+    ensures room { vec_capacity out.old ≤ vec_capacity out.new }
+{
+    let mut first = Buffer::new();
+    let mut second = Buffer::new();
+    let _ = out.extend_from_slice(words);
+    let _ = out.extend_from_slice(first.format(n).as_bytes());
+    let _ = out.extend_from_slice(more);
+    let _ = out.extend_from_slice(second.format(m).as_bytes());
+    out.push_reserved(b'\n');
+}
