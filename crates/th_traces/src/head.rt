@@ -13,6 +13,15 @@ pub enum Version {
     Two,
 }
 
+/// What the first line of a trace says of how the others are read.
+#[derive(Clone, Copy, Debug, Drop, PartialEq, Eq)]
+pub enum Head {
+    /// It is the trace of a broadcast channel.
+    Broadcast(Version),
+    /// It is the trace of a watch channel.
+    Watch,
+}
+
 impl Version {
     /// The version of a trace with this call too, which begins at `One`.
     pub fn with_call(self, call: &BCall<Value>) -> Version

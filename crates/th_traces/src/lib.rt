@@ -7,16 +7,25 @@
 //! ```
 #![tactic(auto)]
 
+mod broadcast_call;
 pub mod broadcast_entry;
 pub mod broadcast_lines;
+mod broadcast_reply;
+pub mod entry;
+pub mod fault;
+mod fields;
 pub mod head;
 mod put;
 pub mod stage;
+mod watch_call;
 pub mod watch_entry;
 pub mod watch_lines;
+mod watch_reply;
 
 pub use broadcast_entry::print_broadcast_entry;
 pub use broadcast_lines::BroadcastLines;
-pub use head::Version;
+pub use entry::{Entry, read_entry};
+pub use fault::EntryFault;
+pub use head::{Head, Version};
 pub use watch_entry::print_watch_entry;
 pub use watch_lines::WatchLines;
