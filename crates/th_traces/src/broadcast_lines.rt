@@ -1,10 +1,11 @@
 //! The lines of a broadcast channel's picture, printed.
-ghost use Rattle.std.specs.Prelude.{◌≡◌, ◌+◌, ◌≤◌, ◌∷◌, ◌++◌, codes, IsOk, vec_len, vec_capacity};
+ghost use Rattle.std.specs.Prelude.{◌≡◌, ◌+◌, ◌≤◌, ◌∷◌, ◌++◌, codes, length, IsOk, vec_len, vec_capacity};
 ghost use Rattle.std.specs.Fmt.{decimal};
 ghost use Rattle.th_lines.specs.Replies.{ended};
 ghost use Rattle.th_traces.specs.Broadcast.{told};
 ghost use Rattle.th_traces.specs.Spelled.{picture_lines, start_line};
 ghost use Rattle.th_traces.specs.ToCome.{PrintsNext};
+ghost use Rattle.th_traces.specs.declared.head.Version.{Version};
 
 use crate::head::Version;
 use crate::put::{put_number, put_numbers, put_value, put_words};
@@ -72,6 +73,18 @@ impl<'a> BroadcastLines<'a> {
             senders: picture.senders().iter(),
             places: window.places().iter(),
         }
+    }
+
+    /// How many lines the picture has, in a trace of whichever version.
+    pub fn count(picture: &PictureParts<Value>) -> u64
+        ensures { (version : Version) →
+            result ≡ length (picture_lines (told version picture.now)) }
+    {
+        let window = picture.window();
+        // Its contract says that the picture is sound: few handles are live.
+        let _next = picture.next_number();
+        let handles = picture.senders().len() + window.places().len();
+        handles as u64 + window.kept().len() as u64 + 3
     }
 
     /// Appends the next line, and says whether there was one. Where there is no memory for it, the

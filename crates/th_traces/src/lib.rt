@@ -11,6 +11,7 @@ mod broadcast_call;
 pub mod broadcast_entry;
 pub mod broadcast_lines;
 mod broadcast_reply;
+pub mod end;
 pub mod entry;
 pub mod fault;
 mod fields;
@@ -24,6 +25,7 @@ mod watch_reply;
 
 pub use broadcast_entry::print_broadcast_entry;
 pub use broadcast_lines::BroadcastLines;
+pub use end::print_end;
 pub use entry::{Entry, read_entry};
 pub use fault::EntryFault;
 pub use head::{Head, Version};

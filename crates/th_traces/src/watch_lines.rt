@@ -58,6 +58,16 @@ impl<'a> WatchLines<'a> {
         }
     }
 
+    /// How many lines the picture has.
+    pub fn count(picture: &PictureParts<Value>) -> u64
+        ensures { result ≡ length (picture_lines (told picture.now)) }
+    {
+        // Its contract says that the picture is sound: few handles are live.
+        let _next = picture.next_number();
+        let handles = picture.senders().len() + picture.readers().len();
+        handles as u64 + 4
+    }
+
     /// Appends the next line, and says whether there was one. Where there is no memory for it, the
     /// text is left as it was, and so are the lines to come. There is, where 4,096 bytes are free: no
     /// line has more.
