@@ -1,1 +1,4 @@
 mod Coming
+pub mod Entries
+pub mod BroadcastSpelling
+pub mod WatchSpelling

@@ -1,15 +1,16 @@
 -- Calls and replies of a broadcast channel, as they are read (docs/FORMATS.md, "Traces").
-use Rattle.std.specs.Prelude.{ℕ, Bool, true, false, List, [], ◌∷◌, codes, Option, Some, None, is_some, if◌then◌else◌}
+use Rattle.std.specs.Prelude.{◌≡◌, ℕ, Bool, true, false, List, [], ◌∷◌, codes, Option, Some, None, is_some, if◌then◌else◌}
 use Rattle.th_model.specs.declared.handles.RxId.{RxId}
 use Rattle.th_model.specs.declared.handles.TxId.{TxId}
 use Rattle.th_model.specs.declared.broadcast.BCall.{BCall}
 use Rattle.th_model.specs.declared.broadcast.BCall.TheVariants.{Send, TryRecv, Recv, Subscribe, SubscribeOldest, Resubscribe, CloneTx, DropTx, DropRx, Queued, Left, Readers}
 use Rattle.th_model.specs.declared.broadcast.BReply.{BReply}
 use Rattle.th_model.specs.declared.broadcast.BReply.TheVariants.{Sent, NoReceivers, Exhausted, Value, Empty, Closed, Lagged, NewRx, NewTx, Count, Done, TooMany, NoHandle}
+use Rattle.th_lines.specs.Commands.{IsValue}
 use Rattle.th_lines.specs.Fields.{ended, number_last, value_last}
 use Rattle.th_traces.specs.declared.head.Version.{Version}
 use Rattle.th_traces.specs.Spelled.{Bytes}
-use Rattle.th_traces.specs.Tables.{Table, behind, by_table, handing, number_value_last}
+use Rattle.th_traces.specs.Tables.{IsNumber, Table, behind, by_table, handing, number_value_last}
 use Rattle.th_traces.specs.Versions.{has_call}
 
 abbrev tx : ℕ → TxId
@@ -91,3 +92,35 @@ has_value (NoReceivers back) = true
 has_value (Exhausted back) = true
 has_value (NoHandle back) = is_some back
 has_value reply = false
+
+-- the number and the value of a call are such
+abbrev pub HasFields : BCall Bytes → Type 0
+HasFields (Send tx value) = IsNumber tx.0 × IsValue value
+HasFields (TryRecv rx) = IsNumber rx.0
+HasFields (Recv rx) = IsNumber rx.0
+HasFields (Subscribe tx) = IsNumber tx.0
+HasFields (SubscribeOldest tx) = IsNumber tx.0
+HasFields (Resubscribe rx) = IsNumber rx.0
+HasFields (CloneTx tx) = IsNumber tx.0
+HasFields (DropTx tx) = IsNumber tx.0
+HasFields (DropRx rx) = IsNumber rx.0
+HasFields (Queued tx) = IsNumber tx.0
+HasFields (Left rx) = IsNumber rx.0
+HasFields (Readers tx) = IsNumber tx.0
+
+-- what is a call of a trace of this version
+abbrev pub IsCall : Version → BCall Bytes → Type 0
+IsCall version call = HasFields call × (has_call version call ≡ true)
+
+-- what is a reply to a call: its number or value is such, and it hands back the call's own value
+abbrev pub IsReplyTo : BCall Bytes → BReply Bytes → Type 0
+IsReplyTo call (Sent n) = IsNumber n
+IsReplyTo call (NoReceivers back) = value_given call ≡ Some back
+IsReplyTo call (Exhausted back) = value_given call ≡ Some back
+IsReplyTo call (Value value) = IsValue value
+IsReplyTo call (Lagged n) = IsNumber n
+IsReplyTo call (NewRx rx) = IsNumber rx.0
+IsReplyTo call (NewTx tx) = IsNumber tx.0
+IsReplyTo call (Count n) = IsNumber n
+IsReplyTo call (NoHandle back) = value_given call ≡ back
+IsReplyTo call reply = Unit {0}

@@ -47,10 +47,10 @@ abbrev pub picture_lines : Told → List Bytes
 picture_lines t = line t.head ∷ start_line t ∷ body_lines t
 
 abbrev pub call_line : List Bytes → Bytes
-call_line fields = line (codes "C" ∷ fields)
+call_line fields = codes "C " ++ line fields
 
 abbrev pub reply_line : List Bytes → Bytes
-reply_line fields = line (codes "R" ∷ fields)
+reply_line fields = codes "R " ++ line fields
 
 -- the lines of the entries: of each its call, and its reply
 abbrev pub entry_lines : List (List Bytes × List Bytes) → List Bytes

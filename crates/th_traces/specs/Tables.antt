@@ -1,11 +1,14 @@
 -- How the lines of a trace are read: by tables of words (docs/FORMATS.md, "Traces").
-use Rattle.std.specs.Prelude.{ℕ, Bool, true, List, [], ◌∷◌, Option, Some, None}
+use Rattle.std.specs.Prelude.{ℕ, ◌<◌, ◌^◌, Bool, true, List, [], ◌∷◌, Option, Some, None}
 use Rattle.th_lines.specs.Fields.{Rest, cut, ended, last, number_then, value_last, by_word}
 use Rattle.th_traces.specs.Spelled.{Bytes}
 
 -- words, each with what reads the fields behind it
 abbrev pub Table : Type 0 → Type 0
 Table A = List (Bytes × (Rest → Option A))
+
+abbrev pub IsNumber : ℕ → Type 0
+IsNumber n = n < 2 ^ 64
 
 module _ {A : Type 0} where
   -- what a table reads in some bytes

@@ -1,5 +1,5 @@
 -- Calls and replies of a watch channel, as they are read (docs/FORMATS.md, "Traces").
-use Rattle.std.specs.Prelude.{ℕ, Bool, true, false, List, [], ◌∷◌, codes, Option, Some, None, is_some, if◌then◌else◌}
+use Rattle.std.specs.Prelude.{◌≡◌, ℕ, Bool, true, false, List, [], ◌∷◌, codes, Option, Some, None, is_some, if◌then◌else◌}
 use Rattle.std.specs.Option.{option_map}
 use Rattle.std.specs.Str.{bytes_eq}
 use Rattle.th_model.specs.declared.handles.RxId.{RxId}
@@ -10,9 +10,10 @@ use Rattle.th_model.specs.declared.watch.WCall.TheVariants.{Send, Replace, EditB
 use Rattle.th_model.specs.declared.watch.WReply.{WReply}
 use Rattle.th_model.specs.declared.watch.WReply.TheVariants.{Done, NoReceivers, Exhausted, Was, Modified, Shown, Marked, NotYet, Closed, Gone, NewRx, NewTx, Count, TooMany, NoHandle}
 use Rattle.th_model.specs.declared.watch.WReply.TheVariants as reply
+use Rattle.th_lines.specs.Commands.{IsValue}
 use Rattle.th_lines.specs.Fields.{Rest, by_word, ended, field_then, number_last, value_last}
 use Rattle.th_traces.specs.Spelled.{Bytes}
-use Rattle.th_traces.specs.Tables.{Table, behind, by_table, handing, number_value_last}
+use Rattle.th_traces.specs.Tables.{IsNumber, Table, behind, by_table, handing, number_value_last}
 use Rattle.th_traces.specs.Watch.{edit_value}
 
 abbrev tx : ℕ → TxId
@@ -138,3 +139,35 @@ has_value (NoReceivers back) = true
 has_value (Exhausted back) = true
 has_value (NoHandle back) = is_some back
 has_value reply = false
+
+-- the number and the value of a call are such
+abbrev pub IsCall : WCall Bytes → Type 0
+IsCall (Send tx value) = IsNumber tx.0 × IsValue value
+IsCall (Replace tx value) = IsNumber tx.0 × IsValue value
+IsCall (EditBy tx edit) = IsNumber tx.0 × IsValue (edit_value edit)
+IsCall (Borrow rx) = IsNumber rx.0
+IsCall (Take rx) = IsNumber rx.0
+IsCall (HasChanged rx) = IsNumber rx.0
+IsCall (TryChanged rx) = IsNumber rx.0
+IsCall (Changed rx) = IsNumber rx.0
+IsCall (MarkChanged rx) = IsNumber rx.0
+IsCall (MarkUnchanged rx) = IsNumber rx.0
+IsCall (Subscribe tx) = IsNumber tx.0
+IsCall (CloneRx rx) = IsNumber rx.0
+IsCall (CloneTx tx) = IsNumber tx.0
+IsCall (DropTx tx) = IsNumber tx.0
+IsCall (DropRx rx) = IsNumber rx.0
+IsCall (IsClosed tx) = IsNumber tx.0
+IsCall (Readers tx) = IsNumber tx.0
+
+-- what is a reply to a call: its number or value is such, and it hands back the call's own value
+abbrev pub IsReplyTo : WCall Bytes → WReply Bytes → Type 0
+IsReplyTo call (NoReceivers back) = value_given call ≡ Some back
+IsReplyTo call (Exhausted back) = value_given call ≡ Some back
+IsReplyTo call (Was value) = IsValue value
+IsReplyTo call (Shown value unseen) = IsValue value
+IsReplyTo call (NewRx rx) = IsNumber rx.0
+IsReplyTo call (NewTx tx) = IsNumber tx.0
+IsReplyTo call (Count n) = IsNumber n
+IsReplyTo call (NoHandle back) = value_given call ≡ back
+IsReplyTo call reply = Unit {0}

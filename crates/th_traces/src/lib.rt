@@ -16,6 +16,7 @@ pub mod entry;
 pub mod fault;
 mod fields;
 pub mod head;
+pub mod laws;
 mod put;
 pub mod stage;
 mod watch_call;
