@@ -2,3 +2,5 @@ mod Coming
 pub mod Entries
 pub mod BroadcastSpelling
 pub mod WatchSpelling
+pub mod Further
+pub mod BroadcastDrafting

@@ -8,3 +8,6 @@ pub mod Tables
 pub mod BroadcastWords
 pub mod WatchWords
 pub mod Entries
+pub mod Groups
+pub mod Drafts
+pub mod BroadcastDrafts

@@ -1,7 +1,7 @@
 //! The last fields of a line.
 ghost use Rattle.std.specs.Prelude.{◌≡◌, IfOk, OnErr, Err};
 ghost use Rattle.std.specs.Option.{option_map};
-ghost use Rattle.th_lines.specs.Fields.{number_last, value_last};
+ghost use Rattle.th_lines.specs.Fields.{number_last, number_then, value_last};
 ghost use Rattle.th_lines.specs.Reads.{Reads, each_value, rest_of};
 ghost use Rattle.th_traces.specs.Tables.{each_pair, handing, number_value_last};
 
@@ -15,6 +15,14 @@ pub fn last_number(rest: Option<&[u8]>) -> Option<u64>
     ensures { result ≡ number_last (λ n. n) (rest_of rest.entry) }
 {
     number(rest?)
+}
+
+// Two numbers as the last fields.
+pub fn last_numbers(rest: Option<&[u8]>) -> Option<(u64, u64)>
+    ensures { result ≡ number_then (λ n. number_last (λ m. (n, m))) (rest_of rest.entry) }
+{
+    let (n, rest) = number_and_rest(rest?)?;
+    Some((n, last_number(rest)?))
 }
 
 // A value as the last field.

@@ -8,6 +8,7 @@
 #![tactic(auto)]
 
 mod broadcast_call;
+mod broadcast_draft;
 pub mod broadcast_entry;
 pub mod broadcast_lines;
 mod broadcast_reply;
@@ -15,6 +16,7 @@ pub mod end;
 pub mod entry;
 pub mod fault;
 mod fields;
+mod groups;
 pub mod head;
 pub mod laws;
 mod put;
