@@ -3,6 +3,11 @@ use Rattle.std.proofs.Common.{◌≡◌, ap, suc, ℕ, ◌-◌, ◌<◌, Bool, t
 use Rattle.std.specs.Prelude.{not, slice_get}
 use Rattle.std.specs.List.{AllByRecursion}
 use Rattle.std.specs.Map.{keys_of}
+use Rattle.std.specs.Ordering.{nat_cmp, match_ordering}
+use Rattle.std.specs.declared.cmp.Ordering.TheVariants.{Less, Equal, Greater}
+use Rattle.std.specs.BTreeMap.{insert_entry}
+use Rattle.std.proofs.lemmas.Cmp.{ranked}
+use Rattle.std.proofs.lemmas.List.{map-append}
 use Rattle.std.proofs.lemmas.Bool.{eqb-true, ltb-true, false≢true}
 use Rattle.std.proofs.lemmas.Option.{none-some, same_Some}
 use Rattle.th_model.specs.Handles.{AreHandles, AreLive, IsRising, is_sender, with_sender}
@@ -88,3 +93,15 @@ receiver-live next senders ids rx h t free = record {
   by_receiver = further next ids rx h.by_receiver t;
   apart = all-snoc (λ k. is_sender senders k ≡ false) ids rx h.apart free;
 }
+
+-- an entry of a further number is the last one
+pub entry-last : {X : Type 0} (ps : List (ℕ × X)) (k : ℕ) (x : X) → AllByRecursion (λ j. j < k) (keys_of ps) → insert_entry nat_cmp ps k x ≡ ps ++ (k, x) ∷ []
+entry-last {X} [] k x h = refl
+entry-last {X} (p ∷ ps) k x h = elim (nat_cmp k p.0) as (λ r. r ≡ nat_cmp k p.0 → match_ordering r ((k, x) ∷ p ∷ ps) ((p.0, x) ∷ ps) (p ∷ insert_entry nat_cmp ps k x) ≡ p ∷ ps ++ (k, x) ∷ []) [
+  | Less ↦ λ e. absurd (omega (arith, ranked k p.0 Less e, h.0))
+  | Equal ↦ λ e. absurd (omega (arith, ranked k p.0 Equal e, h.0))
+  | Greater ↦ λ e. ap (λ (l : List (ℕ × X)). p ∷ l) (entry-last ps k x h.1)
+] refl
+
+pub keys-snoc : {X : Type 0} (ps : List (ℕ × X)) (k : ℕ) (x : X) → keys_of (ps ++ (k, x) ∷ []) ≡ keys_of ps ++ k ∷ []
+keys-snoc {X} ps k x = map-append (λ (q : ℕ × X). q.0) ps ((k, x) ∷ [])

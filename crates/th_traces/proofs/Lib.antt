@@ -4,3 +4,4 @@ pub mod BroadcastSpelling
 pub mod WatchSpelling
 pub mod Further
 pub mod BroadcastDrafting
+pub mod WatchDrafting

@@ -11,3 +11,4 @@ pub mod Entries
 pub mod Groups
 pub mod Drafts
 pub mod BroadcastDrafts
+pub mod WatchDrafts

@@ -22,6 +22,7 @@ pub mod laws;
 mod put;
 pub mod stage;
 mod watch_call;
+mod watch_draft;
 pub mod watch_entry;
 pub mod watch_lines;
 mod watch_reply;
