@@ -5,3 +5,4 @@ pub mod WatchSpelling
 pub mod Further
 pub mod BroadcastDrafting
 pub mod WatchDrafting
+pub mod Begun

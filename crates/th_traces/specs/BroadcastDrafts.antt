@@ -11,7 +11,11 @@ use Rattle.th_traces.specs.Groups.{is_further}
 use Rattle.th_traces.specs.Spelled.{Bytes}
 use Rattle.th_traces.specs.Tables.{Table}
 
--- a picture with these parts
+-- a picture, of which some lines may be still to come
+abbrev pub Drawn : Type 0
+Drawn = Picture Bytes
+
+-- one with these parts
 abbrev pub parts : (capacity low tail : ℕ) → List Bytes → Places → List ℕ → ℕ → Picture Bytes
 parts capacity low tail kept places senders next = record {
   window = record {

@@ -12,3 +12,4 @@ pub mod Groups
 pub mod Drafts
 pub mod BroadcastDrafts
 pub mod WatchDrafts
+pub mod Pictures

@@ -122,14 +122,23 @@ impl WatchDraft {
         Err(LineFault::BadLine)
     }
 
-    // The picture, of which all was told; nothing where the value was not.
-    pub fn into_parts(self) -> Option<PictureParts<Value>>
-        ensures { result ≡ option_map
-            (λ value. shown_picture self.version value self.readers self.senders self.next)
-            self.last }
+    // The picture, of which all was told.
+    pub fn into_parts(self) -> PictureParts<Value>
+        requires { has_value self ≡ true }
+        ensures { self ≡ shown_picture
+            result.version (Some result.last) result.readers result.senders result.next }
     {
-        let last = self.last?;
-        Some(PictureParts::new(self.version, last, self.readers, self.senders, self.next))
+        let WatchDraft {
+            version,
+            last,
+            readers,
+            senders,
+            next,
+        } = self;
+        let Some(last) = last else {
+            unreachable!();
+        };
+        PictureParts::new(version, last, readers, senders, next)
     }
 
     fn takes_sender(&self, tx: u64) -> bool
