@@ -1,4 +1,4 @@
--- What the reading of an entry gave.
+-- Entries of either kind, and what the reading of one gave (docs/FORMATS.md, "Traces").
 use Rattle.std.specs.Prelude.{◌≡◌, ◌⊎◌, ℕ, Bool, List, Option, Some, None, Result, Ok, Err}
 use Rattle.th_lines.specs.Reads.{IsAsked}
 use Rattle.th_traces.specs.declared.fault.EntryFault.{EntryFault}
@@ -7,8 +7,18 @@ use Rattle.th_traces.specs.declared.head.Head.{Head}
 use Rattle.th_traces.specs.declared.head.Head.TheVariants as head
 use Rattle.th_traces.specs.declared.entry.Entry.{Entry}
 use Rattle.th_traces.specs.declared.entry.Entry.TheVariants as entry
+use Rattle.th_traces.specs.Broadcast as broadcast_spelled
 use Rattle.th_traces.specs.BroadcastWords as broadcast
+use Rattle.th_traces.specs.Spelled.{Bytes}
+use Rattle.th_traces.specs.Watch as watch_spelled
 use Rattle.th_traces.specs.WatchWords as watch
+
+-- the fields of both lines of an entry
+abbrev pub entry_fields : Entry → List Bytes × List Bytes
+entry_fields (entry.Broadcast call reply) =
+    (broadcast_spelled.call_fields call, broadcast_spelled.reply_fields reply)
+entry_fields (entry.Watch call reply) =
+    (watch_spelled.call_fields call, watch_spelled.reply_fields reply)
 
 -- The first line says a call, and the second one a reply to it. Without a call the first line is
 -- bad, whatever the second one is; memory is refused only for a value that was read.

@@ -1,12 +1,16 @@
 //! The entries of a trace, read.
+ghost use Rattle.std.specs.Prelude.{◌≡◌, ◌+◌, ◌≤◌, ◌∷◌, [], ◌++◌, IsOk, OnOk, OnErr, vec_len, vec_capacity};
+ghost use Rattle.th_traces.specs.Spelled.{entry_lines, text};
 ghost use Rattle.th_traces.specs.BroadcastWords as broadcast;
 ghost use Rattle.th_traces.specs.WatchWords as watch;
-ghost use Rattle.th_traces.specs.Entries.{Reads, ReadsEntry};
+ghost use Rattle.th_traces.specs.Entries.{Reads, ReadsEntry, entry_fields};
 
+use crate::broadcast_entry::print_broadcast_entry;
 use crate::fault::EntryFault;
 use crate::head::{Head, Version};
+use crate::watch_entry::print_watch_entry;
 use crate::{broadcast_call, broadcast_reply, watch_call, watch_reply};
-use std::alloc::Global;
+use std::alloc::{AllocError, Global};
 use th_lines::LineFault;
 use th_model::{BCall, BReply, Value, WCall, WReply};
 
@@ -17,6 +21,22 @@ pub enum Entry {
     Broadcast(BCall<Value>, BReply<Value>),
     /// Of a watch channel.
     Watch(WCall<Value>, WReply<Value>),
+}
+
+/// Appends the two lines of an entry, or leaves the text as it was where there is no memory for
+/// them. There is, where 4,096 bytes are free: no entry has more.
+pub fn print_entry(entry: &Entry, out: &mut Vec<u8>) -> Result<(), AllocError>
+    ensures ok { OnOk result (out.new.items
+        ≡ out.old.items ++ text (entry_lines (entry_fields entry.now ∷ []))) }
+    ensures err { OnErr result (out.new.items ≡ out.old.items) }
+    ensures most { vec_len out.new ≤ vec_len out.old + 4096 }
+    ensures fits { vec_len out.old + 4096 ≤ vec_capacity out.old → IsOk result }
+    ensures room { vec_capacity out.old ≤ vec_capacity out.new }
+{
+    match entry {
+        Entry::Broadcast(call, reply) => print_broadcast_entry(call, reply, out),
+        Entry::Watch(call, reply) => print_watch_entry(call, reply, out),
+    }
 }
 
 /// The entry that two lines say, without their line ends, in a trace with this head. A reply that

@@ -24,6 +24,8 @@ pub mod picture;
 pub mod place;
 mod put;
 pub mod stage;
+#[cfg(test)]
+mod tests;
 mod watch_call;
 mod watch_draft;
 pub mod watch_entry;
@@ -34,7 +36,7 @@ pub use broadcast_entry::print_broadcast_entry;
 pub use broadcast_lines::BroadcastLines;
 pub use draft::{Draft, read_picture};
 pub use end::print_end;
-pub use entry::{Entry, read_entry};
+pub use entry::{Entry, print_entry, read_entry};
 pub use fault::EntryFault;
 pub use head::{Head, Version};
 pub use picture::Picture;
