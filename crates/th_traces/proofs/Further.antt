@@ -8,11 +8,11 @@ use Rattle.std.specs.declared.cmp.Ordering.TheVariants.{Less, Equal, Greater}
 use Rattle.std.specs.BTreeMap.{insert_entry}
 use Rattle.std.proofs.lemmas.Cmp.{ranked}
 use Rattle.std.proofs.lemmas.List.{map-append}
-use Rattle.std.proofs.lemmas.Bool.{eqb-true, ltb-true, false≢true}
+use Rattle.std.proofs.lemmas.Bool.{eqb-true, ltb-true, lt-ltb, false≢true}
 use Rattle.std.proofs.lemmas.Option.{none-some, same_Some}
 use Rattle.th_model.specs.Handles.{AreHandles, AreLive, IsRising, is_sender, with_sender}
 use Rattle.th_model.proofs.HandleLemmas.{with_sender-new}
-use Rattle.th_lines.proofs.Numbers.{and_parts}
+use Rattle.th_lines.proofs.Numbers.{and_both, and_parts}
 use Rattle.th_traces.specs.Groups.{last_id, is_further}
 
 -- the last number of a list is the last one
@@ -105,3 +105,33 @@ entry-last {X} (p ∷ ps) k x h = elim (nat_cmp k p.0) as (λ r. r ≡ nat_cmp k
 
 pub keys-snoc : {X : Type 0} (ps : List (ℕ × X)) (k : ℕ) (x : X) → keys_of (ps ++ (k, x) ∷ []) ≡ keys_of ps ++ k ∷ []
 keys-snoc {X} ps k x = map-append (λ (q : ℕ × X). q.0) ps ((k, x) ∷ [])
+
+pub not_false : (b : Bool) → b ≡ false → not b ≡ true
+not_false true h = absurd (false≢true (sym h))
+not_false false h = refl
+
+all-at : {X : Type 0} (P : X → Type 0) (done : List X) (x : X) (todo : List X) → AllByRecursion P (done ++ x ∷ todo) → P x
+all-at P [] x todo h = h.0
+all-at P (y ∷ done) x todo h = all-at P done x todo h.1
+
+last_below : (done : List ℕ) (x : ℕ) (todo : List ℕ) → IsRising (done ++ x ∷ todo) → 0 < x → last_id done < x
+last_below [] x todo r h = h
+last_below (k ∷ []) x todo r h = r.0.0
+last_below (k ∷ j ∷ ks) x todo r h = last_below (j ∷ ks) x todo r.1 h
+
+all_below : (done : List ℕ) (x : ℕ) (todo : List ℕ) → IsRising (done ++ x ∷ todo) → AllByRecursion (λ k. k < x) done
+all_below [] x todo r = tt
+all_below (k ∷ done) x todo r = (all-at (λ j. k < j) done x todo r.0, all_below done x todo r.1)
+
+-- each number of a group is a further one of those before it
+pub is_next : (next : ℕ) (done : List ℕ) (x : ℕ) (todo : List ℕ) → AreHandles next (done ++ x ∷ todo) → (is_further next done x ≡ true) × AllByRecursion (λ k. k < x) done × (x < next)
+is_next next done x todo h =
+    let at = all-at (λ k. (0 < k) × (k < next)) done x todo h.given in (
+      and_both _ _ (lt-ltb (last_id done) x (last_below done x todo h.rising at.0))
+          (and_both _ _ (lt-ltb x next at.1) (lt-ltb (length done) 65535 (omega (arith, h.few, length-append done (x ∷ todo))))),
+      all_below done x todo h.rising,
+      at.1,
+    )
+
+pub keys-more : {X : Type 0} (done : List (ℕ × X)) (q : ℕ × X) (todo : List (ℕ × X)) → keys_of (done ++ q ∷ todo) ≡ keys_of done ++ q.0 ∷ keys_of todo
+keys-more {X} done q todo = map-append (λ (q : ℕ × X). q.0) done (q ∷ todo)

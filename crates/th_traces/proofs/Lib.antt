@@ -6,3 +6,5 @@ pub mod Further
 pub mod BroadcastDrafting
 pub mod WatchDrafting
 pub mod Begun
+pub mod BroadcastAgain
+pub mod WatchAgain

@@ -95,3 +95,15 @@ ReadsLine (Ok (Some told)) old new next =
     (next ≡ Some (Begun told.0 told.1)) × (new ≡ Nothing)
 ReadsLine (Err BadLine) old new next = (next ≡ None) × (new ≡ old)
 ReadsLine (Err Short) old new next = IsSome next × (new ≡ old)
+
+-- where lines lead, after the first of them led here; nothing follows the last line of a picture
+abbrev pub goes_on : Option Next → List Bytes → (Place → Option Next) → Option Next
+goes_on None lines read = None
+goes_on (Some (On place)) lines read = read place
+goes_on (Some (Begun h p)) [] read = Some (Begun h p)
+goes_on (Some (Begun h p)) (line ∷ lines) read = None
+
+-- where lines lead from a place on; nowhere, where one of them is bad
+abbrev pub leads : Place → List Bytes → Option Next
+leads place [] = Some (On place)
+leads place (line ∷ lines) = goes_on (step place line) lines (λ next. leads next lines)

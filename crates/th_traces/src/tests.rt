@@ -200,9 +200,9 @@ fn read_line(
 }
 
 // The entry that these lines say.
-fn entry(alloc: Global, head: Head, call: &str, reply: &str) -> Result<Entry, EntryFault> {
-    match read_entry(alloc, head, call.as_bytes(), reply.as_bytes()) {
-        Err(EntryFault::Short) => read_entry(alloc, head, call.as_bytes(), reply.as_bytes()),
+fn entry(alloc: Global, head: Head, call: &[u8], reply: &[u8]) -> Result<Entry, EntryFault> {
+    match read_entry(alloc, head, call, reply) {
+        Err(EntryFault::Short) => read_entry(alloc, head, call, reply),
         read => read,
     }
 }
@@ -212,7 +212,7 @@ fn printed_again(alloc: Global, trace: &'static str) -> Result<Vec<u8>, Fail> {
     let mut out = Vec::new(alloc);
     let mut draft = Draft::new();
     let mut begun = None;
-    let mut call = "";
+    let mut call = b"".as_slice();
     let mut entries = 0u64;
     for line in trace.lines() {
         let Some(head) = begun else {
@@ -223,9 +223,9 @@ fn printed_again(alloc: Global, trace: &'static str) -> Result<Vec<u8>, Fail> {
             continue;
         };
         if line.starts_with("C ") {
-            call = line;
+            call = line.as_bytes();
         } else if line.starts_with("R ") {
-            let entry = entry(alloc, head, call, line)?;
+            let entry = entry(alloc, head, call, line.as_bytes())?;
             if print_entry(&entry, &mut out).is_err() {
                 print_entry(&entry, &mut out)?;
             }
@@ -251,11 +251,11 @@ fn entries_are_calls_and_replies(rt: HostRuntime) -> Result<(), Fail> {
     let alloc = rt.alloc();
     let broadcast = Head::Broadcast(Version::One);
     let lagged = Entry::Broadcast(BCall::TryRecv(RxId(3)), BReply::Lagged(1));
-    assert!(rt; entry(alloc, broadcast, "C try-recv 3", "R lagged 1")? == lagged);
+    assert!(rt; entry(alloc, broadcast, b"C try-recv 3", b"R lagged 1")? == lagged);
     let value = Value::new(alloc, b" z")?;
     let back = Value::new(alloc, b" z")?;
     let refused = Entry::Watch(WCall::Send(TxId(2), value), WReply::NoReceivers(back));
-    assert!(rt; entry(alloc, Head::Watch, "C send 2  z", "R no-receivers")? == refused);
+    assert!(rt; entry(alloc, Head::Watch, b"C send 2  z", b"R no-receivers")? == refused);
     assert!(rt; Version::One.with_call(&BCall::SubscribeOldest(TxId(1))) == Version::Two);
     assert!(rt; Version::One.with_call(&BCall::Subscribe(TxId(1))) == Version::One);
     Ok(())
@@ -297,7 +297,7 @@ fn other_entries_are_bad(rt: HostRuntime) {
         ),
     ];
     for (k, (head, call, reply, fault)) in rows.into_iter().enumerate() {
-        match entry(rt.alloc(), head, call, reply) {
+        match entry(rt.alloc(), head, call.as_bytes(), reply.as_bytes()) {
             Ok(_) => assert!(rt; false, "row {k}"),
             Err(found) => assert!(rt; found == fault, "row {k}"),
         }
