@@ -21,7 +21,10 @@ module _ {T : Type 0} where
   version_with version (SubscribeOldest tx) = Two
   version_with version call = version
 
+  abbrev pub version_from : Version → List (BCall T) → Version
+  version_from version [] = version
+  version_from version (call ∷ calls) = version_from (version_with version call) calls
+
   -- the version of a trace with these calls: 2 exactly where one of them is `subscribe-oldest`
   abbrev pub version_of : List (BCall T) → Version
-  version_of [] = One
-  version_of (call ∷ calls) = version_with (version_of calls) call
+  version_of calls = version_from One calls

@@ -136,7 +136,8 @@ impl<'a> BroadcastLines<'a> {
 fn put_start(low: u64, tail: u64, next: u64, out: &mut Vec<u8>)
     requires { vec_len out.old + 3000 ≤ vec_capacity out.old }
     ensures text { out.new.items ≡ out.old.items
-        ++ ended (codes "AT " ++ (decimal low ++ 32 ∷ (decimal tail ++ (codes " NEXT " ++ decimal next)))) }
+        ++ ended (codes "AT "
+        ++ (decimal low ++ 32 ∷ (decimal tail ++ (codes " NEXT " ++ decimal next)))) }
     ensures most { vec_len out.new ≤ vec_len out.old + 3000 }
     ensures room { vec_capacity out.old ≤ vec_capacity out.new }
 {

@@ -37,7 +37,8 @@ pub fn last_value(alloc: Global, rest: Option<&[u8]>) -> Result<Value, LineFault
 
 // A number and a value as the last fields.
 pub fn number_and_value(alloc: Global, rest: Option<&[u8]>) -> Result<(u64, Value), LineFault>
-    ensures { Reads each_pair result (number_value_last (λ n value. (n, value)) (rest_of rest.entry)) }
+    ensures { Reads each_pair result
+        (number_value_last (λ n value. (n, value)) (rest_of rest.entry)) }
 {
     let Some(bytes) = rest else {
         return Err(LineFault::BadLine);
