@@ -13,7 +13,7 @@ mod cut;
 #[cfg(test)]
 mod device_tests;
 pub mod fault;
-mod fields;
+pub mod fields;
 pub mod intake;
 pub mod laws;
 mod print;

@@ -1,0 +1,15 @@
+pub mod Spelled
+pub mod Versions
+pub mod Broadcast
+pub mod Watch
+pub mod Traces
+pub mod ToCome
+pub mod Tables
+pub mod BroadcastWords
+pub mod WatchWords
+pub mod Entries
+pub mod Groups
+pub mod Drafts
+pub mod BroadcastDrafts
+pub mod WatchDrafts
+pub mod Pictures

@@ -1,0 +1,111 @@
+//! Calls of a broadcast channel, read.
+ghost use Rattle.std.specs.Prelude.{◌≡◌};
+ghost use Rattle.std.specs.Option.{option_map};
+ghost use Rattle.th_lines.specs.Fields.{by_word};
+ghost use Rattle.th_lines.specs.Reads.{Reads, rest_of};
+ghost use Rattle.th_traces.specs.BroadcastWords.{call_of, calls, gives_value, number_calls, value_given};
+ghost use Rattle.th_traces.specs.Versions.{has_call};
+
+use crate::fields::{last_number, number_and_value};
+use crate::head::Version;
+use std::alloc::Global;
+use th_lines::LineFault;
+use th_lines::fields::cut;
+use th_model::{BCall, RxId, TxId, Value};
+
+// The call that a line says in a trace of this version. Memory is asked for its value alone.
+#[tactic(auto, unfolding(crate::specs::BroadcastWords::call_of))]
+pub fn read_call(alloc: Global, version: Version, line: &[u8]) -> Result<BCall<Value>, LineFault>
+    ensures { Reads gives_value result (call_of version line.now) }
+{
+    let (letter, rest) = cut(line);
+    if letter != b"C".as_slice() {
+        return Err(LineFault::BadLine);
+    }
+    let Some(bytes) = rest else {
+        return Err(LineFault::BadLine);
+    };
+    let (word, rest) = cut(bytes);
+    match by_word(alloc, word, rest) {
+        Ok(call) if has_call(version, &call) => Ok(call),
+        Ok(_) => Err(LineFault::BadLine),
+        Err(fault) => Err(fault),
+    }
+}
+
+// Whether traces of the version have the call.
+fn has_call(version: Version, call: &BCall<Value>) -> bool
+    ensures { result ≡ has_call version call.now }
+{
+    match call {
+        BCall::SubscribeOldest(_) => version == Version::Two,
+        _ => true,
+    }
+}
+
+// The value that a call gives.
+pub fn value_given(call: &BCall<Value>) -> Option<&Value>
+    ensures { option_map (λ value. value.now) result ≡ value_given call.now }
+{
+    match call {
+        BCall::Send(_, value) => Some(value),
+        _ => None,
+    }
+}
+
+// The call of this word.
+fn by_word(alloc: Global, word: &[u8], rest: Option<&[u8]>) -> Result<BCall<Value>, LineFault>
+    ensures { Reads gives_value result (by_word calls word.now (rest_of rest.entry)) }
+{
+    if word == b"send".as_slice() {
+        return match number_and_value(alloc, rest) {
+            Ok((n, value)) => Ok(BCall::Send(TxId(n), value)),
+            Err(fault) => Err(fault),
+        };
+    }
+    match by_number(word, rest) {
+        Some(call) => Ok(call),
+        None => Err(LineFault::BadLine),
+    }
+}
+
+// The call of this word, where a handle's number alone is to follow it.
+#[tactic(auto, unfolding(crate::specs::BroadcastWords::number_calls))]
+fn by_number(word: &[u8], rest: Option<&[u8]>) -> Option<BCall<Value>>
+    ensures { result ≡ by_word number_calls word.now (rest_of rest.entry) }
+{
+    if word == b"try-recv".as_slice() {
+        return Some(BCall::TryRecv(RxId(last_number(rest)?)));
+    }
+    if word == b"recv".as_slice() {
+        return Some(BCall::Recv(RxId(last_number(rest)?)));
+    }
+    if word == b"subscribe".as_slice() {
+        return Some(BCall::Subscribe(TxId(last_number(rest)?)));
+    }
+    if word == b"subscribe-oldest".as_slice() {
+        return Some(BCall::SubscribeOldest(TxId(last_number(rest)?)));
+    }
+    if word == b"resubscribe".as_slice() {
+        return Some(BCall::Resubscribe(RxId(last_number(rest)?)));
+    }
+    if word == b"clone-tx".as_slice() {
+        return Some(BCall::CloneTx(TxId(last_number(rest)?)));
+    }
+    if word == b"drop-tx".as_slice() {
+        return Some(BCall::DropTx(TxId(last_number(rest)?)));
+    }
+    if word == b"drop-rx".as_slice() {
+        return Some(BCall::DropRx(RxId(last_number(rest)?)));
+    }
+    if word == b"queued".as_slice() {
+        return Some(BCall::Queued(TxId(last_number(rest)?)));
+    }
+    if word == b"left".as_slice() {
+        return Some(BCall::Left(RxId(last_number(rest)?)));
+    }
+    if word == b"readers".as_slice() {
+        return Some(BCall::Readers(TxId(last_number(rest)?)));
+    }
+    None
+}

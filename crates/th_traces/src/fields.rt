@@ -1,0 +1,78 @@
+//! The last fields of a line.
+ghost use Rattle.std.specs.Prelude.{◌≡◌, IfOk, OnErr, Err};
+ghost use Rattle.std.specs.Option.{option_map};
+ghost use Rattle.th_lines.specs.Fields.{number_last, number_then, value_last};
+ghost use Rattle.th_lines.specs.Reads.{Reads, each_value, rest_of};
+ghost use Rattle.th_traces.specs.Tables.{each_pair, handing, number_value_last};
+
+use std::alloc::Global;
+use th_lines::LineFault;
+use th_lines::fields::{number, number_and_rest, value};
+use th_model::Value;
+
+// A number as the last field.
+pub fn last_number(rest: Option<&[u8]>) -> Option<u64>
+    ensures { result ≡ number_last (λ n. n) (rest_of rest.entry) }
+{
+    number(rest?)
+}
+
+// Two numbers as the last fields.
+pub fn last_numbers(rest: Option<&[u8]>) -> Option<(u64, u64)>
+    ensures { result ≡ number_then (λ n. number_last (λ m. (n, m))) (rest_of rest.entry) }
+{
+    let (n, rest) = number_and_rest(rest?)?;
+    Some((n, last_number(rest)?))
+}
+
+// A value as the last field.
+pub fn last_value(alloc: Global, rest: Option<&[u8]>) -> Result<Value, LineFault>
+    ensures { Reads each_value result (value_last (λ value. value) (rest_of rest.entry)) }
+{
+    match rest {
+        Some(bytes) => value(alloc, bytes),
+        None => Err(LineFault::BadLine),
+    }
+}
+
+// A number and a value as the last fields.
+pub fn number_and_value(alloc: Global, rest: Option<&[u8]>) -> Result<(u64, Value), LineFault>
+    ensures { Reads each_pair result
+        (number_value_last (λ n value. (n, value)) (rest_of rest.entry)) }
+{
+    let Some(bytes) = rest else {
+        return Err(LineFault::BadLine);
+    };
+    let Some((n, rest)) = number_and_rest(bytes) else {
+        return Err(LineFault::BadLine);
+    };
+    match last_value(alloc, rest) {
+        Ok(value) => Ok((n, value)),
+        Err(fault) => Err(fault),
+    }
+}
+
+// The same value once more.
+pub fn share(value: &Value) -> Result<Value, LineFault>
+    ensures same { IfOk result (λ shared. shared ≡ value.now) }
+    ensures short { OnErr result (result ≡ Err LineFault.Short) }
+{
+    match value.clone() {
+        Ok(shared) => Ok(shared),
+        Err(_) => Err(LineFault::Short),
+    }
+}
+
+// The value that a call gave, handed back where nothing follows.
+pub fn handed_back(given: Option<&Value>, rest: Option<&[u8]>) -> Result<Value, LineFault>
+    ensures { let back = option_map (λ value. value.now) given.entry in
+        Reads each_value result (handing back (λ value. value) (rest_of rest.entry)) }
+{
+    let Some(value) = given else {
+        return Err(LineFault::BadLine);
+    };
+    if rest.is_some() {
+        return Err(LineFault::BadLine);
+    }
+    share(value)
+}

@@ -1,0 +1,44 @@
+//! Lines of traces: a channel's picture, and its calls with their replies, printed and read.
+//!
+//! ```text
+//! let mut text = Vec::with_capacity(alloc, 4096)?;
+//! print_broadcast_entry(&BCall::TryRecv(RxId(3)), &BReply::Lagged(1), &mut text)?;
+//!                                             // C try-recv 3, and below it: R lagged 1
+//! ```
+#![tactic(auto)]
+
+mod broadcast_call;
+mod broadcast_draft;
+pub mod broadcast_entry;
+pub mod broadcast_lines;
+mod broadcast_reply;
+pub mod draft;
+pub mod end;
+pub mod entry;
+pub mod fault;
+mod fields;
+mod groups;
+pub mod head;
+pub mod laws;
+pub mod picture;
+pub mod place;
+mod put;
+pub mod stage;
+#[cfg(test)]
+mod tests;
+mod watch_call;
+mod watch_draft;
+pub mod watch_entry;
+pub mod watch_lines;
+mod watch_reply;
+
+pub use broadcast_entry::print_broadcast_entry;
+pub use broadcast_lines::BroadcastLines;
+pub use draft::{Draft, read_picture};
+pub use end::print_end;
+pub use entry::{Entry, print_entry, read_entry};
+pub use fault::EntryFault;
+pub use head::{Head, Version};
+pub use picture::Picture;
+pub use watch_entry::print_watch_entry;
+pub use watch_lines::WatchLines;

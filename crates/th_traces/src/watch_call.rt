@@ -1,0 +1,132 @@
+//! Calls of a watch channel, read.
+ghost use Rattle.std.specs.Prelude.{◌≡◌};
+ghost use Rattle.std.specs.Option.{option_map};
+ghost use Rattle.th_lines.specs.Fields.{by_word};
+ghost use Rattle.th_lines.specs.Reads.{Reads, rest_of};
+ghost use Rattle.th_traces.specs.WatchWords.{call_of, calls, gives_value, number_calls, value_given};
+
+use crate::fields::{last_number, number_and_value};
+use std::alloc::Global;
+use th_lines::LineFault;
+use th_lines::fields::cut;
+use th_model::{Edit, RxId, TxId, Value, WCall};
+
+// The call that a line says. Memory is asked for its value alone.
+#[tactic(auto, unfolding(crate::specs::WatchWords::call_of))]
+pub fn read_call(alloc: Global, line: &[u8]) -> Result<WCall<Value>, LineFault>
+    ensures { Reads gives_value result (call_of line.now) }
+{
+    let (letter, rest) = cut(line);
+    if letter != b"C".as_slice() {
+        return Err(LineFault::BadLine);
+    }
+    let Some(bytes) = rest else {
+        return Err(LineFault::BadLine);
+    };
+    let (word, rest) = cut(bytes);
+    by_word(alloc, word, rest)
+}
+
+// The value that a call gives.
+pub fn value_given(call: &WCall<Value>) -> Option<&Value>
+    ensures { option_map (λ value. value.now) result ≡ value_given call.now }
+{
+    match call {
+        WCall::Send(_, value) => Some(value),
+        WCall::Replace(_, value) => Some(value),
+        WCall::EditBy(_, Edit::Set(value)) => Some(value),
+        WCall::EditBy(_, Edit::Differ(value)) => Some(value),
+        WCall::EditBy(_, Edit::Quiet(value)) => Some(value),
+        _ => None,
+    }
+}
+
+// The call of this word.
+fn by_word(alloc: Global, word: &[u8], rest: Option<&[u8]>) -> Result<WCall<Value>, LineFault>
+    ensures { Reads gives_value result (by_word calls word.now (rest_of rest.entry)) }
+{
+    if word == b"send".as_slice() {
+        return match number_and_value(alloc, rest) {
+            Ok((n, value)) => Ok(WCall::Send(TxId(n), value)),
+            Err(fault) => Err(fault),
+        };
+    }
+    if word == b"replace".as_slice() {
+        return match number_and_value(alloc, rest) {
+            Ok((n, value)) => Ok(WCall::Replace(TxId(n), value)),
+            Err(fault) => Err(fault),
+        };
+    }
+    if word == b"set".as_slice() {
+        return match number_and_value(alloc, rest) {
+            Ok((n, value)) => Ok(WCall::EditBy(TxId(n), Edit::Set(value))),
+            Err(fault) => Err(fault),
+        };
+    }
+    if word == b"differ".as_slice() {
+        return match number_and_value(alloc, rest) {
+            Ok((n, value)) => Ok(WCall::EditBy(TxId(n), Edit::Differ(value))),
+            Err(fault) => Err(fault),
+        };
+    }
+    if word == b"quiet".as_slice() {
+        return match number_and_value(alloc, rest) {
+            Ok((n, value)) => Ok(WCall::EditBy(TxId(n), Edit::Quiet(value))),
+            Err(fault) => Err(fault),
+        };
+    }
+    match by_number(word, rest) {
+        Some(call) => Ok(call),
+        None => Err(LineFault::BadLine),
+    }
+}
+
+// The call of this word, where a handle's number alone is to follow it.
+#[tactic(auto, unfolding(crate::specs::WatchWords::number_calls))]
+fn by_number(word: &[u8], rest: Option<&[u8]>) -> Option<WCall<Value>>
+    ensures { result ≡ by_word number_calls word.now (rest_of rest.entry) }
+{
+    if word == b"borrow".as_slice() {
+        return Some(WCall::Borrow(RxId(last_number(rest)?)));
+    }
+    if word == b"take".as_slice() {
+        return Some(WCall::Take(RxId(last_number(rest)?)));
+    }
+    if word == b"has-changed".as_slice() {
+        return Some(WCall::HasChanged(RxId(last_number(rest)?)));
+    }
+    if word == b"try-changed".as_slice() {
+        return Some(WCall::TryChanged(RxId(last_number(rest)?)));
+    }
+    if word == b"changed".as_slice() {
+        return Some(WCall::Changed(RxId(last_number(rest)?)));
+    }
+    if word == b"mark-changed".as_slice() {
+        return Some(WCall::MarkChanged(RxId(last_number(rest)?)));
+    }
+    if word == b"mark-unchanged".as_slice() {
+        return Some(WCall::MarkUnchanged(RxId(last_number(rest)?)));
+    }
+    if word == b"subscribe".as_slice() {
+        return Some(WCall::Subscribe(TxId(last_number(rest)?)));
+    }
+    if word == b"clone-rx".as_slice() {
+        return Some(WCall::CloneRx(RxId(last_number(rest)?)));
+    }
+    if word == b"clone-tx".as_slice() {
+        return Some(WCall::CloneTx(TxId(last_number(rest)?)));
+    }
+    if word == b"drop-tx".as_slice() {
+        return Some(WCall::DropTx(TxId(last_number(rest)?)));
+    }
+    if word == b"drop-rx".as_slice() {
+        return Some(WCall::DropRx(RxId(last_number(rest)?)));
+    }
+    if word == b"is-closed".as_slice() {
+        return Some(WCall::IsClosed(TxId(last_number(rest)?)));
+    }
+    if word == b"readers".as_slice() {
+        return Some(WCall::Readers(TxId(last_number(rest)?)));
+    }
+    None
+}
