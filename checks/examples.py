@@ -11,9 +11,8 @@ def example(number, path):
         for line in schedule:
             fields = line.rstrip(b"\n").split(b" ")
             reply = replies.readline()
-            if fields[1:] == [b"LIST"]:
-                for _ in range(int(reply.split()[1])):
-                    replies.readline()
+            if fields[1:2] in ([b"LIST"], [b"TRACE"]) and reply.startswith(b"OK"):
+                reply += b"".join(replies.readline() for _ in range(int(reply.split()[1])))
             if len(fields) < 2 or fields[1] == b"LIST":
                 continue
             fields[0] += b"-%d" % number

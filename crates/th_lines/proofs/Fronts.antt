@@ -2,13 +2,13 @@
 use Rattle.std.proofs.Common.{◌≡◌, ℕ, zero, suc, ◌+◌, ◌-◌, ◌<◌, Bool, true, false, List, [], ◌∷◌, ◌++◌, length, get_or, take, drop, refl, sym, ap, ◌∙◌, arith, Option, Some, None, cond, eqb, subst}
 use Rattle.std.specs.Prelude.{◌&&◌}
 use Rattle.std.specs.List.{list_all, prefix_len}
-use Rattle.std.proofs.lemmas.Bool.{eq-eqb, ne_eqb, false≢true}
+use Rattle.std.proofs.lemmas.Bool.{ne_eqb, false≢true}
 use Rattle.std.proofs.lemmas.List.{append-nil, get_or-drop, length-drop, take-append-drop}
 use Rattle.std.proofs.lemmas.List.Sums.{prefix_len_stops}
 use Rattle.std.proofs.lemmas.Option.{cond_some, none-some}
 use Rattle.th_model.specs.Names.{front_name, is_name, is_name_byte}
 use Rattle.th_lines.specs.Fields.{Rest, cut, name_then}
-use Rattle.th_lines.proofs.Grammar.{cut-field, joined, name_bytes, name-again, no_space}
+use Rattle.th_lines.proofs.Grammar.{joined, name_bytes, name-again, no_space}
 use Rattle.th_lines.proofs.Numbers.{and_both, and_parts}
 
 -- the bytes in front are a name's

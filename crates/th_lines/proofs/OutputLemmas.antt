@@ -8,7 +8,7 @@ use Rattle.std.proofs.lemmas.List.{take_all}
 use Rattle.std.specs.List.{concat}
 use Rattle.std.proofs.lemmas.List.Folds.{concat-append}
 use Rattle.th_lines.specs.Device.{one_more}
-use Rattle.th_lines.specs.Output.{Output, WritesAll, WritesFront, Adds, Writes, AddsOrFails, Flushes}
+use Rattle.th_lines.specs.Output.{Output, WritesAll, WritesFront, Adds, AddsOrFails}
 use Rattle.th_lines.proofs.ReplyLemmas.{concat-more}
 
 -- nothing came

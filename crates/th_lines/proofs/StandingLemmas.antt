@@ -1,20 +1,15 @@
 -- How a run of lines goes on, step after step.
 use Rattle.std.proofs.Common.{◌≡◌, ℕ, ◌+◌, Bool, true, false, List, [], ◌∷◌, ◌++◌, refl, sym, ap, ◌∙◌, append_assoc, append-nil, arith, length-append, add-zero, subst}
 use Rattle.std.specs.Io.KnownBytes.{Appends}
+use Rattle.std.specs.List.{concat}
+use Rattle.std.proofs.lemmas.List.Folds.{concat-append}
 use Rattle.std.proofs.KnownBytes.{Appends-trans}
 use Rattle.th_lines.specs.Intake.{Came, Reading, Finds, IsSameLine, lines_after}
 use Rattle.th_lines.specs.Lines.{Line, line_of, lines_from}
 use Rattle.th_lines.specs.Output.{Output, Adds}
-use Rattle.th_lines.specs.Replies.{spell}
-use Rattle.th_lines.specs.Standing.{Standing, Turned, Advances, Stops, Ended, spellings}
-use Rattle.th_lines.specs.declared.reply.Reply.{Reply}
+use Rattle.th_lines.specs.Standing.{Standing, Turned, Advances, Stops, Ended}
 use Rattle.th_lines.proofs.LineLemmas.{lines_from-same}
 use Rattle.th_lines.proofs.OutputLemmas.{adds_none, adds_both, front_after, front_as}
-
-pub spellings-append : (a b : List Reply) → spellings (a ++ b) ≡ spellings a ++ spellings b
-spellings-append [] b = refl
-spellings-append (r ∷ a) b =
-    ap (λ (l : List ℕ). spell r ++ l) (spellings-append a b) ∙ sym (append_assoc (spell r) (spellings a) (spellings b))
 
 -- what was written ends so after something came behind what waited
 pub ended_after : (whole : Bool) {a b : Output} {x : List ℕ} (c : Output) (y : List ℕ) → Adds x a b → Ended whole (b.waiting ++ y) b c → Ended whole (a.waiting ++ (x ++ y)) a c
@@ -32,21 +27,21 @@ pub ended_as : (whole : Bool) (o n : Output) {bytes same : List ℕ} → bytes �
 ended_as true o n e q = record { wrote = subst (λ (l : List ℕ). Appends o.written n.written l) e q.wrote; same = q.same }
 ended_as false o n e q = front_as e q
 
-module _ {S : Type 0} (turn : S → Line → Reply → S → Type 0) where
-  pub turned-append : (xs ys : List Line) (s m e : S) (a b : List Reply) → Turned turn xs s a m → Turned turn ys m b e → Turned turn (xs ++ ys) s (a ++ b) e
+module _ {S : Type 0} (turn : S → Line → List ℕ → S → Type 0) where
+  pub turned-append : (xs ys : List Line) (s m e : S) (a b : List (List ℕ)) → Turned turn xs s a m → Turned turn ys m b e → Turned turn (xs ++ ys) s (a ++ b) e
   turned-append [] ys s m e [] b p q = subst (λ (t : S). Turned turn ys t b e) p q
   turned-append [] ys s m e (r ∷ a) b p q = absurd p
   turned-append (x ∷ xs) ys s m e [] b p q = absurd p
   turned-append (x ∷ xs) ys s m e (r ∷ a) b p q = (p.0, p.1, turned-append xs ys p.0 m e a b p.2 q)
 
-module _ {S : Type 0} {turn : S → Line → Reply → S → Type 0} where
-  -- the lines are the same, and no reply was given
+module _ {S : Type 0} {turn : S → Line → List ℕ → S → Type 0} where
+  -- the lines are the same, and no text was given
   quietly : (old : Standing S) (bytes : List ℕ) (came : Came) (out : Output)
       → ((ended : Bool) (more : List ℕ) → lines_after ended old.came (bytes ++ more) ≡ lines_after ended came more)
       → Adds [] old.out out → Advances turn old bytes (record old { came = came; out = out })
   quietly old bytes came out lines said = record {
     done = [];
-    replies = [];
+    texts = [];
     lines = lines;
     turned = refl;
     counted = sym (add-zero old.answered);
@@ -66,27 +61,27 @@ module _ {S : Type 0} {turn : S → Line → Reply → S → Type 0} where
   pub both : {a b c : Standing S} {x y : List ℕ} → Advances turn a x b → Advances turn b y c → Advances turn a (x ++ y) c
   both {a} {b} {c} {x} {y} p q = record {
     done = p.done ++ q.done;
-    replies = p.replies ++ q.replies;
+    texts = p.texts ++ q.texts;
     lines = λ ended more. ap (λ (l : List ℕ). lines_after ended a.came l) (append_assoc x y more) ∙ p.lines ended (y ++ more)
         ∙ ap (λ (l : List Line). p.done ++ l) (q.lines ended more) ∙ sym (append_assoc p.done q.done _);
-    turned = turned-append turn p.done q.done a.state b.state c.state p.replies q.replies p.turned q.turned;
+    turned = turned-append turn p.done q.done a.state b.state c.state p.texts q.texts p.turned q.turned;
     counted = omega (arith, length-append p.done q.done, p.counted, q.counted);
     bound = q.bound ∙ p.bound;
-    said = subst (λ (t : List ℕ). Adds t a.out c.out) (sym (spellings-append p.replies q.replies)) (adds_both p.said q.said);
+    said = subst (λ (t : List ℕ). Adds t a.out c.out) (sym (concat-append p.texts q.texts)) (adds_both p.said q.said);
   }
 
   -- a line was handed out, and answered
-  pub answers_line : (old : Standing S) (mid : Reading) (reply : Reply) (s : S) (out : Output) → Finds old.came true mid
-      → turn old.state (line_of true mid.line) reply s → Adds (spell reply) old.out out
+  pub answers_line : (old : Standing S) (mid : Reading) (text : List ℕ) (s : S) (out : Output) → Finds old.came true mid
+      → turn old.state (line_of true mid.line) text s → Adds text old.out out
       → Advances turn old [] (record old { state = s; came = mid.came; answered = old.answered + 1; out = out })
-  answers_line old mid reply s out found t said = record {
+  answers_line old mid text s out found t said = record {
     done = line_of true mid.line ∷ [];
-    replies = reply ∷ [];
+    texts = text ∷ [];
     lines = λ ended more. found.1 ended more;
     turned = (s, t, refl);
     counted = refl;
     bound = refl;
-    said = subst (λ (l : List ℕ). Adds l old.out out) (sym (append-nil (spell reply))) said;
+    said = subst (λ (l : List ℕ). Adds l old.out out) (sym (append-nil text)) said;
   }
 
   -- no line is whole
@@ -108,11 +103,11 @@ module _ {S : Type 0} {turn : S → Line → Reply → S → Type 0} where
   stops_after {a} {b} {x} {y} {ended} {whole} {s} {out} p q = record {
     done = p.done ++ q.done;
     later = q.later;
-    replies = p.replies ++ q.replies;
+    texts = p.texts ++ q.texts;
     lines = p.lines ended y ∙ ap (λ (l : List Line). p.done ++ l) q.lines ∙ sym (append_assoc p.done q.done q.later);
-    turned = turned-append turn p.done q.done a.state b.state s p.replies q.replies p.turned q.turned;
-    said = ended_as whole a.out out (ap (λ (l : List ℕ). a.out.waiting ++ l) (sym (spellings-append p.replies q.replies)))
-        (ended_after whole out (spellings q.replies) p.said q.said);
+    turned = turned-append turn p.done q.done a.state b.state s p.texts q.texts p.turned q.turned;
+    said = ended_as whole a.out out (ap (λ (l : List ℕ). a.out.waiting ++ l) (sym (concat-append p.texts q.texts)))
+        (ended_after whole out (concat q.texts) p.said q.said);
   }
 
   -- it stopped before any further line
@@ -120,21 +115,21 @@ module _ {S : Type 0} {turn : S → Line → Reply → S → Type 0} where
   stops_here o bytes ended whole out said = record {
     done = [];
     later = lines_after ended o.came bytes;
-    replies = [];
+    texts = [];
     lines = refl;
     turned = refl;
     said = ended_as whole o.out out (sym (append-nil o.out.waiting)) said;
   }
 
-  -- it stopped with the reply to a line
-  unfoldable pub stops_at : (o : Standing S) (bytes : List ℕ) (ended whole : Bool) (line : Line) (later : List Line) (reply : Reply) (s : S) (out : Output)
-      → lines_after ended o.came bytes ≡ line ∷ later → turn o.state line reply s → Ended whole (o.out.waiting ++ spell reply) o.out out
+  -- it stopped with the text that answers a line
+  unfoldable pub stops_at : (o : Standing S) (bytes : List ℕ) (ended whole : Bool) (line : Line) (later : List Line) (text : List ℕ) (s : S) (out : Output)
+      → lines_after ended o.came bytes ≡ line ∷ later → turn o.state line text s → Ended whole (o.out.waiting ++ text) o.out out
       → Stops turn o bytes ended whole s out
-  stops_at o bytes ended whole line later reply s out e t said = record {
+  stops_at o bytes ended whole line later text s out e t said = record {
     done = line ∷ [];
     later = later;
-    replies = reply ∷ [];
+    texts = text ∷ [];
     lines = e;
     turned = (s, t, refl);
-    said = ended_as whole o.out out (ap (λ (l : List ℕ). o.out.waiting ++ l) (sym (append-nil (spell reply)))) said;
+    said = ended_as whole o.out out (ap (λ (l : List ℕ). o.out.waiting ++ l) (sym (append-nil text))) said;
   }

@@ -145,6 +145,96 @@ fn nothing_waits_so_the_writer_is_not_called(rt: HostRuntime) -> Result<(), Fail
     Ok(())
 }
 
+/// Rows of eight bytes, each a piece of its own.
+#[derive(Drop)]
+struct Rows<'a> {
+    rest: &'a [[u8; 8]],
+}
+
+impl<'a> Lines for Rows<'a> {
+    ghost to_come = { λ r. r.rest.now };
+
+    fn print_next(&mut self, out: &mut Vec<u8>) -> Result<bool, AllocError> {
+        let Some((row, rest)) = self.rest.split_first() else {
+            return Ok(false);
+        };
+        out.extend_from_slice(row)?;
+        self.rest = rest;
+        Ok(true)
+    }
+}
+
+/// Row `k`, of which each has bytes of its own.
+fn row(k: u32) -> [u8; 8] {
+    let number = k.to_be_bytes();
+    [
+        b'r', b'o', b'w', number[0], number[1], number[2], number[3], b'\n',
+    ]
+}
+
+/// So many rows.
+fn numbered_rows(alloc: Global, count: u32) -> Result<Vec<[u8; 8]>, AllocError> {
+    let mut rows = Vec::new(alloc);
+    for k in 0..count {
+        rows.push(row(k))?;
+    }
+    Ok(rows)
+}
+
+/// The text of a reply and of so many rows.
+fn done_and_rows(alloc: Global, count: u32) -> Result<Vec<u8>, AllocError> {
+    let mut text = Vec::new(alloc);
+    text.extend_from_slice(b"OK\n")?;
+    for k in 0..count {
+        text.extend_from_slice(&row(k))?;
+    }
+    Ok(text)
+}
+
+#[test]
+fn lines_are_written_behind_what_waits(rt: HostRuntime) -> Result<(), Fail> {
+    for (count, waits) in [
+        (0, true),
+        (1, true),
+        (7_000, true),
+        (10_000, false),
+        (20_000, false),
+    ] {
+        let rows = numbered_rows(rt.alloc(), count)?;
+        let mut lines = Rows {
+            rest: rows.as_slice(),
+        };
+        let mut writer = Counted::new(Device::new(rt.alloc(), b"", 1, 1_000));
+        let mut out = WriteBuffer::new(rt.alloc())?;
+        assert!(rt; out.append(&mut writer, &Reply::Done).is_ok());
+        assert!(rt;
+            out.append_lines(&mut writer, &mut lines).is_ok(),
+            "{count} rows"
+        );
+        assert!(rt;
+            lines.rest.is_empty() && waits == (writer.calls() == 0),
+            "{count} rows"
+        );
+        assert!(rt; out.flush(&mut writer).is_ok() && writer.failures() == 0);
+        let text = writer.into_device().text;
+        assert!(rt; text == done_and_rows(rt.alloc(), count)?, "{count} rows");
+    }
+    Ok(())
+}
+
+#[test]
+fn lines_that_are_not_written_are_told(rt: HostRuntime) -> Result<(), Fail> {
+    let rows = numbered_rows(rt.alloc(), 10_000)?;
+    let mut lines = Rows {
+        rest: rows.as_slice(),
+    };
+    let mut writer = Counted::new(Device::new(rt.alloc(), b"", 0, 0));
+    let mut out = WriteBuffer::new(rt.alloc())?;
+    assert!(rt; out.append_lines(&mut writer, &mut lines) == Err(WriteFailed));
+    assert!(rt; writer.calls() == 1 && writer.failures() == 1);
+    Ok(())
+}
+
 /// A line as it is told: its bytes and `|`, or `long|`.
 fn tell(told: &mut Vec<u8>, line: Option<&[u8]>) -> Result<(), AllocError> {
     told.extend_from_slice(line.unwrap_or(b"long"))?;

@@ -6,6 +6,7 @@ ghost use Rattle.th_lines.specs.Replies.{ended, row, spell};
 
 use crate::counted::{Counted, Moved};
 use crate::fault::WriteFailed;
+use crate::lines::Lines;
 use crate::print::{print_head, print_row};
 use crate::reply::Reply;
 use std::alloc::{AllocError, Global};
@@ -16,7 +17,7 @@ use th_model::Listed;
 /// How many bytes wait at most.
 const ROOM: usize = 65536;
 
-/// The most bytes that one line of a reply takes.
+/// The most bytes that one line of a reply takes, or one piece of lines.
 const LINE_ROOM: usize = 4096;
 
 /// How many interrupted calls of the writer are made again in one run.
@@ -81,6 +82,22 @@ impl WriteBuffer {
         Ok(())
     }
 
+    /// Puts lines behind what waits, piece by piece, so that a text of any length takes no more memory.
+    ///
+    /// # Errors
+    ///
+    /// The writer failed, and a front of what waited and the lines was written.
+    pub fn append_lines<W: Write, L: Lines>(
+        &mut self,
+        writer: &mut Counted<W>,
+        lines: &mut L,
+    ) -> Result<(), WriteFailed>
+        ensures { AddsOrFails (concat (L.to_come lines.old))
+            (output W.contents writer.old self.old) (output W.contents writer.new self.new) result }
+    {
+        append_pieces(&mut self.waiting, &mut self.retries, writer, lines)
+    }
+
     /// Writes all that waits and flushes the writer, so that whoever reads the replies has them all. Where nothing
     /// waits the writer is not called.
     ///
@@ -120,7 +137,33 @@ fn append_rows<W: Write>(
     Ok(())
 }
 
-// Writes all that waits, where there may be no room for one more line.
+// Puts the pieces that are to come behind what waits.
+fn append_pieces<W: Write, L: Lines>(
+    waiting: &mut Vec<u8>,
+    retries: &mut u32,
+    writer: &mut Counted<W>,
+    lines: &mut L,
+) -> Result<(), WriteFailed>
+    requires { LINE_ROOM ≤ vec_capacity waiting.old }
+    ensures added { AddsOrFails (concat (L.to_come lines.old))
+        (output W.contents writer.old waiting.old.items)
+        (output W.contents writer.new waiting.new.items) result }
+    ensures room { LINE_ROOM ≤ vec_capacity waiting.new }
+{
+    loop {
+        match make_room(waiting, retries, writer) {
+            Ok(()) => {}
+            Err(e) => return Err(e),
+        }
+        match lines.print_next(waiting) {
+            Ok(true) => {}
+            Ok(false) => return Ok(()),
+            Err(_) => unreachable!(),
+        }
+    }
+}
+
+// Writes all that waits, where there may be no room for one more line or piece.
 #[inline(always)]
 fn make_room<W: Write>(
     waiting: &mut Vec<u8>,

@@ -58,6 +58,7 @@ Commands on topics of both kinds:
   PUB t value           send
   READERS t             how many receivers t has
   END t                 spend the hub's own sender, which t was opened with
+  TRACE t               tell what happened on t since its last TRACE
 
 On a broadcast topic:
   TRY t                 receive, if there is anything
@@ -89,7 +90,8 @@ Replies, one for each line:
   OK n                  OPEN: the capacity in force (of a watch topic 1); PUB on
                         a broadcast topic: how many receivers will get the
                         value; LEFT, QUEUED, READERS: how many; LIST: how many
-                        topics, and below it a line for each, `t B` or `t W`
+                        topics, and below it a line for each, `t B` or `t W`;
+                        TRACE: how many lines, and below it the trace
   VAL value             the next value
   LAG n                 n values were missed; the oldest one left comes next
   EMPTY, NOTYET         nothing is there yet
@@ -117,6 +119,7 @@ Refusals:
   19 too-many           a 1025th topic or actor, or no further handle
   20 exhausted          the last position or version is reached
   21 no-memory          memory was refused
+  22 log-full           the topic's log is full; a TRACE makes room
   23 long-line          more than 4096 bytes
 
 At most 1000000 lines. Exit status as in `topichub --help`.";

@@ -1,5 +1,6 @@
 pub mod Events
 pub mod Openings
+pub mod Spending
 pub mod Seeing
 pub mod LiveNumbers
 pub mod LiveBroadcast
@@ -7,3 +8,7 @@ pub mod LiveWatch
 pub mod LiveChannel
 pub mod LiveTopics
 pub mod LiveReplies
+pub mod LegalHistory
+pub mod LegalChannel
+pub mod LegalTopics
+pub mod LegalEnds

@@ -1,5 +1,5 @@
 -- Which refusal an opening meets, and what it adds.
-use Rattle.std.proofs.Common.{◌≡◌, ℕ, zero, suc, ◌^◌, ◌<◌, ◌≤◌, Bool, true, false, cond, nat_eq, nat_lt, [], ◌∷◌, ◌++◌, length, Option, Some, None, is_some, slice_get, position, Ok, Err, IsOk, inr, refl, sym, ap, subst, ◌∙◌, true≢false, arith}
+use Rattle.std.proofs.Common.{◌≡◌, ℕ, zero, suc, ◌+◌, ◌^◌, ◌<◌, ◌≤◌, Bool, true, false, cond, nat_eq, nat_lt, [], ◌∷◌, ◌++◌, length, Option, Some, None, is_some, slice_get, position, Ok, Err, IsOk, inr, refl, sym, ap, subst, ◌∙◌, true≢false, arith}
 use Rattle.std.specs.Option.{option_map}
 use Rattle.std.specs.Map.{keys_of, lookup}
 use Rattle.std.specs.Cmp.Lexicographic.{pointwise}
@@ -45,29 +45,29 @@ module _ {B W : Type 0} where
   insert-new ts name c h = insert_entry-absent (pointwise nat_eq) name c ts (absent_from_lookup (pointwise nat_eq name) ts (none-of _ (sym (is-found ts name) ∙ h)))
 
 module _ {B W : Type 0} (m : Machines B W) (ts : Topics B W) (name : Bytes) (new : is_some (find ts name) ≡ false) where
-  opens : (making : Making) (x : Option (ℕ × Channel B W)) → made m making ≡ x → open_topic m ts name making ≡ added ts name x
-  opens making x e = ap (λ b. cond b (Err Refusals.Exists, ts) (added ts name (made m making))) new ∙ ap (added ts name) e
+  opens : (making : Making) (x : Option (ℕ × Channel B W)) → made m (length ts + 1) making ≡ x → open_topic m ts name making ≡ added ts name x
+  opens making x e = ap (λ b. cond b (Err Refusals.Exists, ts) (added ts name (made m (length ts + 1) making))) new ∙ ap (added ts name) e
 
   -- of a making that gives this channel and this number
-  pub opens-full : (making : Making) (n : ℕ) (c : Channel B W) → made m making ≡ Some (n, c) → most_topics ≤ length ts → open_topic m ts name making ≡ (Err Refusals.TooManyTopics, ts)
+  pub opens-full : (making : Making) (n : ℕ) (c : Channel B W) → made m (length ts + 1) making ≡ Some (n, c) → most_topics ≤ length ts → open_topic m ts name making ≡ (Err Refusals.TooManyTopics, ts)
   opens-full making n c e full =
       opens making _ e
       ∙ ap (λ b. cond b (Err Refusals.TooManyTopics, ts) (Ok n, ts ++ (name, c) ∷ [])) (le-leb most_topics (length ts) full)
 
-  pub opens-new : (making : Making) (n : ℕ) (c : Channel B W) → made m making ≡ Some (n, c) → length ts < most_topics → open_topic m ts name making ≡ (Ok n, ts ++ (name, c) ∷ [])
+  pub opens-new : (making : Making) (n : ℕ) (c : Channel B W) → made m (length ts + 1) making ≡ Some (n, c) → length ts < most_topics → open_topic m ts name making ≡ (Ok n, ts ++ (name, c) ∷ [])
   opens-new making n c e room =
       opens making _ e
       ∙ ap (λ b. cond b (Err Refusals.TooManyTopics, ts) (Ok n, ts ++ (name, c) ∷ [])) (lt-leb most_topics (length ts) room)
 
   -- want of memory is told only where the topic would be opened
-  pub opens-short : (making : Making) (n : ℕ) (c : Channel B W) → made m making ≡ Some (n, c) → length ts < most_topics → (after : Topics B W) → after ≡ ts → Says m ts (Open name making) (Err Refusals.Short) after
+  pub opens-short : (making : Making) (n : ℕ) (c : Channel B W) → made m (length ts + 1) making ≡ Some (n, c) → length ts < most_topics → (after : Topics B W) → after ≡ ts → Says m ts (Open name making) (Err Refusals.Short) after
   opens-short making n c e room after same = inr (refl, same, subst (λ r. IsOk r.0) (sym (opens-new making n c e room)) refl)
 
-  pub opens-bad : (making : Making) → made m making ≡ None → open_topic m ts name making ≡ (Err Refusals.BadCapacity, ts)
+  pub opens-bad : (making : Making) → made m (length ts + 1) making ≡ None → open_topic m ts name making ≡ (Err Refusals.BadCapacity, ts)
   opens-bad making e = opens making None e
 
 -- the channel of a making
-module _ {B W : Type 0} (m : Machines B W) (asked base : ℕ) where
+module _ {B W : Type 0} (m : Machines B W) (key asked base : ℕ) where
   abbrev making : Making
   making = Makings.BroadcastAt asked base
 
@@ -75,10 +75,10 @@ module _ {B W : Type 0} (m : Machines B W) (asked base : ℕ) where
   none-either true o e = e
   none-either false o e = refl
 
-  pub made-none : capacity_of asked ≡ None → made m making ≡ None
-  made-none e = none-either (nat_lt base (2 ^ 64)) _ (ap (option_map (λ c. (c, Broadcast (m.broadcast_opened c base)))) e)
+  pub made-none : capacity_of asked ≡ None → made m key making ≡ None
+  made-none e = none-either (nat_lt base (2 ^ 64)) _ (ap (option_map (λ c. (c, Broadcast (m.broadcast_opened c base key)))) e)
 
-  pub made-some : (c : ℕ) → base < 2 ^ 64 → capacity_of asked ≡ Some c → made m making ≡ Some (c, Broadcast (m.broadcast_opened c base))
+  pub made-some : (c : ℕ) → base < 2 ^ 64 → capacity_of asked ≡ Some c → made m key making ≡ Some (c, Broadcast (m.broadcast_opened c base key))
   made-some c fits e =
-      ap (λ o. cond (nat_lt base (2 ^ 64)) (option_map (λ c. (c, Broadcast (m.broadcast_opened c base))) o) None) e
-      ∙ ap (λ b. cond b (Some (c, Broadcast (m.broadcast_opened c base))) None) (lt-ltb base (2 ^ 64) fits)
+      ap (λ o. cond (nat_lt base (2 ^ 64)) (option_map (λ c. (c, Broadcast (m.broadcast_opened c base key))) o) None) e
+      ∙ ap (λ b. cond b (Some (c, Broadcast (m.broadcast_opened c base key))) None) (lt-ltb base (2 ^ 64) fits)

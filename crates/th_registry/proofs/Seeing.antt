@@ -11,7 +11,14 @@ use Rattle.std.proofs.Math.Pow.{pow_mono}
 use Rattle.std.proofs.Math.Nat.{pow-succ'}
 use Rattle.indexmap.specs.IndexMap.{set_value_at}
 use Rattle.th_model.specs.declared.broadcast.BCall.{BCall}
+use Rattle.th_model.specs.declared.watch.WCall.{WCall}
 use Rattle.th_model.specs.Handles.{is_sender}
+use Rattle.th_model.specs.Live.{live_handles, live_watchers}
+use Rattle.th_model.specs.Places.{place_of}
+use Rattle.th_model.specs.WatchMachine.{reader_of}
+use Rattle.std.proofs.lemmas.Map.Made.{lookup-map_values}
+use Rattle.std.specs.BTreeMap.{is_at}
+use Rattle.std.specs.Ordering.{nat_cmp}
 use Rattle.th_model.specs.Limits.{IsCapacity, doubled, capacity_of}
 use Rattle.th_model.specs.declared.broadcast.BCall.TheVariants as BCalls
 use Rattle.th_model.specs.declared.broadcast.BReply.{BReply}
@@ -19,9 +26,9 @@ use Rattle.th_model.specs.declared.watch.WReply.{WReply}
 use Rattle.th_model.specs.declared.kind.Kind.{Kind}
 use Rattle.th_model.specs.declared.handles.RxId.{RxId}
 use Rattle.th_model.specs.BroadcastMachine as broadcast
-use Rattle.th_model.specs.BroadcastPicture as seen_broadcast
+use Rattle.th_model.specs.BroadcastPicture as broadcast_picture
 use Rattle.th_model.specs.WatchMachine as watch
-use Rattle.th_model.specs.WatchPicture as seen_watch
+use Rattle.th_model.specs.WatchPicture as watch_picture
 use Rattle.th_model.proofs.BroadcastSeen as broadcast_seen
 use Rattle.th_model.proofs.BroadcastProperness as broadcast_proper
 use Rattle.th_model.proofs.BroadcastProperness.{cond_case}
@@ -37,11 +44,12 @@ use Rattle.th_model.specs.declared.making.Making.TheVariants as Makings
 use Rattle.th_registry.specs.declared.opening.Refusal.{Refusal}
 use Rattle.th_registry.specs.declared.opening.Refusal.TheVariants as Refusals
 use Rattle.th_registry.specs.Calls.{Bytes}
-use Rattle.th_registry.specs.Events.{Event, Binds, Subscribes, Sends, Asks, Receives, Resubscribes, DropsTx, DropsRx, Told, broadcast_call, broadcast_waits, is_by_hub, is_hub, watch_call, watch_waits}
+use Rattle.th_registry.specs.Events.{Event, Binds, Subscribes, Sends, Asks, Receives, Resubscribes, DropsTx, DropsRx, Hub, Own, broadcast_call, broadcast_waits, is_hub, watch_call, watch_waits}
+use Rattle.th_registry.specs.History.{History, is_full, recorded}
 use Rattle.th_registry.specs.Kinds.{kind_of}
-use Rattle.th_registry.specs.Hub.{Find, List, Open, On, most_topics, found_in, found_at, find, list, written, on_channel, added, made_broadcast, made, open_topic, replies, broadcast_replies, moved, broadcast_event, watch_event, as_broadcast, as_watch, channel_event, say}
-use Rattle.th_registry.specs.Endless.{EndlessChannel, EndlessTopics, endless, IsProperChannel, AreProper}
-use Rattle.th_registry.specs.Pictures.{SeenChannel, SeenTopics, pictures, see_channel, see_topics}
+use Rattle.th_registry.specs.Hub.{ChannelMachine, Find, List, Open, On, Cut, most_topics, found_in, found_at, find, list, written, on_channel, at_topic, added, made_broadcast, made, open_topic, replies, if_live, broadcast_replies, moved, broadcast_event, watch_replies, watch_event, as_broadcast, as_watch, channel_event, cut_channel}
+use Rattle.th_registry.specs.Endless.{EndlessBroadcast, EndlessChannel, EndlessTopics, EndlessWatch, endless, endless_broadcast, endless_watch, IsProperChannel, AreProper}
+use Rattle.th_registry.specs.Pictures.{SeenBroadcast, SeenChannel, SeenTopics, SeenWatch, pictures, seen_broadcast, seen_watch, with_state, see_channel, see_topics}
 use Rattle.th_registry.specs.Laws.{SaysWhatIsSeen, StaysProper}
 
 -- finding
@@ -82,15 +90,18 @@ list-seen (t ∷ ts) = (λ i. (record { name = t.0; kind = kind-seen t.1 i }) �
 abbrev see_made : ℕ × EndlessChannel → ℕ × SeenChannel
 see_made x = (x.0, see_channel x.1)
 
-made_of-seen : (base : ℕ) (b : Bool) (o : Option ℕ) → cond b (option_map (λ c. (c, Broadcast (pictures.broadcast_opened c base))) o) None ≡ option_map see_made (cond b (option_map (λ c. (c, Broadcast (endless.broadcast_opened c base))) o) None)
-made_of-seen base true None = refl
-made_of-seen base true (Some c) = refl
-made_of-seen base false o = refl
+module _ (limit key : ℕ) where
+  made_of-seen : (base : ℕ) (b : Bool) (o : Option ℕ) →
+      cond b (option_map (λ c. (c, Broadcast ((pictures limit).broadcast_opened c base key))) o) None
+      ≡ option_map see_made (cond b (option_map (λ c. (c, Broadcast ((endless limit).broadcast_opened c base key))) o) None)
+  made_of-seen base true None = refl
+  made_of-seen base true (Some c) = refl
+  made_of-seen base false o = refl
 
-made-seen : (making : Making) → made pictures making ≡ option_map see_made (made endless making)
-made-seen (Makings.Broadcast asked) = made_of-seen 0 (nat_lt 0 (2 ^ 64)) (capacity_of asked)
-made-seen (Makings.BroadcastAt asked base) = made_of-seen base (nat_lt base (2 ^ 64)) (capacity_of asked)
-made-seen (Makings.Watch value) = refl
+  made-seen : (making : Making) → made (pictures limit) key making ≡ option_map see_made (made (endless limit) key making)
+  made-seen (Makings.Broadcast asked) = made_of-seen 0 (nat_lt 0 (2 ^ 64)) (capacity_of asked)
+  made-seen (Makings.BroadcastAt asked base) = made_of-seen base (nat_lt base (2 ^ 64)) (capacity_of asked)
+  made-seen (Makings.Watch value) = refl
 
 see_added : (ts : EndlessTopics) (name : Bytes) (c : EndlessChannel) → see_topics ts ++ (name, see_channel c) ∷ [] ≡ see_topics (ts ++ (name, c) ∷ [])
 see_added ts name c = sym (map-append see_topic ts ((name, c) ∷ []))
@@ -125,146 +136,258 @@ open_if-seen : (ts : EndlessTopics) (name : Bytes) (o : Option (ℕ × EndlessCh
 open_if-seen ts name o true = refl
 open_if-seen ts name o false = added-seen ts name o
 
-open-seen : (ts : EndlessTopics) (name : Bytes) (making : Making) → open_topic pictures (see_topics ts) name making ≡ see_opened (open_topic endless ts name making)
-open-seen ts name making =
-    ap (λ f. cond (is_some f) (refused Refusals.Exists (see_topics ts)) (added (see_topics ts) name (made pictures making))) (find-seen ts name)
-    ∙ ap (λ o. cond (is_some (find ts name)) (refused Refusals.Exists (see_topics ts)) (added (see_topics ts) name o)) (made-seen making)
-    ∙ open_if-seen ts name (made endless making) (is_some (find ts name))
+open-seen : (limit : ℕ) (ts : EndlessTopics) (name : Bytes) (making : Making) →
+    open_topic (pictures limit) (see_topics ts) name making ≡ see_opened (open_topic (endless limit) ts name making)
+open-seen limit ts name making =
+    ap (λ f. cond (is_some f) (refused Refusals.Exists (see_topics ts)) (added (see_topics ts) name (made (pictures limit) (length (see_topics ts) + 1) making))) (find-seen ts name)
+    ∙ ap (λ n. cond (is_some (find ts name)) (refused Refusals.Exists (see_topics ts)) (added (see_topics ts) name (made (pictures limit) (n + 1) making))) (length-map ts see_topic)
+    ∙ ap (λ o. cond (is_some (find ts name)) (refused Refusals.Exists (see_topics ts)) (added (see_topics ts) name o)) (made-seen limit (length ts + 1) making)
+    ∙ open_if-seen ts name (made (endless limit) (length ts + 1) making) (is_some (find ts name))
 
 -- events
-
--- what is said, and what is seen of the channel
-abbrev see_told : Told × EndlessChannel → Told × SeenChannel
-see_told s = (s.0, see_channel s.1)
 
 -- what was replied, and the channel after it
 abbrev Replies : Type 0 → Type 0 → Type 0
 Replies R C = Result R NoEvent × C
 
-abbrev see_broadcast : Replies (BReply Bytes) (broadcast.Endless Bytes) → Replies (BReply Bytes) (seen_broadcast.Picture Bytes)
-see_broadcast s = (s.0, seen_broadcast.see s.1)
+-- what is seen of a history, by what is seen of its state
+abbrev see_history : {E S C R : Type 0} → (E → S) → History E S C R → History S S C R
+see_history see h = with_state h (see h.state)
 
-abbrev see_watch : Replies (WReply Bytes) (watch.Endless Bytes) → Replies (WReply Bytes) (seen_watch.Picture Bytes)
-see_watch s = (s.0, seen_watch.see s.1)
+abbrev see_broadcast : EndlessBroadcast → SeenBroadcast
+see_broadcast h = see_history broadcast_picture.see h
 
--- one call, or that it would wait
-abbrev called : {C R : Type 0} → Bool → C → R × C → Replies R C
-called waits c s = cond waits (Err NoEvents.Blocked, c) (Ok s.0, s.1)
+abbrev see_watch : EndlessWatch → SeenWatch
+see_watch h = see_history watch_picture.see h
 
-called-seen : {C D R : Type 0} (see : C → D) (c : C) (s : R × C) (waits : Bool) →
-    called waits (see c) (s.0, see s.1) ≡ ((called waits c s).0, see (called waits c s).1)
-called-seen see c s true = refl
-called-seen see c s false = refl
+-- and of what was replied
+abbrev after_reply : {R C D : Type 0} → (C → D) → Replies R C → Replies R D
+after_reply see s = (s.0, see s.1)
 
-replies-seen : {C D K R : Type 0} (see : C → D) (step : C → K → R × C) (answer : D → K → R × D) (waits : K → R → Bool) (no_sender : Bool) (c : C) (call : Option K) →
-    ((k : K) → answer (see c) k ≡ ((step c k).0, see (step c k).1)) →
-    replies answer waits no_sender (see c) call ≡ ((replies step waits no_sender c call).0, see (replies step waits no_sender c call).1)
-replies-seen see step answer waits no_sender c None seen = refl
-replies-seen see step answer waits true c (Some call) seen = refl
-replies-seen see step answer waits false c (Some call) seen =
-    ap (λ s. called (waits call s.0) (see c) s) (seen call) ∙ called-seen see c (step c call) (waits call (step c call).0)
+-- one call; or that it would wait, or that the log is full
+abbrev called : {C R : Type 0} → (waits full : Bool) → C → R × C → Replies R C
+called waits full c s = cond waits (Err NoEvents.Blocked, c) (cond full (Err NoEvents.LogFull, c) (Ok s.0, s.1))
 
-proper-replies : {C K R : Type 0} (P : C → Type 0) (step : C → K → R × C) (waits : K → R → Bool) (no_sender : Bool) (c : C) (call : Option K) →
-    P c → ((k : K) → P (step c k).1) → P (replies step waits no_sender c call).1
-proper-replies P step waits no_sender c None before after = before
-proper-replies P step waits true c (Some call) before after = before
-proper-replies {R = R} P step waits false c (Some call) before after =
-    cond_case (λ (s : Replies R _). P s.1) (waits call (step c call).0) _ _ (λ _. before) (λ _. after call)
+called-seen : {C D R : Type 0} (see : C → D) (c : C) (s : R × C) (waits full : Bool) →
+    called waits full (see c) (s.0, see s.1) ≡ after_reply see (called waits full c s)
+called-seen see c s true full = refl
+called-seen see c s false true = refl
+called-seen see c s false false = refl
 
--- the senders are seen as they are
-senders-seen : (e : broadcast.Endless Bytes) → (seen_broadcast.see e).senders ≡ e.senders
-unfolding seen_broadcast.see
+if_live-seen : {C D R : Type 0} (see : C → D) (live : Bool) (c : C) (s : Replies R C) →
+    if_live live (see c) (after_reply see s) ≡ after_reply see (if_live live c s)
+if_live-seen see true c s = refl
+if_live-seen see false c s = refl
+
+module _ {C D K R P : Type 0} (see : C → D) (m : ChannelMachine C K R P) (p : ChannelMachine D K R P) (waits : K → R → Bool)
+    (c : C) (seen : (k : K) → p.step (see c) k ≡ ((m.step c k).0, see (m.step c k).1))
+    (full : (k : K) → p.is_full (see c) k ≡ m.is_full c k) where
+  replies-seen : (no_sender : Bool) (call : Option K) →
+      replies p waits no_sender (see c) call ≡ after_reply see (replies m waits no_sender c call)
+  replies-seen no_sender None = refl
+  replies-seen true (Some call) = refl
+  replies-seen false (Some call) =
+      ap (λ s. called (waits call s.0) (p.is_full (see c) call) (see c) s) (seen call)
+      ∙ ap (λ f. called (waits call (m.step c call).0) f (see c) ((m.step c call).0, see (m.step c call).1)) (full call)
+      ∙ called-seen see c (m.step c call) (waits call (m.step c call).0) (m.is_full c call)
+
+module _ {C K R P : Type 0} (Q : C → Type 0) (m : ChannelMachine C K R P) (waits : K → R → Bool) (c : C) (before : Q c)
+    (after : (k : K) → Q (m.step c k).1) where
+  proper-replies : (no_sender : Bool) (call : Option K) → Q (replies m waits no_sender c call).1
+  proper-replies no_sender None = before
+  proper-replies true (Some call) = before
+  proper-replies false (Some call) =
+      cond_case (λ (s : Replies R C). Q s.1) (waits call (m.step c call).0) _ _ (λ _. before)
+      (λ _. cond_case (λ (s : Replies R C). Q s.1) (m.is_full c call) _ _ (λ _. before) (λ _. after call))
+
+  proper-if_live : (live : Bool) (s : Replies R C) → Q s.1 → Q (if_live live c s).1
+  proper-if_live true s h = h
+  proper-if_live false s h = before
+
+-- live handles are seen as they are
+senders-seen : (e : broadcast.Endless Bytes) → (broadcast_picture.see e).senders ≡ e.senders
+unfolding broadcast_picture.see
 senders-seen e = refl
 
-watch_senders-seen : (e : watch.Endless Bytes) → (seen_watch.see e).senders ≡ e.senders
-unfolding seen_watch.see
+places-seen : (e : broadcast.Endless Bytes) → (broadcast_picture.see e).window.places ≡ e.index
+unfolding broadcast_picture.see
+places-seen e = refl
+
+watch_senders-seen : (e : watch.Endless Bytes) → (watch_picture.see e).senders ≡ e.senders
+unfolding watch_picture.see
 watch_senders-seen e = refl
 
-module _ (e : broadcast.Endless Bytes) (proper : broadcast.IsProper e) where
+is_some-mapped : {X Y : Type 0} (f : X → Y) (o : Option X) → is_some (option_map f o) ≡ is_some o
+is_some-mapped f None = refl
+is_some-mapped f (Some x) = refl
+
+readers-seen : (e : watch.Endless Bytes) (r : ℕ) → is_some (reader_of (watch_picture.see e).readers r) ≡ is_some (reader_of e.marks r)
+unfolding watch_picture.see
+readers-seen e r =
+    let unseen : ℕ → Bool = λ mark. nat_lt mark (watch.version_of e) in
+    ap is_some (lookup-map_values unseen (is_at (nat_cmp r)) e.marks) ∙ is_some-mapped unseen (reader_of e.marks r)
+
+module _ (h : EndlessBroadcast) (proper : broadcast.IsProper h.state) where
+  step-seen : (call : BCall Bytes) → seen_broadcast.step (see_broadcast h) call ≡ ((endless_broadcast.step h call).0, see_broadcast (endless_broadcast.step h call).1)
+  step-seen call = ap (recorded (see_broadcast h) call) (broadcast_seen.answer_seen h.state call proper)
+
+  full-seen : (call : BCall Bytes) → seen_broadcast.is_full (see_broadcast h) call ≡ endless_broadcast.is_full h call
+  full-seen call = ap (λ (s : BReply Bytes × broadcast_picture.Picture Bytes). is_full (see_broadcast h) (live_handles s.1)) (broadcast_seen.answer_seen h.state call proper)
+
+  stays : (call : BCall Bytes) → broadcast.IsProper (endless_broadcast.step h call).1.state
+  stays call = broadcast_proper.step_proper h.state call proper
+
   broadcast_replies-seen : (by_hub : Bool) (call : Option (BCall Bytes)) →
-      broadcast_replies pictures (seen_broadcast.see e) by_hub call ≡ see_broadcast (broadcast_replies endless e by_hub call)
+      broadcast_replies seen_broadcast (see_broadcast h) by_hub call ≡ after_reply see_broadcast (broadcast_replies endless_broadcast h by_hub call)
   broadcast_replies-seen by_hub call =
-      ap (λ ks. replies pictures.broadcast broadcast_waits (by_hub && not (is_sender ks 1)) (seen_broadcast.see e) call) (senders-seen e)
-      ∙ replies-seen seen_broadcast.see endless.broadcast pictures.broadcast broadcast_waits (by_hub && not (is_sender e.senders 1)) e call (λ k. broadcast_seen.answer_seen e k proper)
+      ap (λ ks. replies seen_broadcast broadcast_waits (by_hub && not (is_sender ks 1)) (see_broadcast h) call) (senders-seen h.state)
+      ∙ replies-seen see_broadcast endless_broadcast seen_broadcast broadcast_waits h step-seen full-seen (by_hub && not (is_sender h.state.senders 1)) call
 
-  proper-broadcast_replies : (by_hub : Bool) (call : Option (BCall Bytes)) → broadcast.IsProper (broadcast_replies endless e by_hub call).1
+  proper-broadcast_replies : (by_hub : Bool) (call : Option (BCall Bytes)) → broadcast.IsProper (broadcast_replies endless_broadcast h by_hub call).1.state
   proper-broadcast_replies by_hub call =
-      proper-replies broadcast.IsProper endless.broadcast broadcast_waits (by_hub && not (is_sender e.senders 1)) e call proper (λ k. broadcast_proper.step_proper e k proper)
+      proper-replies (λ (h : EndlessBroadcast). broadcast.IsProper h.state) endless_broadcast broadcast_waits h proper stays (by_hub && not (is_sender h.state.senders 1)) call
 
-moved-seen : (r : RxId) (s : Replies (BReply Bytes) (broadcast.Endless Bytes)) → broadcast.IsProper s.1 →
-    moved pictures r (see_broadcast s) ≡ see_broadcast (moved endless r s)
-moved-seen r (Ok (BReplies.NewRx new), e) proper =
-    ap (λ s. (Ok (BReplies.NewRx new), s.1)) (broadcast_seen.answer_seen e (BCalls.DropRx r) proper)
-moved-seen r (Ok (BReplies.NewTx t), e) proper = refl
-moved-seen r (Ok (BReplies.Sent n), e) proper = refl
-moved-seen r (Ok (BReplies.NoReceivers v), e) proper = refl
-moved-seen r (Ok (BReplies.Exhausted v), e) proper = refl
-moved-seen r (Ok (BReplies.Value v), e) proper = refl
-moved-seen r (Ok BReplies.Empty, e) proper = refl
-moved-seen r (Ok BReplies.Closed, e) proper = refl
-moved-seen r (Ok (BReplies.Lagged n), e) proper = refl
-moved-seen r (Ok (BReplies.Count n), e) proper = refl
-moved-seen r (Ok BReplies.Done, e) proper = refl
-moved-seen r (Ok BReplies.TooMany, e) proper = refl
-moved-seen r (Ok (BReplies.NoHandle v), e) proper = refl
-moved-seen r (Err why, e) proper = refl
+moved-seen : (r : RxId) (s : Replies (BReply Bytes) EndlessBroadcast) → broadcast.IsProper s.1.state →
+    moved seen_broadcast r (after_reply see_broadcast s) ≡ after_reply see_broadcast (moved endless_broadcast r s)
+moved-seen r (Ok (BReplies.NewRx new), h) proper = ap (λ s. (Ok (BReplies.NewRx new), s.1)) (step-seen h proper (BCalls.DropRx r))
+moved-seen r (Ok (BReplies.NewTx t), h) proper = refl
+moved-seen r (Ok (BReplies.Sent n), h) proper = refl
+moved-seen r (Ok (BReplies.NoReceivers v), h) proper = refl
+moved-seen r (Ok (BReplies.Exhausted v), h) proper = refl
+moved-seen r (Ok (BReplies.Value v), h) proper = refl
+moved-seen r (Ok BReplies.Empty, h) proper = refl
+moved-seen r (Ok BReplies.Closed, h) proper = refl
+moved-seen r (Ok (BReplies.Lagged n), h) proper = refl
+moved-seen r (Ok (BReplies.Count n), h) proper = refl
+moved-seen r (Ok BReplies.Done, h) proper = refl
+moved-seen r (Ok BReplies.TooMany, h) proper = refl
+moved-seen r (Ok (BReplies.NoHandle v), h) proper = refl
+moved-seen r (Err why, h) proper = refl
 
-proper-moved : (r : RxId) (s : Replies (BReply Bytes) (broadcast.Endless Bytes)) → broadcast.IsProper s.1 →
-    broadcast.IsProper (moved endless r s).1
-proper-moved r (Ok (BReplies.NewRx new), e) proper = broadcast_proper.step_proper e (BCalls.DropRx r) proper
-proper-moved r (Ok (BReplies.NewTx t), e) proper = proper
-proper-moved r (Ok (BReplies.Sent n), e) proper = proper
-proper-moved r (Ok (BReplies.NoReceivers v), e) proper = proper
-proper-moved r (Ok (BReplies.Exhausted v), e) proper = proper
-proper-moved r (Ok (BReplies.Value v), e) proper = proper
-proper-moved r (Ok BReplies.Empty, e) proper = proper
-proper-moved r (Ok BReplies.Closed, e) proper = proper
-proper-moved r (Ok (BReplies.Lagged n), e) proper = proper
-proper-moved r (Ok (BReplies.Count n), e) proper = proper
-proper-moved r (Ok BReplies.Done, e) proper = proper
-proper-moved r (Ok BReplies.TooMany, e) proper = proper
-proper-moved r (Ok (BReplies.NoHandle v), e) proper = proper
-proper-moved r (Err why, e) proper = proper
+proper-moved : (r : RxId) (s : Replies (BReply Bytes) EndlessBroadcast) → broadcast.IsProper s.1.state →
+    broadcast.IsProper (moved endless_broadcast r s).1.state
+proper-moved r (Ok (BReplies.NewRx new), h) proper = broadcast_proper.step_proper h.state (BCalls.DropRx r) proper
+proper-moved r (Ok (BReplies.NewTx t), h) proper = proper
+proper-moved r (Ok (BReplies.Sent n), h) proper = proper
+proper-moved r (Ok (BReplies.NoReceivers v), h) proper = proper
+proper-moved r (Ok (BReplies.Exhausted v), h) proper = proper
+proper-moved r (Ok (BReplies.Value v), h) proper = proper
+proper-moved r (Ok BReplies.Empty, h) proper = proper
+proper-moved r (Ok BReplies.Closed, h) proper = proper
+proper-moved r (Ok (BReplies.Lagged n), h) proper = proper
+proper-moved r (Ok (BReplies.Count n), h) proper = proper
+proper-moved r (Ok BReplies.Done, h) proper = proper
+proper-moved r (Ok BReplies.TooMany, h) proper = proper
+proper-moved r (Ok (BReplies.NoHandle v), h) proper = proper
+proper-moved r (Err why, h) proper = proper
 
-module _ (e : broadcast.Endless Bytes) (proper : broadcast.IsProper e) where
-  broadcast-seen : (event : Event) → broadcast_event pictures (seen_broadcast.see e) event ≡ see_broadcast (broadcast_event endless e event)
+module _ (h : EndlessBroadcast) (proper : broadcast.IsProper h.state) where
+  -- the end of a handle
+  spent-seen : (live seen : Bool) → seen ≡ live → (call : Option (BCall Bytes)) →
+      if_live seen (see_broadcast h) (broadcast_replies seen_broadcast (see_broadcast h) false call) ≡ after_reply see_broadcast (if_live live h (broadcast_replies endless_broadcast h false call))
+  spent-seen live seen same call =
+      ap (λ b. if_live b (see_broadcast h) (broadcast_replies seen_broadcast (see_broadcast h) false call)) same
+      ∙ ap (if_live live (see_broadcast h)) (broadcast_replies-seen h proper false call)
+      ∙ if_live-seen see_broadcast live h (broadcast_replies endless_broadcast h false call)
+
+  broadcast-seen : (event : Event) → broadcast_event seen_broadcast (see_broadcast h) event ≡ after_reply see_broadcast (broadcast_event endless_broadcast h event)
   broadcast-seen (Resubscribes r) =
-      ap (moved pictures r) (broadcast_replies-seen e proper false (broadcast_call (Resubscribes r)))
-      ∙ moved-seen r (broadcast_replies endless e false (broadcast_call (Resubscribes r)))
-      (proper-broadcast_replies e proper false (broadcast_call (Resubscribes r)))
-  broadcast-seen Binds = broadcast_replies-seen e proper true (broadcast_call Binds)
-  broadcast-seen (Subscribes start by) = broadcast_replies-seen e proper (is_hub by) (broadcast_call (Subscribes start by))
-  broadcast-seen (Sends t verb) = broadcast_replies-seen e proper false (broadcast_call (Sends t verb))
-  broadcast-seen (Asks by question) = broadcast_replies-seen e proper (is_hub by) (broadcast_call (Asks by question))
-  broadcast-seen (Receives r verb) = broadcast_replies-seen e proper false (broadcast_call (Receives r verb))
-  broadcast-seen (DropsTx by) = broadcast_replies-seen e proper (is_hub by) (broadcast_call (DropsTx by))
-  broadcast-seen (DropsRx r) = broadcast_replies-seen e proper false (broadcast_call (DropsRx r))
+      ap (moved seen_broadcast r) (broadcast_replies-seen h proper false (broadcast_call (Resubscribes r)))
+      ∙ moved-seen r (broadcast_replies endless_broadcast h false (broadcast_call (Resubscribes r)))
+      (proper-broadcast_replies h proper false (broadcast_call (Resubscribes r)))
+  broadcast-seen Binds = broadcast_replies-seen h proper true (broadcast_call Binds)
+  broadcast-seen (Subscribes start by) = broadcast_replies-seen h proper (is_hub by) (broadcast_call (Subscribes start by))
+  broadcast-seen (Sends t verb) = broadcast_replies-seen h proper false (broadcast_call (Sends t verb))
+  broadcast-seen (Asks by question) = broadcast_replies-seen h proper (is_hub by) (broadcast_call (Asks by question))
+  broadcast-seen (Receives r verb) = broadcast_replies-seen h proper false (broadcast_call (Receives r verb))
+  broadcast-seen (DropsTx Hub) = broadcast_replies-seen h proper true (broadcast_call (DropsTx Hub))
+  broadcast-seen (DropsTx (Own t)) = spent-seen _ _ (ap (λ ks. is_sender ks t.0) (senders-seen h.state)) (broadcast_call (DropsTx (Own t)))
+  broadcast-seen (DropsRx r) = spent-seen _ _ (ap (λ ps. is_some (place_of ps r.0)) (places-seen h.state)) (broadcast_call (DropsRx r))
 
-  proper-broadcast : (event : Event) → broadcast.IsProper (broadcast_event endless e event).1
+  abbrev IsProperNow : EndlessBroadcast → Type 0
+  IsProperNow h = broadcast.IsProper h.state
+
+  proper-spent : (live : Bool) (call : Option (BCall Bytes)) → broadcast.IsProper (if_live live h (broadcast_replies endless_broadcast h false call)).1.state
+  proper-spent live call = proper-if_live IsProperNow endless_broadcast broadcast_waits h proper (stays h proper) live _ (proper-broadcast_replies h proper false call)
+
+  proper-broadcast : (event : Event) → broadcast.IsProper (broadcast_event endless_broadcast h event).1.state
   proper-broadcast (Resubscribes r) =
-      proper-moved r (broadcast_replies endless e false (broadcast_call (Resubscribes r)))
-      (proper-broadcast_replies e proper false (broadcast_call (Resubscribes r)))
-  proper-broadcast Binds = proper-broadcast_replies e proper true (broadcast_call Binds)
-  proper-broadcast (Subscribes start by) = proper-broadcast_replies e proper (is_hub by) (broadcast_call (Subscribes start by))
-  proper-broadcast (Sends t verb) = proper-broadcast_replies e proper false (broadcast_call (Sends t verb))
-  proper-broadcast (Asks by question) = proper-broadcast_replies e proper (is_hub by) (broadcast_call (Asks by question))
-  proper-broadcast (Receives r verb) = proper-broadcast_replies e proper false (broadcast_call (Receives r verb))
-  proper-broadcast (DropsTx by) = proper-broadcast_replies e proper (is_hub by) (broadcast_call (DropsTx by))
-  proper-broadcast (DropsRx r) = proper-broadcast_replies e proper false (broadcast_call (DropsRx r))
+      proper-moved r (broadcast_replies endless_broadcast h false (broadcast_call (Resubscribes r)))
+      (proper-broadcast_replies h proper false (broadcast_call (Resubscribes r)))
+  proper-broadcast Binds = proper-broadcast_replies h proper true (broadcast_call Binds)
+  proper-broadcast (Subscribes start by) = proper-broadcast_replies h proper (is_hub by) (broadcast_call (Subscribes start by))
+  proper-broadcast (Sends t verb) = proper-broadcast_replies h proper false (broadcast_call (Sends t verb))
+  proper-broadcast (Asks by question) = proper-broadcast_replies h proper (is_hub by) (broadcast_call (Asks by question))
+  proper-broadcast (Receives r verb) = proper-broadcast_replies h proper false (broadcast_call (Receives r verb))
+  proper-broadcast (DropsTx Hub) = proper-broadcast_replies h proper true (broadcast_call (DropsTx Hub))
+  proper-broadcast (DropsTx (Own t)) = proper-spent (is_sender h.state.senders t.0) (broadcast_call (DropsTx (Own t)))
+  proper-broadcast (DropsRx r) = proper-spent (is_some (place_of h.state.index r.0)) (broadcast_call (DropsRx r))
 
-module _ (e : watch.Endless Bytes) (proper : watch.IsProper e) where
-  watch-seen : (event : Event) → watch_event pictures (seen_watch.see e) event ≡ see_watch (watch_event endless e event)
-  watch-seen event =
-      ap (λ ks. replies pictures.watch watch_waits (is_by_hub event && not (is_sender ks 1)) (seen_watch.see e) (watch_call event)) (watch_senders-seen e)
-      ∙ replies-seen seen_watch.see endless.watch pictures.watch watch_waits (is_by_hub event && not (is_sender e.senders 1)) e (watch_call event) (λ k. watch_seen.answer_seen (pointwise nat_eq) e k proper)
+module _ (h : EndlessWatch) (proper : watch.IsProper h.state) where
+  watch_step-seen : (call : WCall Bytes) → seen_watch.step (see_watch h) call ≡ ((endless_watch.step h call).0, see_watch (endless_watch.step h call).1)
+  watch_step-seen call = ap (recorded (see_watch h) call) (watch_seen.answer_seen (pointwise nat_eq) h.state call proper)
 
-  proper-watch : (event : Event) → watch.IsProper (watch_event endless e event).1
-  proper-watch event =
-      proper-replies watch.IsProper endless.watch watch_waits (is_by_hub event && not (is_sender e.senders 1)) e (watch_call event) proper (λ k. watch_proper.step_proper e proper (pointwise nat_eq) k)
+  watch_full-seen : (call : WCall Bytes) → seen_watch.is_full (see_watch h) call ≡ endless_watch.is_full h call
+  watch_full-seen call = ap (λ (s : WReply Bytes × watch_picture.Picture Bytes). is_full (see_watch h) (live_watchers s.1)) (watch_seen.answer_seen (pointwise nat_eq) h.state call proper)
 
-channel-seen : (c : EndlessChannel) → IsProperChannel c → (event : Event) → channel_event pictures (see_channel c) event ≡ see_told (channel_event endless c event)
-channel-seen (Broadcast e) proper event = ap (as_broadcast pictures event) (broadcast-seen e proper event)
-channel-seen (Watch e) proper event = ap (as_watch pictures event) (watch-seen e proper event)
+  watch_stays : (call : WCall Bytes) → watch.IsProper (endless_watch.step h call).1.state
+  watch_stays call = watch_proper.step_proper h.state proper (pointwise nat_eq) call
+
+  watch_replies-seen : (by_hub : Bool) (call : Option (WCall Bytes)) →
+      watch_replies seen_watch (see_watch h) by_hub call ≡ after_reply see_watch (watch_replies endless_watch h by_hub call)
+  watch_replies-seen by_hub call =
+      ap (λ ks. replies seen_watch watch_waits (by_hub && not (is_sender ks 1)) (see_watch h) call) (watch_senders-seen h.state)
+      ∙ replies-seen see_watch endless_watch seen_watch watch_waits h watch_step-seen watch_full-seen (by_hub && not (is_sender h.state.senders 1)) call
+
+  watch_spent-seen : (live seen : Bool) → seen ≡ live → (call : Option (WCall Bytes)) →
+      if_live seen (see_watch h) (watch_replies seen_watch (see_watch h) false call) ≡ after_reply see_watch (if_live live h (watch_replies endless_watch h false call))
+  watch_spent-seen live seen same call =
+      ap (λ b. if_live b (see_watch h) (watch_replies seen_watch (see_watch h) false call)) same
+      ∙ ap (if_live live (see_watch h)) (watch_replies-seen false call)
+      ∙ if_live-seen see_watch live h (watch_replies endless_watch h false call)
+
+  watch-seen : (event : Event) → watch_event seen_watch (see_watch h) event ≡ after_reply see_watch (watch_event endless_watch h event)
+  watch-seen Binds = watch_replies-seen true (watch_call Binds)
+  watch-seen (Subscribes start by) = watch_replies-seen (is_hub by) (watch_call (Subscribes start by))
+  watch-seen (Sends t verb) = watch_replies-seen false (watch_call (Sends t verb))
+  watch-seen (Asks by question) = watch_replies-seen (is_hub by) (watch_call (Asks by question))
+  watch-seen (Receives r verb) = watch_replies-seen false (watch_call (Receives r verb))
+  watch-seen (Resubscribes r) = watch_replies-seen false (watch_call (Resubscribes r))
+  watch-seen (DropsTx Hub) = watch_replies-seen true (watch_call (DropsTx Hub))
+  watch-seen (DropsTx (Own t)) = watch_spent-seen _ _ (ap (λ ks. is_sender ks t.0) (watch_senders-seen h.state)) (watch_call (DropsTx (Own t)))
+  watch-seen (DropsRx r) = watch_spent-seen _ _ (readers-seen h.state r.0) (watch_call (DropsRx r))
+
+  proper-watch_replies : (by_hub : Bool) (call : Option (WCall Bytes)) → watch.IsProper (watch_replies endless_watch h by_hub call).1.state
+  proper-watch_replies by_hub call =
+      proper-replies (λ (h : EndlessWatch). watch.IsProper h.state) endless_watch watch_waits h proper watch_stays (by_hub && not (is_sender h.state.senders 1)) call
+
+  proper-watch_spent : (live : Bool) (call : Option (WCall Bytes)) → watch.IsProper (if_live live h (watch_replies endless_watch h false call)).1.state
+  proper-watch_spent live call = proper-if_live (λ (h : EndlessWatch). watch.IsProper h.state) endless_watch watch_waits h proper watch_stays live _ (proper-watch_replies false call)
+
+  proper-watch : (event : Event) → watch.IsProper (watch_event endless_watch h event).1.state
+  proper-watch Binds = proper-watch_replies true (watch_call Binds)
+  proper-watch (Subscribes start by) = proper-watch_replies (is_hub by) (watch_call (Subscribes start by))
+  proper-watch (Sends t verb) = proper-watch_replies false (watch_call (Sends t verb))
+  proper-watch (Asks by question) = proper-watch_replies (is_hub by) (watch_call (Asks by question))
+  proper-watch (Receives r verb) = proper-watch_replies false (watch_call (Receives r verb))
+  proper-watch (Resubscribes r) = proper-watch_replies false (watch_call (Resubscribes r))
+  proper-watch (DropsTx Hub) = proper-watch_replies true (watch_call (DropsTx Hub))
+  proper-watch (DropsTx (Own t)) = proper-watch_spent (is_sender h.state.senders t.0) (watch_call (DropsTx (Own t)))
+  proper-watch (DropsRx r) = proper-watch_spent (is_some (reader_of h.state.marks r.0)) (watch_call (DropsRx r))
+
+-- an event of a channel of either kind, and the cutting of its segment
+
+abbrev told_seen : {A : Type 0} → Result A NoEvent × EndlessChannel → Result A NoEvent × SeenChannel
+told_seen s = (s.0, see_channel s.1)
+
+channel-seen : (c : EndlessChannel) → IsProperChannel c → (event : Event) →
+    channel_event seen_broadcast seen_watch (see_channel c) event ≡ told_seen (channel_event endless_broadcast endless_watch c event)
+channel-seen (Broadcast h) proper event = ap (as_broadcast event) (broadcast-seen h proper event)
+channel-seen (Watch h) proper event = ap (as_watch event) (watch-seen h proper event)
+
+cut-seen : (c : EndlessChannel) → cut_channel seen_broadcast seen_watch (see_channel c) ≡ told_seen (cut_channel endless_broadcast endless_watch c)
+cut-seen (Broadcast h) = refl
+cut-seen (Watch h) = refl
 
 set-seen : (ts : EndlessTopics) (n : ℕ) (c : EndlessChannel) → set_value_at (see_topics ts) n (see_channel c) ≡ see_topics (set_value_at ts n c)
 set-seen [] n c = refl
@@ -280,31 +403,27 @@ proper-at [] h n c e = absurd (none-some c e)
 proper-at (t ∷ ts) h zero c e = subst IsProperChannel (same_Some t.1 c e) h.0
 proper-at (t ∷ ts) h (suc n) c e = proper-at ts h.1 n c e
 
-module _ (event : Event) where
-  -- what happens to a topic's channel
-  abbrev step_seen : SeenChannel → Told × SeenChannel
-  step_seen c = channel_event pictures c event
-
-  abbrev step : EndlessChannel → Told × EndlessChannel
-  step c = channel_event endless c event
-
+-- what is done with a topic's channel
+module _ {A : Type 0} (done_seen : SeenChannel → Result A NoEvent × SeenChannel) (done : EndlessChannel → Result A NoEvent × EndlessChannel)
+    (seen : (c : EndlessChannel) → IsProperChannel c → done_seen (see_channel c) ≡ told_seen (done c)) where
   on_channel-seen : (ts : EndlessTopics) (n : ℕ) (o : Option EndlessChannel) → ((c : EndlessChannel) → o ≡ Some c → IsProperChannel c) →
-      on_channel (see_topics ts) n step_seen (option_map see_channel o) ≡ ((on_channel ts n step o).0, see_topics (on_channel ts n step o).1)
+      on_channel (see_topics ts) n done_seen (option_map see_channel o) ≡ ((on_channel ts n done o).0, see_topics (on_channel ts n done o).1)
   on_channel-seen ts n None proper = refl
   on_channel-seen ts n (Some c) proper =
-      ap (written (see_topics ts) n) (channel-seen c (proper c refl) event)
-      ∙ ap (λ rest. ((step c).0, rest)) (set-seen ts n (step c).1)
+      ap (written (see_topics ts) n) (seen c (proper c refl))
+      ∙ ap (λ rest. ((done c).0, rest)) (set-seen ts n (done c).1)
 
-  event-seen : (ts : EndlessTopics) → AreProper ts → (n : ℕ) → say pictures (see_topics ts) (On n event) ≡ ((say endless ts (On n event)).0, see_topics (say endless ts (On n event)).1)
-  event-seen ts proper n =
-      ap (λ o. on_channel (see_topics ts) n step_seen o) (ap (λ vs. slice_get vs n) (values-seen ts) ∙ slice_get-map see_channel (values_of ts) n)
+  at_topic-seen : (ts : EndlessTopics) → AreProper ts → (n : ℕ) → at_topic (see_topics ts) n done_seen ≡ ((at_topic ts n done).0, see_topics (at_topic ts n done).1)
+  at_topic-seen ts proper n =
+      ap (λ o. on_channel (see_topics ts) n done_seen o) (ap (λ vs. slice_get vs n) (values-seen ts) ∙ slice_get-map see_channel (values_of ts) n)
       ∙ on_channel-seen ts n (slice_get (values_of ts) n) (proper-at ts proper n)
 
 pub says_what_is_seen : SaysWhatIsSeen
-says_what_is_seen ts (Find name) proper = ap (λ f. (f, see_topics ts)) (find-seen ts name)
-says_what_is_seen ts List proper = ap (λ rows. (Ok rows, see_topics ts)) (list-seen ts)
-says_what_is_seen ts (Open name making) proper = open-seen ts name making
-says_what_is_seen ts (On n event) proper = event-seen event ts proper n
+says_what_is_seen limit ts (Find name) proper = ap (λ f. (f, see_topics ts)) (find-seen ts name)
+says_what_is_seen limit ts List proper = ap (λ rows. (Ok rows, see_topics ts)) (list-seen ts)
+says_what_is_seen limit ts (Open name making) proper = open-seen limit ts name making
+says_what_is_seen limit ts (On n event) proper = at_topic-seen _ _ (λ c p. channel-seen c p event) ts proper n
+says_what_is_seen limit ts (Cut n) proper = at_topic-seen _ _ (λ c p. cut-seen c) ts proper n
 
 -- proper states
 
@@ -333,21 +452,25 @@ abbrev IsProperMade : Option (ℕ × EndlessChannel) → Type 0
 IsProperMade None = Unit {0}
 IsProperMade (Some x) = IsProperChannel x.1
 
-proper-made_of : (base : ℕ) (o : Option ℕ) → base < 2 ^ 64 → ((c : ℕ) → o ≡ Some c → IsCapacity c) → IsProperMade (option_map (λ c. (c, Broadcast (endless.broadcast_opened c base))) o)
-proper-made_of base None fits h = tt
-proper-made_of base (Some c) fits h = broadcast_proper.opened_proper c base (h c refl) fits
+module _ (limit key : ℕ) where
+  abbrev opened_as : ℕ → ℕ → ℕ × EndlessChannel
+  opened_as base c = (c, Broadcast ((endless limit).broadcast_opened c base key))
 
-proper-broadcast-made : (asked base : ℕ) → IsProperMade (made_broadcast endless asked base)
-proper-broadcast-made asked base = by (nat_lt base (2 ^ 64)) refl
-  where
-    by : (b : Bool) → nat_lt base (2 ^ 64) ≡ b → IsProperMade (cond b (option_map (λ c. (c, Broadcast (endless.broadcast_opened c base))) (capacity_of asked)) None)
-    by true e = proper-made_of base (capacity_of asked) (ltb-true base (2 ^ 64) e) (is_capacity asked)
-    by false e = tt
+  proper-made_of : (base : ℕ) (o : Option ℕ) → base < 2 ^ 64 → ((c : ℕ) → o ≡ Some c → IsCapacity c) → IsProperMade (option_map (opened_as base) o)
+  proper-made_of base None fits h = tt
+  proper-made_of base (Some c) fits h = broadcast_proper.opened_proper c base (h c refl) fits
 
-proper-made : (making : Making) → IsProperMade (made endless making)
-proper-made (Makings.Broadcast asked) = proper-broadcast-made asked 0
-proper-made (Makings.BroadcastAt asked base) = proper-broadcast-made asked base
-proper-made (Makings.Watch value) = watch_proper.opened_proper value 1 (omega arith) (omega arith)
+  proper-broadcast-made : (asked base : ℕ) → IsProperMade (made_broadcast (endless limit) key asked base)
+  proper-broadcast-made asked base = by (nat_lt base (2 ^ 64)) refl
+    where
+      by : (b : Bool) → nat_lt base (2 ^ 64) ≡ b → IsProperMade (cond b (option_map (opened_as base) (capacity_of asked)) None)
+      by true e = proper-made_of base (capacity_of asked) (ltb-true base (2 ^ 64) e) (is_capacity asked)
+      by false e = tt
+
+  proper-made : (making : Making) → IsProperMade (made (endless limit) key making)
+  proper-made (Makings.Broadcast asked) = proper-broadcast-made asked 0
+  proper-made (Makings.BroadcastAt asked base) = proper-broadcast-made asked base
+  proper-made (Makings.Watch value) = watch_proper.opened_proper value 1 (omega arith) (omega arith)
 
 proper-append : (ts : EndlessTopics) (name : Bytes) (c : EndlessChannel) → AreProper ts → IsProperChannel c → AreProper (ts ++ (name, c) ∷ [])
 proper-append [] name c h p = (p, tt)
@@ -363,28 +486,36 @@ proper-added ts name (Some x) h p = elim (nat_le most_topics (length ts)) as (λ
   | false ↦ proper-append ts name x.1 h p
 ]
 
-proper-open : (ts : EndlessTopics) (name : Bytes) (making : Making) → AreProper ts → AreProper (open_topic endless ts name making).1
-proper-open ts name making h = elim (is_some (find ts name)) as (λ b. AreProper (after (cond b (refused Refusals.Exists ts) (added ts name (made endless making))))) [
-  | true ↦ h
-  | false ↦ proper-added ts name (made endless making) h (proper-made making)
-]
+proper-open : (limit : ℕ) (ts : EndlessTopics) (name : Bytes) (making : Making) → AreProper ts → AreProper (open_topic (endless limit) ts name making).1
+proper-open limit ts name making h =
+    let made = made (endless limit) (length ts + 1) making in
+    elim (is_some (find ts name)) as (λ b. AreProper (after (cond b (refused Refusals.Exists ts) (added ts name made)))) [
+      | true ↦ h
+      | false ↦ proper-added ts name made h (proper-made limit (length ts + 1) making)
+    ]
 
-proper-channel : (c : EndlessChannel) → IsProperChannel c → (event : Event) → IsProperChannel (channel_event endless c event).1
-proper-channel (Broadcast e) h event = proper-broadcast e h event
-proper-channel (Watch e) h event = proper-watch e h event
+proper-channel : (c : EndlessChannel) → IsProperChannel c → (event : Event) → IsProperChannel (channel_event endless_broadcast endless_watch c event).1
+proper-channel (Broadcast h) p event = proper-broadcast h p event
+proper-channel (Watch h) p event = proper-watch h p event
+
+proper-cut : (c : EndlessChannel) → IsProperChannel c → IsProperChannel (cut_channel endless_broadcast endless_watch c).1
+proper-cut (Broadcast h) p = p
+proper-cut (Watch h) p = p
 
 proper-set : (ts : EndlessTopics) (n : ℕ) (c : EndlessChannel) → AreProper ts → IsProperChannel c → AreProper (set_value_at ts n c)
 proper-set [] n c h p = tt
 proper-set (t ∷ ts) zero c h p = (p, h.1)
 proper-set (t ∷ ts) (suc n) c h p = (h.0, proper-set ts n c h.1 p)
 
-proper-on : (event : Event) (ts : EndlessTopics) (n : ℕ) (o : Option EndlessChannel) → AreProper ts → ((c : EndlessChannel) → o ≡ Some c → IsProperChannel c) →
-    AreProper (on_channel ts n (step event) o).1
-proper-on event ts n None h p = h
-proper-on event ts n (Some c) h p = proper-set ts n _ h (proper-channel c (p c refl) event)
+proper-on : {A : Type 0} (done : EndlessChannel → Result A NoEvent × EndlessChannel) → ((c : EndlessChannel) → IsProperChannel c → IsProperChannel (done c).1) →
+    (ts : EndlessTopics) (n : ℕ) (o : Option EndlessChannel) → AreProper ts → ((c : EndlessChannel) → o ≡ Some c → IsProperChannel c) →
+    AreProper (on_channel ts n done o).1
+proper-on done stay ts n None h p = h
+proper-on done stay ts n (Some c) h p = proper-set ts n _ h (stay c (p c refl))
 
 pub stays_proper : StaysProper
-stays_proper ts (Find name) proper = proper
-stays_proper ts List proper = proper
-stays_proper ts (Open name making) proper = proper-open ts name making proper
-stays_proper ts (On n event) proper = proper-on event ts n (slice_get (values_of ts) n) proper (proper-at ts proper n)
+stays_proper limit ts (Find name) proper = proper
+stays_proper limit ts List proper = proper
+stays_proper limit ts (Open name making) proper = proper-open limit ts name making proper
+stays_proper limit ts (On n event) proper = proper-on _ (λ c p. proper-channel c p event) ts n (slice_get (values_of ts) n) proper (proper-at ts proper n)
+stays_proper limit ts (Cut n) proper = proper-on _ proper-cut ts n (slice_get (values_of ts) n) proper (proper-at ts proper n)

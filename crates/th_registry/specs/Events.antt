@@ -131,30 +131,10 @@ watch_outcome event reply = Replied (Watch reply)
 abbrev pub Told : Type 0
 Told = Result Outcome NoEvent
 
--- Whether memory is asked for before a channel replies so: for a new handle, and for a value that is handed out. A send
--- takes none, since the slots of a broadcast channel are made with it, and a watch channel moves the value.
-abbrev pub broadcast_takes : BReply Bytes → Bool
-broadcast_takes (BReplies.NewTx t) = true
-broadcast_takes (BReplies.NewRx r) = true
-broadcast_takes (BReplies.Value v) = true
-broadcast_takes reply = false
-
-abbrev pub watch_takes : WReply Bytes → Bool
-watch_takes (WReplies.NewTx t) = true
-watch_takes (WReplies.NewRx r) = true
-watch_takes (WReplies.Shown v unseen) = true
-watch_takes reply = false
-
--- the same of what is said of an event
-abbrev pub needs_memory : Told → Bool
-needs_memory (Ok (NewTx t)) = true
-needs_memory (Ok (NewRx r)) = true
-needs_memory (Ok (Replied (Broadcast reply))) = broadcast_takes reply
-needs_memory (Ok (Replied (Watch reply))) = watch_takes reply
-needs_memory (Err why) = false
-
--- The table of what may be refused for want of memory: by the event, and by what would be said of it. A spending never is.
+-- The table of what may be refused for want of memory: by the event, and by what would be said of it. Each event takes
+-- room in its channel's log, but for the end of a live handle: room for that was made with the handle.
 abbrev pub takes_memory : Event → Told → Bool
 takes_memory (DropsTx by) told = false
 takes_memory (DropsRx r) told = false
-takes_memory event told = needs_memory told
+takes_memory event (Ok outcome) = true
+takes_memory event (Err why) = false

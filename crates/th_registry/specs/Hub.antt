@@ -1,5 +1,5 @@
 -- The hub: topics in order of opening, and what they say to what is asked of them.
-use Rattle.std.specs.Prelude.{ℕ, ◌≡◌, ◌^◌, ◌⊎◌, nat_eq, nat_le, nat_lt, if◌then◌else◌, [], ◌∷◌, ◌++◌, length, map, Option, Some, None, is_some, slice_get, position, Result, Ok, Err, is_ok, Bool, true, false, not, ◌&&◌}
+use Rattle.std.specs.Prelude.{ℕ, ◌+◌, ◌≡◌, ◌^◌, ◌⊎◌, nat_eq, nat_le, nat_lt, if◌then◌else◌, [], ◌∷◌, ◌++◌, length, map, Option, Some, None, is_some, slice_get, position, Result, Ok, Err, is_ok, Bool, true, false, not, ◌&&◌}
 use Rattle.std.specs.Prelude as prelude
 use Rattle.std.specs.Option.{option_map}
 use Rattle.std.specs.Map.{keys_of, values_of}
@@ -27,20 +27,31 @@ use Rattle.th_registry.specs.declared.outcome.NoEvent.{NoEvent}
 use Rattle.th_registry.specs.declared.outcome.NoEvent.TheVariants as NoEvents
 use Rattle.th_registry.specs.Kinds.{kind_of}
 use Rattle.th_registry.specs.Calls.{Bytes, tx}
-use Rattle.th_registry.specs.Events.{Event, Resubscribes, Outcome, Told, broadcast_call, broadcast_outcome, broadcast_waits, watch_call, watch_outcome, watch_waits, is_by_hub, takes_memory}
+use Rattle.th_registry.specs.History.{BroadcastSegment, WatchSegment, ChannelSegment}
+use Rattle.th_registry.specs.Events.{Event, Resubscribes, DropsTx, DropsRx, Own, Outcome, Told, broadcast_call, broadcast_outcome, broadcast_waits, watch_call, watch_outcome, watch_waits, is_by_hub, takes_memory}
 
 -- the most topics of a hub
 abbrev pub most_topics : ℕ
 most_topics = 1024
 
--- the channels' machines, on endless states or on pictures: the step by a call, whether a sender is live, and new channels
+-- What the hub asks of a kind of channel, with endless states or with pictures. C are the channels with their histories, K
+-- the calls, R the replies, and P the segments.
+pub record ChannelMachine (C K R P : Type 0) : Type 0 where
+  -- the reply to a call, and the channel after it
+  pub step : C → K → R × C
+  -- whether there is no room for the call in the log
+  pub is_full : C → K → Bool
+  pub has_sender : C → TxId → Bool
+  pub has_receiver : C → RxId → Bool
+  -- the segment so far, and the channel with the next one begun
+  pub cut : C → P × C
+
+-- the machines of both kinds, and new channels; the key is no other channel's
 pub record Machines (B W : Type 0) : Type 0 where
-  pub broadcast : B → BCall Bytes → BReply Bytes × B
-  pub broadcast_has_sender : B → TxId → Bool
-  pub broadcast_opened : (capacity base : ℕ) → B
-  pub watch : W → WCall Bytes → WReply Bytes × W
-  pub watch_has_sender : W → TxId → Bool
-  pub watch_opened : Bytes → W
+  pub broadcast : ChannelMachine B (BCall Bytes) (BReply Bytes) BroadcastSegment
+  pub broadcast_opened : (capacity base key : ℕ) → B
+  pub watch : ChannelMachine W (WCall Bytes) (WReply Bytes) WatchSegment
+  pub watch_opened : Bytes → (key : ℕ) → W
 
 -- what is asked of a hub
 pub data Query : Type 0 where
@@ -48,21 +59,25 @@ pub data Query : Type 0 where
   List : Query
   Open : Bytes → Making → Query
   On : ℕ → Event → Query
+  Cut : ℕ → Query
 
--- what is said to it: the topic of the name; the topics; the number that is told of a new topic; what came of the event
+-- what is said to it: the topic of the name; the topics; the number that is told of a new topic; what came of the event;
+-- the topic's segment
 abbrev pub Said : Query → Type 0
 Said (Find name) = Option Found
 Said List = Result (prelude.List Listed) (Short Unit)
 Said (Open name making) = Result ℕ Refusal
 Said (On topic event) = Told
+Said (Cut topic) = Result ChannelSegment NoEvent
 
--- whether memory is asked for before this is said: for a list, for an opening that nothing else refuses, and for an event
--- by the table
+-- whether memory is asked for before this is said: for a list, for an opening that nothing else refuses, for an event by
+-- the table, and for a segment
 abbrev pub asks_memory : (q : Query) → Said q → Bool
 asks_memory (Find name) found = false
 asks_memory List topics = true
 asks_memory (Open name making) opened = is_ok opened
 asks_memory (On topic event) told = takes_memory event told
+asks_memory (Cut topic) segment = is_ok segment
 
 -- what is said where memory is refused
 abbrev pub IsRefusal : (q : Query) → Said q → Type 0
@@ -70,16 +85,22 @@ IsRefusal (Find name) found = ⊥
 IsRefusal List topics = topics ≡ Err (record { call = tt })
 IsRefusal (Open name making) opened = opened ≡ Err Refusals.Short
 IsRefusal (On topic event) told = told ≡ Err NoEvents.Short
+IsRefusal (Cut topic) segment = segment ≡ Err NoEvents.Short
 
 -- What a channel replies to a call, or the first reason why there is no event: the kind has no such call; it goes
--- through the hub's own sender, and that is not live; it would wait.
-abbrev pub replies : {C K R : Type 0} → (step : C → K → R × C) (waits : K → R → Bool) (no_sender : Bool) →
+-- through the hub's own sender, and that is not live; it would wait; there is no room for it in the log.
+abbrev pub replies : {C K R P : Type 0} → ChannelMachine C K R P → (waits : K → R → Bool) (no_sender : Bool) →
     C → Option K → Result R NoEvent × C
-replies step waits no_sender c None = (Err NoEvents.WrongKind, c)
-replies step waits no_sender c (Some call) =
+replies m waits no_sender c None = (Err NoEvents.WrongKind, c)
+replies m waits no_sender c (Some call) =
     if no_sender then (Err NoEvents.NoSender, c)
-    else if waits call (step c call).0 then (Err NoEvents.Blocked, c)
-    else (Ok (step c call).0, (step c call).1)
+    else if waits call (m.step c call).0 then (Err NoEvents.Blocked, c)
+    else if m.is_full c call then (Err NoEvents.LogFull, c)
+    else (Ok (m.step c call).0, (m.step c call).1)
+
+-- a handle is spent only where it is live
+abbrev pub if_live : {C R : Type 0} → Bool → C → Result R NoEvent × C → Result R NoEvent × C
+if_live live c s = if live then s else (Err NoEvents.NotLive, c)
 
 -- what came of an event, by the reply to its call
 abbrev pub came : {R : Type 0} → (R → Outcome) → Result R NoEvent → Told
@@ -110,16 +131,18 @@ module _ {B W : Type 0} where
   abbrev pub list : Topics B W → prelude.List Listed
   list ts = map listed ts
 
-  -- what is said of an event, and the topics with the channel as it is after it
-  abbrev pub written : Topics B W → ℕ → Told × Channel B W → Told × Topics B W
+  -- what a channel says, and the topics with the channel as it is after it
+  abbrev pub written : {A : Type 0} → Topics B W → ℕ → A × Channel B W → A × Topics B W
   written ts n s = (s.0, set_value_at ts n s.1)
 
-  abbrev pub on_channel : Topics B W → ℕ → (Channel B W → Told × Channel B W) → Option (Channel B W) → Told × Topics B W
+  abbrev pub on_channel : {A : Type 0} → Topics B W → ℕ → (Channel B W → Result A NoEvent × Channel B W) →
+      Option (Channel B W) → Result A NoEvent × Topics B W
   on_channel ts n f None = (Err NoEvents.NoTopic, ts)
   on_channel ts n f (Some c) = written ts n (f c)
 
   -- what the channel of topic n says
-  abbrev pub at_topic : Topics B W → ℕ → (Channel B W → Told × Channel B W) → Told × Topics B W
+  abbrev pub at_topic : {A : Type 0} → Topics B W → ℕ → (Channel B W → Result A NoEvent × Channel B W) →
+      Result A NoEvent × Topics B W
   at_topic ts n f = on_channel ts n f (slice_get (values_of ts) n)
 
   -- a new topic at the end, if there is room for one
@@ -129,65 +152,87 @@ module _ {B W : Type 0} where
       if nat_le most_topics (length ts) then (Err Refusals.TooManyTopics, ts)
       else (Ok made.0, ts ++ (name, made.1) ∷ [])
 
-module _ {B W : Type 0} (m : Machines B W) where
-  -- a broadcast channel and its capacity in force. None for a capacity out of range, nor for a base past the last
-  -- position, which no number of a line is.
-  abbrev pub made_broadcast : ℕ → ℕ → Option (ℕ × Channel B W)
-  made_broadcast asked base =
-      if nat_lt base (2 ^ 64)
-      then option_map (λ c. (c, Broadcast (m.broadcast_opened c base))) (capacity_of asked)
-      else None
-
-  -- the channel of a making, and the number that is told: of a broadcast channel its capacity in force, of a watch
-  -- channel 1
-  abbrev pub made : Making → Option (ℕ × Channel B W)
-  made (Makings.Broadcast asked) = made_broadcast asked 0
-  made (Makings.BroadcastAt asked base) = made_broadcast asked base
-  made (Makings.Watch value) = Some (1, Watch (m.watch_opened value))
-
-  -- a topic is opened, or the first refusal that holds: the name is there, the capacity is out of range, there are
-  -- as many topics as there may be
-  abbrev pub open_topic : Topics B W → Bytes → Making → Result ℕ Refusal × Topics B W
-  open_topic ts name making =
-      if is_some (find ts name) then (Err Refusals.Exists, ts) else added ts name (made making)
-
+-- a broadcast channel
+module _ {B : Type 0} (m : ChannelMachine B (BCall Bytes) (BReply Bytes) BroadcastSegment) where
   -- one call of a broadcast channel, through the hub's own sender or not
   abbrev pub broadcast_replies : B → (by_hub : Bool) → Option (BCall Bytes) → Result (BReply Bytes) NoEvent × B
   broadcast_replies c by_hub call =
-      replies m.broadcast broadcast_waits (by_hub && not (m.broadcast_has_sender c (tx 1))) c call
+      replies m broadcast_waits (by_hub && not (m.has_sender c (tx 1))) c call
 
   -- once there is a new receiver, the old one is spent
   abbrev pub moved : RxId → Result (BReply Bytes) NoEvent × B → Result (BReply Bytes) NoEvent × B
-  moved r (Ok (NewRx new), c) = (Ok (NewRx new), (m.broadcast c (BCalls.DropRx r)).1)
+  moved r (Ok (NewRx new), c) = (Ok (NewRx new), (m.step c (BCalls.DropRx r)).1)
   moved r (said, c) = (said, c)
 
   -- what a broadcast channel replies to an event
   abbrev pub broadcast_event : B → Event → Result (BReply Bytes) NoEvent × B
   broadcast_event c (Resubscribes r) = moved r (broadcast_replies c false (broadcast_call (Resubscribes r)))
+  broadcast_event c (DropsTx (Own t)) =
+      if_live (m.has_sender c t) c (broadcast_replies c false (broadcast_call (DropsTx (Own t))))
+  broadcast_event c (DropsRx r) =
+      if_live (m.has_receiver c r) c (broadcast_replies c false (broadcast_call (DropsRx r)))
   broadcast_event c event = broadcast_replies c (is_by_hub event) (broadcast_call event)
 
-  -- the same of a watch channel
+-- a watch channel
+module _ {W : Type 0} (m : ChannelMachine W (WCall Bytes) (WReply Bytes) WatchSegment) where
+  -- one call of a watch channel
   abbrev pub watch_replies : W → (by_hub : Bool) → Option (WCall Bytes) → Result (WReply Bytes) NoEvent × W
   watch_replies c by_hub call =
-      replies m.watch watch_waits (by_hub && not (m.watch_has_sender c (tx 1))) c call
+      replies m watch_waits (by_hub && not (m.has_sender c (tx 1))) c call
 
   abbrev pub watch_event : W → Event → Result (WReply Bytes) NoEvent × W
+  watch_event c (DropsTx (Own t)) =
+      if_live (m.has_sender c t) c (watch_replies c false (watch_call (DropsTx (Own t))))
+  watch_event c (DropsRx r) =
+      if_live (m.has_receiver c r) c (watch_replies c false (watch_call (DropsRx r)))
   watch_event c event = watch_replies c (is_by_hub event) (watch_call event)
 
+module _ {B W : Type 0} where
   abbrev pub as_broadcast : Event → Result (BReply Bytes) NoEvent × B → Told × Channel B W
   as_broadcast event s = (came (broadcast_outcome event) s.0, Broadcast s.1)
 
   abbrev pub as_watch : Event → Result (WReply Bytes) NoEvent × W → Told × Channel B W
   as_watch event s = (came (watch_outcome event) s.0, Watch s.1)
 
+-- a channel of either kind
+module _ {B W : Type 0} (b : ChannelMachine B (BCall Bytes) (BReply Bytes) BroadcastSegment)
+    (w : ChannelMachine W (WCall Bytes) (WReply Bytes) WatchSegment) where
   -- what a channel says of an event
   abbrev pub channel_event : Channel B W → Event → Told × Channel B W
-  channel_event (Broadcast c) event = as_broadcast event (broadcast_event c event)
-  channel_event (Watch c) event = as_watch event (watch_event c event)
+  channel_event (Broadcast c) event = as_broadcast event (broadcast_event b c event)
+  channel_event (Watch c) event = as_watch event (watch_event w c event)
+
+  -- a channel's segment so far, and the channel with the next one begun
+  abbrev pub cut_channel : Channel B W → Result ChannelSegment NoEvent × Channel B W
+  cut_channel (Broadcast c) = (Ok (Broadcast (b.cut c).0), Broadcast (b.cut c).1)
+  cut_channel (Watch c) = (Ok (Watch (w.cut c).0), Watch (w.cut c).1)
+
+module _ {B W : Type 0} (m : Machines B W) where
+  -- a broadcast channel and its capacity in force. None for a capacity out of range, nor for a base past the last
+  -- position, which no number of a line is.
+  abbrev pub made_broadcast : (key asked base : ℕ) → Option (ℕ × Channel B W)
+  made_broadcast key asked base =
+      if nat_lt base (2 ^ 64)
+      then option_map (λ c. (c, Broadcast (m.broadcast_opened c base key))) (capacity_of asked)
+      else None
+
+  -- the channel of a making, and the number that is told: of a broadcast channel its capacity in force, of a watch
+  -- channel 1
+  abbrev pub made : (key : ℕ) → Making → Option (ℕ × Channel B W)
+  made key (Makings.Broadcast asked) = made_broadcast key asked 0
+  made key (Makings.BroadcastAt asked base) = made_broadcast key asked base
+  made key (Makings.Watch value) = Some (1, Watch (m.watch_opened value key))
+
+  -- a topic is opened, or the first refusal that holds: the name is there, the capacity is out of range, there are
+  -- as many topics as there may be; a channel's key is the topic's number, counted from 1
+  abbrev pub open_topic : Topics B W → Bytes → Making → Result ℕ Refusal × Topics B W
+  open_topic ts name making =
+      if is_some (find ts name) then (Err Refusals.Exists, ts)
+      else added ts name (made (length ts + 1) making)
 
   -- one event of the hub, or why there was none
   abbrev pub event : Topics B W → ℕ → Event → Told × Topics B W
-  event ts n e = at_topic ts n (λ c. channel_event c e)
+  event ts n e = at_topic ts n (λ c. channel_event m.broadcast m.watch c e)
 
   -- what the hub says to a query, and the topics after it
   abbrev pub say : Topics B W → (q : Query) → Said q × Topics B W
@@ -195,6 +240,7 @@ module _ {B W : Type 0} (m : Machines B W) where
   say ts List = (Ok (list ts), ts)
   say ts (Open name making) = open_topic ts name making
   say ts (On n e) = event ts n e
+  say ts (Cut n) = at_topic ts n (cut_channel m.broadcast m.watch)
 
   -- memory was refused where it is asked for, and nothing has changed
   abbrev pub IsShort : Topics B W → (q : Query) → Said q → Topics B W → Type 0

@@ -8,25 +8,26 @@ use Rattle.th_registry.specs.Pictures.{pictures, see_topics}
 
 -- to each query the pictures say what the endless states say, and are afterwards what is seen of them
 abbrev pub SaysWhatIsSeen : Type 0
-SaysWhatIsSeen = (ts : EndlessTopics) (q : Query) → AreProper ts → say pictures (see_topics ts) q ≡ ((say endless ts q).0, see_topics (say endless ts q).1)
+SaysWhatIsSeen = (limit : ℕ) (ts : EndlessTopics) (q : Query) → AreProper ts →
+    say (pictures limit) (see_topics ts) q ≡ ((say (endless limit) ts q).0, see_topics (say (endless limit) ts q).1)
 
 -- and the endless states stay proper
 abbrev pub StaysProper : Type 0
-StaysProper = (ts : EndlessTopics) (q : Query) → AreProper ts → AreProper (say endless ts q).1
+StaysProper = (limit : ℕ) (ts : EndlessTopics) (q : Query) → AreProper ts → AreProper (say (endless limit) ts q).1
 
 -- a handle that is live stays so, but for one that the query ends
 abbrev pub HandlesStayLive : Type 0
-HandlesStayLive = (ts : EndlessTopics) (q : Query) (n : ℕ) (x : Handle) → AreProper ts →
-    (EndsOn q (say endless ts q).0 n x → ⊥) → IsLive ts n x → IsLive (say endless ts q).1 n x
+HandlesStayLive = (limit : ℕ) (ts : EndlessTopics) (q : Query) (n : ℕ) (x : Handle) → AreProper ts →
+    (EndsOn q (say (endless limit) ts q).0 n x → ⊥) → IsLive ts n x → IsLive (say (endless limit) ts q).1 n x
 
 -- a handle that an event made is live on its topic, and was not so before
 abbrev pub NewHandlesAreNew : Type 0
-NewHandlesAreNew = (ts : EndlessTopics) (n : ℕ) (event : Event) (x : Handle) → AreProper ts →
-    new_handle (say endless ts (On n event)).0 ≡ Some x →
-    IsLive (say endless ts (On n event)).1 n x × (IsLive ts n x → ⊥)
+NewHandlesAreNew = (limit : ℕ) (ts : EndlessTopics) (n : ℕ) (event : Event) (x : Handle) → AreProper ts →
+    new_handle (say (endless limit) ts (On n event)).0 ≡ Some x →
+    IsLive (say (endless limit) ts (On n event)).1 n x × (IsLive ts n x → ⊥)
 
 -- where the handle is live by which an event is asked for, no channel says that there is no such handle
 abbrev pub LiveHandlesAreServed : Type 0
-LiveHandlesAreServed = (ts : EndlessTopics) (n : ℕ) (event : Event) →
+LiveHandlesAreServed = (limit : ℕ) (ts : EndlessTopics) (n : ℕ) (event : Event) →
     ((x : Handle) → AskedBy event x → IsLive ts n x) →
-    lacks_handle (say endless ts (On n event)).0 ≡ false
+    lacks_handle (say (endless limit) ts (On n event)).0 ≡ false

@@ -1,6 +1,8 @@
 pub mod Kinds
 pub mod Calls
 pub mod Events
+pub mod History
+pub mod Refusals
 pub mod Hub
 pub mod Typed
 pub mod Endless
@@ -8,3 +10,4 @@ pub mod Pictures
 pub mod Outcomes
 pub mod Laws
 pub mod Live
+pub mod Legal

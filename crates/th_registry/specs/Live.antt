@@ -1,5 +1,5 @@
 -- The live handles of a hub's topics, and those that an event makes and ends.
-use Rattle.std.specs.Prelude.{ℕ, ◌≡◌, Bool, true, false, Option, Some, None, is_some, slice_get, Ok}
+use Rattle.std.specs.Prelude.{ℕ, ◌≡◌, Bool, true, false, Option, Some, None, is_some, slice_get, Ok, Err}
 use Rattle.std.specs.Map.{values_of}
 use Rattle.th_model.specs.declared.handles.TxId.{TxId}
 use Rattle.th_model.specs.declared.handles.RxId.{RxId}
@@ -10,8 +10,9 @@ use Rattle.th_model.specs.declared.broadcast.BReply.TheVariants as BReplies
 use Rattle.th_model.specs.declared.watch.WReply.TheVariants as WReplies
 use Rattle.th_registry.specs.declared.channel.Channel.TheVariants.{Broadcast, Watch}
 use Rattle.th_registry.specs.declared.outcome.ChannelReply.TheVariants as ChannelReplies
+use Rattle.th_registry.specs.declared.outcome.NoEvent.TheVariants as NoEvents
 use Rattle.th_registry.specs.Events.{Event, Subscribes, Sends, Asks, Receives, Resubscribes, DropsTx, DropsRx, Own, NewTx, NewRx, Replied, Told, sender_of}
-use Rattle.th_registry.specs.Hub.{Query, Find, List, Open, On, Said}
+use Rattle.th_registry.specs.Hub.{Query, Find, List, Open, On, Cut, Said}
 use Rattle.th_registry.specs.Endless.{EndlessChannel, EndlessTopics}
 
 -- a handle of a channel, by its side
@@ -21,10 +22,10 @@ pub data Handle : Type 0 where
 
 -- whether the handle is live on the channel
 abbrev pub is_live : EndlessChannel → Handle → Bool
-is_live (Broadcast e) (Sender t) = is_sender e.senders t.0
-is_live (Broadcast e) (Receiver r) = is_some (place_of e.index r.0)
-is_live (Watch e) (Sender t) = is_sender e.senders t.0
-is_live (Watch e) (Receiver r) = is_some (reader_of e.marks r.0)
+is_live (Broadcast h) (Sender t) = is_sender h.state.senders t.0
+is_live (Broadcast h) (Receiver r) = is_some (place_of h.state.index r.0)
+is_live (Watch h) (Sender t) = is_sender h.state.senders t.0
+is_live (Watch h) (Receiver r) = is_some (reader_of h.state.marks r.0)
 
 -- the same of a channel that may be none
 abbrev pub is_live_on : Option EndlessChannel → Handle → Bool
@@ -55,6 +56,7 @@ EndsOn (Find name) said n x = ⊥
 EndsOn List said n x = ⊥
 EndsOn (Open name making) said n x = ⊥
 EndsOn (On topic event) told n x = (n ≡ topic) × Ends event told x
+EndsOn (Cut topic) said n x = ⊥
 
 -- the event is asked for by this handle, and not through the hub's own sender
 abbrev pub AskedBy : Event → Handle → Type 0
@@ -67,8 +69,9 @@ AskedBy (DropsTx (Own t)) x = x ≡ Sender t
 AskedBy (DropsRx r) x = x ≡ Receiver r
 AskedBy event x = ⊥
 
--- a channel said that there is no such handle
+-- a channel said that there is no such handle, or that the handle to be spent is not live
 abbrev pub lacks_handle : Told → Bool
+lacks_handle (Err NoEvents.NotLive) = true
 lacks_handle (Ok (Replied (ChannelReplies.Broadcast (BReplies.NoHandle v)))) = true
 lacks_handle (Ok (Replied (ChannelReplies.Watch (WReplies.NoHandle v)))) = true
 lacks_handle told = false

@@ -1,37 +1,95 @@
--- The hub as it is seen: of each channel its picture.
-use Rattle.std.specs.Prelude.{map, nat_eq}
+-- The hub as it is seen: of each channel its picture, and its history.
+use Rattle.std.specs.Prelude.{◌≡◌, ℕ, is_some, map, nat_eq}
 use Rattle.std.specs.Cmp.Lexicographic.{pointwise}
 use Rattle.th_model.specs.Handles.{is_sender}
+use Rattle.th_model.specs.Places.{place_of}
+use Rattle.th_model.specs.Live.{live_handles, live_watchers}
+use Rattle.th_model.specs.declared.broadcast.BCall.{BCall}
+use Rattle.th_model.specs.declared.broadcast.BReply.{BReply}
+use Rattle.th_model.specs.declared.watch.WCall.{WCall}
+use Rattle.th_model.specs.declared.watch.WReply.{WReply}
 use Rattle.th_model.specs.BroadcastMachine as broadcast_machine
 use Rattle.th_model.specs.BroadcastPicture as broadcast
 use Rattle.th_model.specs.WatchMachine as watch_machine
+use Rattle.th_model.specs.WatchMachine.{reader_of}
 use Rattle.th_model.specs.WatchPicture as watch
 use Rattle.th_registry.specs.declared.channel.Channel.{Channel}
 use Rattle.th_registry.specs.declared.channel.Channel.TheVariants.{Broadcast, Watch}
 use Rattle.th_registry.specs.Calls.{Bytes}
-use Rattle.th_registry.specs.Hub.{Machines, Topics}
-use Rattle.th_registry.specs.Endless.{EndlessChannel, EndlessTopics}
+use Rattle.th_registry.specs.History.{History, BroadcastSegment, WatchSegment, opened, recorded, is_full, segment, cut}
+use Rattle.th_registry.specs.Hub.{ChannelMachine, Machines, Query, Said, Says, Topics}
+use Rattle.th_registry.specs.Endless.{EndlessBroadcast, EndlessChannel, EndlessTopics, EndlessWatch}
+
+abbrev pub SeenBroadcast : Type 0
+SeenBroadcast = History (broadcast.Picture Bytes) (broadcast.Picture Bytes) (BCall Bytes) (BReply Bytes)
+
+abbrev pub SeenWatch : Type 0
+SeenWatch = History (watch.Picture Bytes) (watch.Picture Bytes) (WCall Bytes) (WReply Bytes)
 
 abbrev pub SeenChannel : Type 0
-SeenChannel = Channel (broadcast.Picture Bytes) (watch.Picture Bytes)
+SeenChannel = Channel SeenBroadcast SeenWatch
 
 abbrev pub SeenTopics : Type 0
-SeenTopics = Topics (broadcast.Picture Bytes) (watch.Picture Bytes)
+SeenTopics = Topics SeenBroadcast SeenWatch
 
-abbrev pub pictures : Machines (broadcast.Picture Bytes) (watch.Picture Bytes)
-pictures = record {
-  broadcast = broadcast.answer;
-  broadcast_has_sender = λ p tx. is_sender p.senders tx.0;
-  broadcast_opened = λ capacity base. broadcast.see (broadcast_machine.opened capacity base);
-  watch = watch.answer (pointwise nat_eq);
-  watch_has_sender = λ p tx. is_sender p.senders tx.0;
-  watch_opened = λ value. watch.see (watch_machine.opened value 1);
+abbrev pub watch_answer : watch.Picture Bytes → WCall Bytes → WReply Bytes × watch.Picture Bytes
+watch_answer = watch.answer (pointwise nat_eq)
+
+-- each event of a channel becomes an entry
+abbrev pub seen_broadcast : ChannelMachine SeenBroadcast (BCall Bytes) (BReply Bytes) BroadcastSegment
+seen_broadcast = record {
+  step = λ h call. recorded h call (broadcast.answer h.state call);
+  is_full = λ h call. is_full h (live_handles (broadcast.answer h.state call).1);
+  has_sender = λ h tx. is_sender h.state.senders tx.0;
+  has_receiver = λ h rx. is_some (place_of h.state.window.places rx.0);
+  cut = λ h. (segment h h.state, cut h h.state);
+}
+
+abbrev pub seen_watch : ChannelMachine SeenWatch (WCall Bytes) (WReply Bytes) WatchSegment
+seen_watch = record {
+  step = λ h call. recorded h call (watch_answer h.state call);
+  is_full = λ h call. is_full h (live_watchers (watch_answer h.state call).1);
+  has_sender = λ h tx. is_sender h.state.senders tx.0;
+  has_receiver = λ h rx. is_some (reader_of h.state.readers rx.0);
+  cut = λ h. (segment h h.state, cut h h.state);
+}
+
+-- segments have at most `limit` entries
+abbrev pub pictures : (limit : ℕ) → Machines SeenBroadcast SeenWatch
+pictures limit = record {
+  broadcast = seen_broadcast;
+  broadcast_opened = λ capacity base key.
+      let p = broadcast.see (broadcast_machine.opened capacity base) in opened limit key p p;
+  watch = seen_watch;
+  watch_opened = λ value key.
+      let p = watch.see (watch_machine.opened value 1) in opened limit key p p;
+}
+
+-- a history where the channel is seen so
+abbrev pub with_state : {E S C R : Type 0} → History E S C R → S → History S S C R
+with_state h state = record {
+  state = state;
+  key = h.key;
+  first = h.first;
+  start = h.start;
+  entries = h.entries;
+  limit = h.limit;
 }
 
 abbrev pub see_channel : EndlessChannel → SeenChannel
-see_channel (Broadcast e) = Broadcast (broadcast.see e)
-see_channel (Watch e) = Watch (watch.see e)
+see_channel (Broadcast h) = Broadcast (with_state h (broadcast.see h.state))
+see_channel (Watch h) = Watch (with_state h (watch.see h.state))
 
 -- the topics as they are seen
 abbrev pub see_topics : EndlessTopics → SeenTopics
 see_topics ts = map (λ topic. (topic.0, see_channel topic.1)) ts
+
+-- a desk of one thread: the most entries of a segment, and the topics
+pub record Desk : Type 0 where
+  pub limit : ℕ
+  pub topics : SeenTopics
+
+-- it says what the hub says, or that memory was refused; its limit stays
+abbrev pub DeskSays : Desk → (q : Query) → Said q → Desk → Type 0
+DeskSays old q said new =
+    (new.limit ≡ old.limit) × Says (pictures old.limit) old.topics q said new.topics

@@ -1,8 +1,13 @@
-//! Channels of any kind.
+//! Channels of any kind, and those of a desk of one thread.
 ghost use Rattle.std.specs.Prelude.{◌≡◌};
 ghost use Rattle.th_registry.specs.Kinds.{kind_of};
 
-use th_model::Kind;
+use crate::recorded::Recorded;
+use th_bcast::Broadcast;
+use th_log::Segment;
+use th_model::{Kind, Value};
+use th_ring::RingShelf;
+use th_watch::Watch;
 
 /// A channel of any kind.
 #[derive(Drop)]
@@ -22,3 +27,15 @@ impl<B, W> Channel<B, W> {
         }
     }
 }
+
+/// A broadcast channel of the hub.
+pub type HubBroadcast = Broadcast<Value, RingShelf<Value>>;
+
+/// A watch channel of the hub.
+pub type HubWatch = Watch<Value>;
+
+/// A segment of a topic's history.
+pub type TopicSegment = Channel<Segment<HubBroadcast>, Segment<HubWatch>>;
+
+/// A channel of a desk of one thread.
+pub type LocalChannel = Channel<Recorded<HubBroadcast>, Recorded<HubWatch>>;

@@ -4,14 +4,15 @@ ghost use Rattle.std.specs.Option.{option_map};
 ghost use Rattle.th_model.specs.declared.handles.TxId.{TxId};
 ghost use Rattle.th_model.specs.declared.handles.RxId.{RxId};
 ghost use Rattle.th_registry.specs.Events.{Asks, Binds, DropsRx, DropsTx, Hub, Own, Receives, Resubscribes, Sends, Subscribes, any_sender};
-ghost use Rattle.th_registry.specs.Hub.{Query, Said, Find, List, Open, On};
+ghost use Rattle.th_registry.specs.Hub.{Query, Said, Find, List, Open, On, Cut};
 ghost use Rattle.th_registry.specs.Typed.{made_rx, made_tx, replied, spent};
 
+use crate::channel::TopicSegment;
 use crate::opening::{Found, Refusal, TopicId};
 use crate::outcome::{ChannelReply, Made, NoEvent, Unspent};
 use th_model::{Listing, Making, NameRef, Question, ReceiverVerb, SenderVerb, Short, Start};
 
-/// Topics by name. Each call but `find` and `list` is one event, on the topic of that number or of the registry, or
+/// Topics by name. Each call but `find`, `list` and `cut` is one event, on the topic of that number or of the registry, or
 /// none; `resubscribe` is both of its events, or none. By which side of handles an event is made is the call's name and
 /// the type of its verb.
 pub trait Desk: Drop {
@@ -124,4 +125,8 @@ pub trait Desk: Drop {
     /// The last event of the hub's own sender.
     fn end(&mut self, topic: TopicId) -> Result<ChannelReply, NoEvent>
         ensures { says self.old (On topic.0 (DropsTx Hub)) (replied result) self.new };
+
+    /// Hands out the topic's segment so far, and begins the next one. It is no event.
+    fn cut(&mut self, topic: TopicId) -> Result<TopicSegment, NoEvent>
+        ensures { says self.old (Cut topic.0) result self.new };
 }

@@ -1,27 +1,25 @@
 //! The events of one channel.
-ghost use Rattle.std.specs.Prelude.{◌≡◌, Some};
+ghost use Rattle.std.specs.Prelude.{◌≡◌, ◌<◌, ◌&&◌, Some, not, true, nat_eq};
+ghost use Rattle.std.specs.Cmp.Lexicographic.{pointwise};
+ghost use Rattle.th_log.specs.History.{live_after};
+ghost use Rattle.th_log.specs.Machines.{broadcast, watch};
+ghost use Rattle.th_model.specs.Live.{live_handles, live_watchers};
 ghost use Rattle.th_registry.specs.Events.{Asks, Binds, DropsRx, DropsTx, Hub, NewRx, Own, Receives, Resubscribes, Sends, Subscribes, any_sender, broadcast_call, broadcast_made_rx, sender_of, watch_call, watch_made_rx};
-ghost use Rattle.th_registry.specs.Outcomes.{BroadcastMoves, BroadcastSays, BroadcastTells, ChannelTells, WatchSays, WatchTells};
+ghost use Rattle.th_registry.specs.Outcomes.{BroadcastMoves, BroadcastSays, BroadcastSpends, BroadcastTells, ChannelCuts, ChannelTells, WatchSays, WatchSpends, WatchTells};
+ghost use Rattle.th_registry.specs.Calls.{tx};
+ghost use Rattle.th_registry.specs.Pictures.{seen_broadcast, seen_watch};
 ghost use Rattle.th_registry.specs.Typed.{made_rx, made_tx, outcome_of, replied};
 
 use crate::calls::{
     broadcast_asked, broadcast_by_receiver, broadcast_by_sender, watch_asked, watch_by_receiver,
     watch_by_sender,
 };
-use crate::channel::Channel;
+use crate::channel::{Channel, HubBroadcast, HubWatch, LocalChannel, TopicSegment};
 use crate::outcome::{ChannelReply, Made, NoEvent};
-use th_bcast::Broadcast;
+use crate::recorded::Recorded;
 use th_model::{
     BCall, BReply, Question, ReceiverVerb, RxId, SenderVerb, Start, TxId, Value, WCall, WReply,
 };
-use th_ring::RingShelf;
-use th_watch::Watch;
-
-/// A broadcast channel of a desk of one thread.
-pub type LocalBroadcast = Broadcast<Value, RingShelf<Value>>;
-
-/// A channel of a desk of one thread.
-pub type LocalChannel = Channel<LocalBroadcast, Watch<Value>>;
 
 // The hub's own sender is the first handle of each topic.
 const HUB_SENDER: TxId = TxId(1);
@@ -33,10 +31,18 @@ fn sender_or_hub(sender: Option<TxId>) -> TxId
     sender.unwrap_or(HUB_SENDER)
 }
 
+// Whether a call is to go through the hub's own sender, and that is spent.
+#[inline(always)]
+fn lacks_sender(channel: &Recorded<HubBroadcast>, by_hub: bool) -> bool
+    ensures { result ≡ (by_hub && not (seen_broadcast.has_sender channel.now (tx 1))) }
+{
+    by_hub && !channel.object().has_sender(HUB_SENDER)
+}
+
 // One call, through the hub's own sender or not; or the first reason why there is no event.
 #[inline(always)]
 fn call_broadcast(
-    channel: &mut LocalBroadcast,
+    channel: &mut Recorded<HubBroadcast>,
     by_hub: bool,
     call: Option<BCall<Value>>,
 ) -> Result<BReply<Value>, NoEvent>
@@ -45,22 +51,30 @@ fn call_broadcast(
     let Some(call) = call else {
         return Err(NoEvent::WrongKind);
     };
-    if by_hub && !channel.has_sender(HUB_SENDER) {
+    if lacks_sender(channel, by_hub) {
         return Err(NoEvent::NoSender);
     }
-    if !channel.ready(&call) {
+    if !channel.object().ready(&call) {
         return Err(NoEvent::Blocked);
     }
-    match channel.apply(call) {
-        Ok(reply) => Ok(reply),
-        Err(_) => Err(NoEvent::Short),
+    match channel.record(call) {
+        Ok(receipt) => Ok(receipt.into_reply()),
+        Err(why) => Err(why),
     }
 }
 
-// The same of a watch channel.
+// Whether a call of a watch channel is to go through the hub's own sender, and that is spent.
+#[inline(always)]
+fn lacks_watch_sender(channel: &Recorded<HubWatch>, by_hub: bool) -> bool
+    ensures { result ≡ (by_hub && not (seen_watch.has_sender channel.now (tx 1))) }
+{
+    by_hub && !channel.object().has_sender(HUB_SENDER)
+}
+
+// One call of a watch channel.
 #[inline(always)]
 fn call_watch(
-    channel: &mut Watch<Value>,
+    channel: &mut Recorded<HubWatch>,
     by_hub: bool,
     call: Option<WCall<Value>>,
 ) -> Result<WReply<Value>, NoEvent>
@@ -69,22 +83,22 @@ fn call_watch(
     let Some(call) = call else {
         return Err(NoEvent::WrongKind);
     };
-    if by_hub && !channel.has_sender(HUB_SENDER) {
+    if lacks_watch_sender(channel, by_hub) {
         return Err(NoEvent::NoSender);
     }
-    if !channel.ready(&call) {
+    if !channel.object().ready(&call) {
         return Err(NoEvent::Blocked);
     }
-    match channel.apply(call) {
-        Ok(reply) => Ok(reply),
-        Err(_) => Err(NoEvent::Short),
+    match channel.record(call) {
+        Ok(receipt) => Ok(receipt.into_reply()),
+        Err(why) => Err(why),
     }
 }
 
 // What the channel replies to a call that makes no handle.
 #[inline(always)]
 fn tell_broadcast(
-    channel: &mut LocalBroadcast,
+    channel: &mut Recorded<HubBroadcast>,
     by_hub: bool,
     call: Option<BCall<Value>>,
 ) -> Result<ChannelReply, NoEvent>
@@ -99,7 +113,7 @@ fn tell_broadcast(
 // The same of a watch channel.
 #[inline(always)]
 fn tell_watch(
-    channel: &mut Watch<Value>,
+    channel: &mut Recorded<HubWatch>,
     by_hub: bool,
     call: Option<WCall<Value>>,
 ) -> Result<ChannelReply, NoEvent>
@@ -108,6 +122,37 @@ fn tell_watch(
     match call_watch(channel, by_hub, call) {
         Ok(reply) => Ok(ChannelReply::Watch(reply)),
         Err(why) => Err(why),
+    }
+}
+
+// The end of a live handle of a broadcast channel. It takes no memory, and no room but what was kept for it.
+fn spend_broadcast(
+    channel: &mut Recorded<HubBroadcast>,
+    call: BCall<Value>,
+) -> Result<ChannelReply, NoEvent>
+    requires ready { broadcast.ready channel.old.state call ≡ true }
+    requires spends { live_after broadcast channel.old.state call < live_handles channel.old.state }
+    ensures { BroadcastSpends channel.old call (replied result) channel.new }
+{
+    match channel.record(call) {
+        Ok(receipt) => Ok(ChannelReply::Broadcast(receipt.into_reply())),
+        Err(_) => unreachable!(),
+    }
+}
+
+// The same of a watch channel.
+fn spend_watch(
+    channel: &mut Recorded<HubWatch>,
+    call: WCall<Value>,
+) -> Result<ChannelReply, NoEvent>
+    requires ready { (watch (pointwise nat_eq)).ready channel.old.state call ≡ true }
+    requires spends { live_after (watch (pointwise nat_eq)) channel.old.state call
+        < live_watchers channel.old.state }
+    ensures { WatchSpends channel.old call (replied result) channel.new }
+{
+    match channel.record(call) {
+        Ok(receipt) => Ok(ChannelReply::Watch(receipt.into_reply())),
+        Err(_) => unreachable!(),
     }
 }
 
@@ -164,35 +209,63 @@ pub fn ask(
     }
 }
 
-/// The end of a sender.
+/// The end of a sender, where it is live.
 pub fn drop_tx(channel: &mut LocalChannel, tx: TxId) -> Result<ChannelReply, NoEvent>
     ensures { ChannelTells channel.old (DropsTx (Own tx)) (replied result) channel.new }
 {
     match channel {
-        Channel::Broadcast(channel) => tell_broadcast(channel, false, Some(BCall::DropTx(tx))),
-        Channel::Watch(channel) => tell_watch(channel, false, Some(WCall::DropTx(tx))),
+        Channel::Broadcast(channel) => {
+            if !channel.object().has_sender(tx) {
+                return Err(NoEvent::NotLive);
+            }
+            spend_broadcast(channel, BCall::DropTx(tx))
+        }
+        Channel::Watch(channel) => {
+            if !channel.object().has_sender(tx) {
+                return Err(NoEvent::NotLive);
+            }
+            spend_watch(channel, WCall::DropTx(tx))
+        }
     }
 }
 
-/// The end of a receiver.
+/// The end of a receiver, where it is live.
 pub fn drop_rx(channel: &mut LocalChannel, rx: RxId) -> Result<ChannelReply, NoEvent>
     ensures { ChannelTells channel.old (DropsRx rx) (replied result) channel.new }
 {
     match channel {
-        Channel::Broadcast(channel) => tell_broadcast(channel, false, Some(BCall::DropRx(rx))),
-        Channel::Watch(channel) => tell_watch(channel, false, Some(WCall::DropRx(rx))),
+        Channel::Broadcast(channel) => {
+            if channel.object().place(rx).is_none() {
+                return Err(NoEvent::NotLive);
+            }
+            spend_broadcast(channel, BCall::DropRx(rx))
+        }
+        Channel::Watch(channel) => {
+            if channel.object().is_unseen(rx).is_none() {
+                return Err(NoEvent::NotLive);
+            }
+            spend_watch(channel, WCall::DropRx(rx))
+        }
     }
 }
 
-/// The end of the hub's own sender.
+/// The end of the hub's own sender, where it is live.
 pub fn end(channel: &mut LocalChannel) -> Result<ChannelReply, NoEvent>
     ensures { ChannelTells channel.old (DropsTx Hub) (replied result) channel.new }
 {
     match channel {
         Channel::Broadcast(channel) => {
-            tell_broadcast(channel, true, Some(BCall::DropTx(HUB_SENDER)))
+            if !channel.object().has_sender(HUB_SENDER) {
+                return Err(NoEvent::NoSender);
+            }
+            spend_broadcast(channel, BCall::DropTx(HUB_SENDER))
         }
-        Channel::Watch(channel) => tell_watch(channel, true, Some(WCall::DropTx(HUB_SENDER))),
+        Channel::Watch(channel) => {
+            if !channel.object().has_sender(HUB_SENDER) {
+                return Err(NoEvent::NoSender);
+            }
+            spend_watch(channel, WCall::DropTx(HUB_SENDER))
+        }
     }
 }
 
@@ -286,18 +359,18 @@ pub fn subscribe(
     }
 }
 
-// A new receiver, and then the end of the old one.
-fn move_receiver(channel: &mut LocalBroadcast, rx: RxId) -> Result<BReply<Value>, NoEvent>
+// A new receiver, and then the end of the old one, for which room was kept.
+fn move_receiver(channel: &mut Recorded<HubBroadcast>, rx: RxId) -> Result<BReply<Value>, NoEvent>
     ensures { BroadcastMoves channel.old rx result channel.new }
 {
-    match channel.resubscribe(rx) {
+    match call_broadcast(channel, false, Some(BCall::Resubscribe(rx))) {
         Ok(reply) => {
             if let BReply::NewRx(_) = &reply {
-                let _ = channel.drop_rx(rx);
+                let _ = spend_broadcast(channel, BCall::DropRx(rx));
             }
             Ok(reply)
         }
-        Err(_) => Err(NoEvent::Short),
+        Err(why) => Err(why),
     }
 }
 
@@ -311,5 +384,21 @@ pub fn resubscribe(channel: &mut LocalChannel, rx: RxId) -> Result<Made<RxId>, N
             Err(why) => Err(why),
         },
         Channel::Watch(_) => Err(NoEvent::WrongKind),
+    }
+}
+
+/// The segment so far. The next one begins.
+pub fn cut(channel: &mut LocalChannel) -> Result<TopicSegment, NoEvent>
+    ensures { ChannelCuts channel.old result channel.new }
+{
+    match channel {
+        Channel::Broadcast(channel) => match channel.cut() {
+            Ok(segment) => Ok(Channel::Broadcast(segment)),
+            Err(_) => Err(NoEvent::Short),
+        },
+        Channel::Watch(channel) => match channel.cut() {
+            Ok(segment) => Ok(Channel::Watch(segment)),
+            Err(_) => Err(NoEvent::Short),
+        },
     }
 }

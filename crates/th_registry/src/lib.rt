@@ -16,12 +16,13 @@ pub mod laws;
 pub mod local;
 pub mod opening;
 pub mod outcome;
+pub mod recorded;
 #[cfg(test)]
 mod tests;
 mod topics;
 
 pub use channel::Channel;
 pub use desk::Desk;
-pub use local::LocalDesk;
+pub use local::{BadLimit, LocalDesk};
 pub use opening::{Found, Refusal, TopicId};
 pub use outcome::{ChannelReply, Made, NoEvent, Unspent};

@@ -1,8 +1,8 @@
 //! The desk of one thread, which never waits.
-ghost use Rattle.std.specs.Prelude.{◌≡◌, []};
-ghost use Rattle.th_registry.specs.Hub.{Says};
-ghost use Rattle.th_registry.specs.Pictures.{pictures};
+ghost use Rattle.std.specs.Prelude.{◌≡◌, ◌≤◌, ◌<◌, ◌↔◌, [], IfOk, IsOk};
+ghost use Rattle.th_registry.specs.Pictures.{DeskSays};
 
+use crate::channel::TopicSegment;
 use crate::desk::Desk;
 use crate::event;
 use crate::opening::{Found, Refusal, TopicId};
@@ -14,29 +14,59 @@ use std::marker::Model;
 use th_model::{
     Listing, Making, NameRef, Question, ReceiverVerb, RxId, SenderVerb, Short, Start, TxId,
 };
+use thiserror::Error;
 
-/// At most 1,024 topics by name, in order of opening, each with its channel.
+/// The most entries of a segment where no other limit is given, and the most that a limit may be.
+const MOST_ENTRIES: u64 = 1_000_000;
+
+/// At most 1,024 topics by name, in order of opening, each with its channel and the channel's log.
 #[derive(Drop)]
 pub struct LocalDesk {
     channels: Channels,
+    // The most entries of a segment of each topic, 1 to 1,000,000. It never changes.
+    limit: u64,
 }
 
 impl Model for LocalDesk {
-    ghost use Rattle.th_registry.specs.Pictures.{SeenTopics};
+    ghost use Rattle.th_registry.specs.Pictures.{Desk};
 
-    ghost Value = { SeenTopics };
+    ghost Value = { Desk };
 
-    ghost view = { λ d. d.channels.entries };
+    ghost view = { λ d. record { limit = d.limit; topics = d.channels.entries } };
 }
 
+/// A limit is 1 to 1,000,000.
+#[derive(Clone, Copy, Debug, Drop, Error, PartialEq, Eq)]
+#[error("a limit is 1 to 1,000,000")]
+pub struct BadLimit;
+
 impl LocalDesk {
-    /// No topic. It takes no memory.
+    /// No topic. Segments have at most 1,000,000 entries. It takes no memory.
     pub fn new(alloc: Global) -> LocalDesk
-        ensures { result ≡ [] }
+        ensures { result ≡ record { limit = 1000000; topics = [] } }
+    {
+        LocalDesk::empty(alloc, MOST_ENTRIES)
+    }
+
+    // No topic, and this limit.
+    fn empty(alloc: Global, limit: u64) -> LocalDesk
+        ensures { result ≡ record { limit = limit; topics = [] } }
     {
         LocalDesk {
             channels: IndexMap::new(alloc),
+            limit,
         }
+    }
+
+    /// No topic. Segments have at most so many entries, 1 to 1,000,000. It takes no memory.
+    pub fn with_limit(alloc: Global, limit: u64) -> Result<LocalDesk, BadLimit>
+        ensures desk { IfOk result (λ desk. desk ≡ record { limit = limit; topics = [] }) }
+        ensures limits { IsOk result ↔ (0 < limit) × (limit ≤ 1000000) }
+    {
+        if limit == 0 || limit > MOST_ENTRIES {
+            return Err(BadLimit);
+        }
+        Ok(LocalDesk::empty(alloc, limit))
     }
 }
 
@@ -57,7 +87,7 @@ impl Desk for LocalDesk {
 
     ghost rx = { λ r. r };
 
-    ghost says = { Says pictures };
+    ghost says = { DeskSays };
 
     fn find(&self, name: &NameRef<'_>) -> Option<Found> {
         match self.channels.get_full(name) {
@@ -79,11 +109,17 @@ impl Desk for LocalDesk {
         }
         let name = name.to_name();
         match making {
-            Making::Broadcast(asked) => open_broadcast(&mut self.channels, name, asked, 0),
+            Making::Broadcast(asked) => open_broadcast(
+                &mut self.channels,
+                self.limit,
+                name,
+                asked,
+                0,
+            ),
             Making::BroadcastAt(asked, base) => {
-                open_broadcast(&mut self.channels, name, asked, base)
+                open_broadcast(&mut self.channels, self.limit, name, asked, base)
             }
-            Making::Watch(value) => open_watch(&mut self.channels, name, value),
+            Making::Watch(value) => open_watch(&mut self.channels, self.limit, name, value),
         }
     }
 
@@ -184,5 +220,12 @@ impl Desk for LocalDesk {
             return Err(NoEvent::NoTopic);
         };
         event::end(channel)
+    }
+
+    fn cut(&mut self, topic: TopicId) -> Result<TopicSegment, NoEvent> {
+        let Some(channel) = self.channels.get_index_mut(topic.0 as usize) else {
+            return Err(NoEvent::NoTopic);
+        };
+        event::cut(channel)
     }
 }

@@ -32,9 +32,15 @@ pub enum NoEvent {
     /// The hub's own sender is spent.
     #[error("no live sender to go through")]
     NoSender,
+    /// The handle that was to be spent is not live on the topic.
+    #[error("the handle is not live")]
+    NotLive,
     /// There is nothing to tell yet, and the desk does not wait.
     #[error("nothing to tell yet")]
     Blocked,
+    /// There is no room in the topic's log, beside the entries that spend the live handles.
+    #[error("the log is full")]
+    LogFull,
     /// There was no memory.
     #[error("no memory")]
     Short,

@@ -1,4 +1,6 @@
 //! Each public function on its happy path, the refusals of the hub's topics, and each reason why there is no event.
+mod logs;
+
 use crate::calls::{answers, receives, sends};
 use crate::channel::Channel;
 use crate::desk::Desk;
@@ -103,16 +105,17 @@ fn is_none<T: Drop>(rt: &impl Abort, what: &str, told: Result<T, NoEvent>, why: 
     assert!(rt; none, "{what}");
 }
 
-/// The handle came back, since no topic is there.
+/// The handle came back, for this reason.
 fn comes_back<H: PartialEq + Drop>(
     rt: &impl Abort,
     what: &str,
     told: Result<ChannelReply, Unspent<H>>,
     handle: H,
+    why: NoEvent,
 ) {
     let back = match &told {
         Ok(_) => false,
-        Err(unspent) => unspent.handle == handle && unspent.why == NoEvent::NoTopic,
+        Err(unspent) => unspent.handle == handle && unspent.why == why,
     };
     assert!(rt; back, "{what}");
 }
@@ -361,7 +364,15 @@ fn handles_are_spent(rt: HostRuntime) {
     let back = BReply::NoHandle(Some(value(&rt, alloc, b"x")));
     tells(&rt, "a spent sender sends nothing", told, back);
     let told = desk.spend_sender(TOPIC, TxId(2));
-    tells(&rt, "a sender spent twice", told, BReply::NoHandle(None));
+    comes_back(&rt, "a sender spent twice", told, TxId(2), NoEvent::NotLive);
+    let told = desk.spend_receiver(TOPIC, RxId(3));
+    comes_back(
+        &rt,
+        "a receiver spent twice",
+        told,
+        RxId(3),
+        NoEvent::NotLive,
+    );
     makes(&rt, "the hub's own sender lives", desk.bind(TOPIC), TxId(4));
 }
 
@@ -657,11 +668,13 @@ fn where_no_topic_is_there_is_no_event(rt: HostRuntime) {
         "a sender",
         desk.spend_sender(NOWHERE, TxId(5)),
         TxId(5),
+        NoEvent::NoTopic,
     );
     comes_back(
         &rt,
         "a receiver",
         desk.spend_receiver(NOWHERE, RxId(6)),
         RxId(6),
+        NoEvent::NoTopic,
     );
 }

@@ -1,11 +1,11 @@
 //! The topics of a desk of one thread, in order of opening: how they are listed, and how one is opened.
-ghost use Rattle.std.specs.Prelude.{◌≡◌, true, false, is_some, OnOk, OnErr, ◌++◌, ◌∷◌};
+ghost use Rattle.std.specs.Prelude.{◌≡◌, ℕ, true, false, is_some, OnOk, OnErr, ◌++◌, ◌∷◌};
 ghost use Rattle.th_registry.specs.Hub.{find, open_topic, Says, List, Open, added};
 ghost use Rattle.th_registry.specs.Pictures.{pictures};
 
-use crate::channel::Channel;
-use crate::event::{LocalBroadcast, LocalChannel};
+use crate::channel::{Channel, HubBroadcast, LocalChannel};
 use crate::opening::Refusal;
+use crate::recorded::Recorded;
 use indexmap::IndexMap;
 use th_model::{Capacity, Listed, Listing, Making, Name, Short, Value};
 use th_watch::Watch;
@@ -18,7 +18,8 @@ pub type Channels = IndexMap<Name, LocalChannel>;
 
 /// The topics with their kinds. It takes memory for all of them at once.
 pub(crate) fn list(channels: &Channels) -> Result<Listing, Short<()>>
-    ensures { Says pictures channels.now.entries List result channels.now.entries }
+    ensures { (limit : ℕ) →
+        Says (pictures limit) channels.now.entries List result channels.now.entries }
 {
     let alloc = *channels.allocator();
     let Ok(mut rows) = Vec::with_capacity(alloc, channels.len()) else {
@@ -43,13 +44,14 @@ pub(crate) fn list(channels: &Channels) -> Result<Listing, Short<()>>
 /// capacity is out of range, else where there are 1,024 topics, else for want of memory; then nothing has changed.
 pub(crate) fn open_broadcast(
     channels: &mut Channels,
+    limit: u64,
     name: Name,
     asked: u64,
     base: u64,
 ) -> Result<u64, Refusal>
     requires { is_some (find channels.old.entries name) ≡ false }
     ensures { let making = Making.BroadcastAt asked base in
-        Says pictures channels.old.entries (Open name making) result channels.new.entries }
+        Says (pictures limit) channels.old.entries (Open name making) result channels.new.entries }
 {
     let Ok(capacity) = Capacity::new(asked) else {
         return Err(Refusal::BadCapacity);
@@ -58,7 +60,10 @@ pub(crate) fn open_broadcast(
         return Err(Refusal::TooManyTopics);
     }
     let alloc = *channels.allocator();
-    let Ok(channel) = LocalBroadcast::starting_at(alloc, capacity, base) else {
+    let Ok(channel) = HubBroadcast::starting_at(alloc, capacity, base) else {
+        return Err(Refusal::Short);
+    };
+    let Ok(channel) = Recorded::new(alloc, channel, limit, channels.len() as u64 + 1) else {
         return Err(Refusal::Short);
     };
     let Ok(_) = channels.insert(name, Channel::Broadcast(channel)) else {
@@ -68,15 +73,24 @@ pub(crate) fn open_broadcast(
 }
 
 /// The same of a watch channel, for which 1 is told.
-pub(crate) fn open_watch(channels: &mut Channels, name: Name, value: Value) -> Result<u64, Refusal>
+pub(crate) fn open_watch(
+    channels: &mut Channels,
+    limit: u64,
+    name: Name,
+    value: Value,
+) -> Result<u64, Refusal>
     requires { is_some (find channels.old.entries name) ≡ false }
     ensures { let making = Making.Watch value in
-        Says pictures channels.old.entries (Open name making) result channels.new.entries }
+        Says (pictures limit) channels.old.entries (Open name making) result channels.new.entries }
 {
     if channels.len() >= MOST_TOPICS {
         return Err(Refusal::TooManyTopics);
     }
-    let Ok(channel) = Watch::new(*channels.allocator(), value) else {
+    let alloc = *channels.allocator();
+    let Ok(channel) = Watch::new(alloc, value) else {
+        return Err(Refusal::Short);
+    };
+    let Ok(channel) = Recorded::new(alloc, channel, limit, channels.len() as u64 + 1) else {
         return Err(Refusal::Short);
     };
     let Ok(_) = channels.insert(name, Channel::Watch(channel)) else {

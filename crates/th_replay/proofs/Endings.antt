@@ -1,10 +1,11 @@
 -- What has come of a replay when it ends.
 use Rattle.std.proofs.Common.{◌≡◌, ℕ, ◌<◌, Bool, true, false, List, [], ◌++◌, length, take, refl, sym, ap, ◌∙◌, append_assoc, append-nil, arith, inl, Option, Ok, Err, subst, length-append}
 use Rattle.std.specs.Io.KnownBytes.{Appends}
+use Rattle.std.specs.List.{concat}
 use Rattle.std.proofs.Math.Seq.{take-append_seam}
 use Rattle.th_lines.specs.Intake.{lines_after, nothing_came}
 use Rattle.th_lines.specs.Lines.{Line, lines_from, lines_of}
-use Rattle.th_lines.specs.Standing.{Standing, spellings}
+use Rattle.th_lines.specs.Standing.{Standing}
 use Rattle.th_lines.proofs.LineLemmas.{last_line-none, lines_from-some}
 use Rattle.th_lines.proofs.OutputLemmas.{adds_all}
 use Rattle.th_replay.specs.Outcome.{AllAnswered, BrokenOff, Comes, Devices, PastLines, Replayed}
@@ -38,7 +39,7 @@ module _ {S : Type 0} (m : LineMachine S) (start : S) (limit failures : ℕ) (ol
   texts : (u : Underway m old.remaining new.remaining begun now) → now.out.waiting ≡ []
       → (marks : List Bool) × (length marks ≡ length u.ran.done) × Appends old.contents new.contents (session_text m start u.ran.done marks)
   texts u none =
-      let t = turned_text m u.ran.done start u.ran.replies now.state u.ran.turned in
+      let t = turned_text m u.ran.done start u.ran.texts now.state u.ran.turned in
       let all = adds_all refl none u.ran.said in (
         t.marks,
         t.each,
@@ -80,9 +81,9 @@ module _ {S : Type 0} (m : LineMachine S) (start : S) (limit failures : ℕ) (ol
   pub broken_off : BreaksOff m old.remaining new.remaining begun now → BrokenOff m start old new
   broken_off b =
       let q = b.stopped in
-      let t = turned_text m q.done start q.replies now.state q.turned in
+      let t = turned_text m q.done start q.texts now.state q.turned in
       let later : List ℕ = session_text m (session_end m start q.done t.marks) q.later [] in
-      let text : session_text m start (lines_from b.ended [] b.input) (t.marks ++ []) ≡ spellings q.replies ++ later =
+      let text : session_text m start (lines_from b.ended [] b.input) (t.marks ++ []) ≡ concat q.texts ++ later =
       ap (λ (l : List Line). session_text m start l (t.marks ++ [])) q.lines
       ∙ session_text-append m start q.done q.later t.marks [] t.each
       ∙ ap (λ (l : List ℕ). l ++ later) t.text in
@@ -101,7 +102,7 @@ module _ {S : Type 0} (m : LineMachine S) (start : S) (limit failures : ℕ) (ol
   replayed : (count : ℕ) → Finishes m old.remaining new.remaining begun now count → Replayed m start old new count
   replayed count f =
       let q = f.closed.stopped in
-      let t = turned_text m q.done start q.replies now.state q.turned in
+      let t = turned_text m q.done start q.texts now.state q.turned in
       let all : lines_of f.input ≡ q.done = q.lines ∙ ap (λ (l : List Line). q.done ++ l) f.closed.all ∙ append-nil q.done in
       record {
         input = f.input;

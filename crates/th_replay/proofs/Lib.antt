@@ -3,6 +3,8 @@ pub mod Turning
 pub mod RunLemmas
 pub mod Endings
 pub mod OutcomeLemmas
+pub mod Holdings
+pub mod Steps
 pub mod Orders
 pub mod Seeing
 pub mod Living

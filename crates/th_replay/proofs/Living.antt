@@ -11,12 +11,12 @@ use Rattle.std.proofs.lemmas.Option.{none-some, same_Some}
 use Rattle.indexmap.specs.IndexMap.{set_value_at}
 use Rattle.th_model.proofs.BroadcastProperness.{cond_case}
 use Rattle.th_lines.specs.Lines.{Line, Good, Long}
+use Rattle.th_lines.specs.Replies.{spell}
 use Rattle.th_lines.specs.Commands.{step_of}
 use Rattle.th_lines.specs.declared.command.Actor.{Actor}
 use Rattle.th_lines.specs.declared.command.Action.{Action}
 use Rattle.th_lines.specs.declared.command.Command.{Command}
 use Rattle.th_lines.specs.declared.command.Command.TheVariants.{On}
-use Rattle.th_lines.specs.declared.reply.Reply.{Reply}
 use Rattle.th_lines.specs.declared.reply.Reply.TheVariants.{Refused}
 use Rattle.th_lines.specs.declared.reply.Code.TheVariants as Codes
 use Rattle.th_registry.specs.declared.opening.Found.{Found}
@@ -27,11 +27,12 @@ use Rattle.th_registry.specs.Live.{Handle}
 use Rattle.th_session.specs.Held.{Holding, seat_at}
 use Rattle.th_session.specs.Laws.{Lacks}
 use Rattle.th_session.specs.Live.{Has, AllIsLive}
+use Rattle.th_session.specs.Script.{Answer, Replied}
 use Rattle.th_session.specs.Table.{is_for}
 use Rattle.th_session.proofs.Live.{what_is_lacking_is_exact}
 use Rattle.th_session.proofs.Living.{AreSound, Lives, IsOthers, Keeps, has-nothing, lives-nothing, command_keeps}
 use Rattle.th_replay.specs.Session.{turn, session_end, first_mark, later_marks}
-use Rattle.th_replay.specs.Schedule.{Hub, Actors, machine, start, answer_line, by_step, by_place, by_holding, started, has_quit, most_actors, place_of, endless_step}
+use Rattle.th_replay.specs.Schedule.{Hub, Actors, machine, start, by_step, by_place, by_holding, started, has_quit, most_actors, most_entries, place_of, endless_step, answer_to}
 use Rattle.th_replay.specs.Live.{MayAct, holding_at, held_at, held_by}
 use Rattle.th_replay.specs.Laws.{WhatIsHeldIsLive, WhatIsHeldIsNotShared, NotHeldIsExact}
 
@@ -126,8 +127,8 @@ module _ (hub : Hub EndlessTopics) (l : IsLiving hub) where
   holding_living : (place : ℕ) (command : Command) (o : Option Holding) → holding_at hub.actors place ≡ o → IsLiving (by_holding endless_step hub place command o).1
   holding_living place command None at = l
   holding_living place command (Some held) at =
-      let end : Reply × Holding × EndlessTopics = endless_step hub.topics held command in
-      let keeps : Keeps held hub.topics end.1 end.2 = command_keeps hub.topics held command l.sound (lives-at hub.actors place held l.living at) in
+      let end : Answer × Holding × EndlessTopics = endless_step hub.topics held command in
+      let keeps : Keeps held hub.topics end.1 end.2 = command_keeps most_entries hub.topics held command l.sound (lives-at hub.actors place held l.living at) in
       record {
         sound = keeps.sound;
         living = cond_case (Living end.2) (has_quit end.0) (remove hub.actors place) (set_value_at hub.actors place end.1)
@@ -136,8 +137,8 @@ module _ (hub : Hub EndlessTopics) (l : IsLiving hub) where
 
   first_living : (name : List ℕ) (command : Command) → IsLiving (started endless_step hub name (endless_step hub.topics [] command)).1
   first_living name command =
-      let end : Reply × Holding × EndlessTopics = endless_step hub.topics [] command in
-      let keeps : Keeps [] hub.topics end.1 end.2 = command_keeps hub.topics [] command l.sound (lives-nothing hub.topics [] refl) in
+      let end : Answer × Holding × EndlessTopics = endless_step hub.topics [] command in
+      let keeps : Keeps [] hub.topics end.1 end.2 = command_keeps most_entries hub.topics [] command l.sound (lives-nothing hub.topics [] refl) in
       let rest = all-others keeps hub.actors (nothing-apart hub.actors) l.living in
       record {
         sound = keeps.sound;
@@ -146,7 +147,7 @@ module _ (hub : Hub EndlessTopics) (l : IsLiving hub) where
 
   place_living : (name : List ℕ) (command : Command) (o : Option ℕ) → IsLiving (by_place endless_step hub name command o).1
   place_living name command None =
-      cond_case (λ (said : Reply × Hub EndlessTopics). IsLiving said.1) (nat_le 1024 (length hub.actors)) (Refused Codes.TooMany, hub)
+      cond_case (λ (end : Answer × Hub EndlessTopics). IsLiving end.1) (nat_le 1024 (length hub.actors)) (Replied (Refused Codes.TooMany), hub)
       (started endless_step hub name (endless_step hub.topics [] command)) (λ _. l) (λ _. first_living name command)
   place_living name command (Some place) = holding_living place command (slice_get (values_of hub.actors) place) refl
 
@@ -155,7 +156,7 @@ module _ (hub : Hub EndlessTopics) (l : IsLiving hub) where
   step_living (Some order) = place_living order.0.0 order.1 (place_of hub.actors order.0.0)
 
   answer_living : (line : Line) → IsLiving (machine.answer hub line).1
-  unfolding answer_line machine
+  unfolding answer_to machine
   answer_living Long = l
   answer_living (Good bytes) = step_living (step_of bytes)
 
@@ -163,7 +164,7 @@ module _ (hub : Hub EndlessTopics) (l : IsLiving hub) where
   turn_living : (line : Line) (marked : Bool) → IsLiving (turn machine hub line marked).1
   unfolding turn machine
   turn_living line marked =
-      cond_case (λ (said : Reply × Hub EndlessTopics). IsLiving said.1) _ (Refused Codes.NoMemory, hub) (machine.answer hub line) (λ _. l) (λ _. answer_living line)
+      cond_case (λ (said : List ℕ × Hub EndlessTopics). IsLiving said.1) _ (spell (Refused Codes.NoMemory), hub) (machine.answer hub line) (λ _. l) (λ _. answer_living line)
 
 end_living : (hub : Hub EndlessTopics) → IsLiving hub → (lines : List Line) (marks : List Bool) → IsLiving (session_end machine hub lines marks)
 end_living hub l [] marks = l
@@ -208,21 +209,21 @@ there (a ∷ actors) (suc place) h = there actors place (omega (arith, h))
 found-there : (actors : Actors) (name : List ℕ) (place : ℕ) → place_of actors name ≡ Some place → IsSome (holding_at actors place)
 found-there actors name place e = there actors place (position-Some (pointwise nat_eq name) (keys_of actors) place [] e).0
 
--- the reply is that the handle is not held exactly where it is lacking
-abbrev IsExact : Reply → Action → Holding → ℕ → Type 0
-IsExact reply action h n = (reply ≡ Refused Codes.NotHeld) ↔ Lacks action (seat_at h n)
+-- the answer is that the handle is not held exactly where it is lacking
+abbrev IsExact : Answer → Action → Holding → ℕ → Type 0
+IsExact answer action h n = (answer ≡ Replied (Refused Codes.NotHeld)) ↔ Lacks action (seat_at h n)
 
 module _ (hub : Hub EndlessTopics) (l : IsLiving hub) (name : Bytes) (action : Action) (t : Found)
     (e : find hub.topics name ≡ Some t) (right : is_for t.kind action ≡ true) where
   holding-exact : (place : ℕ) (o : Option Holding) → holding_at hub.actors place ≡ o → IsSome o →
       IsExact (by_holding endless_step hub place (On name action) o).0 action (unwrap_or o []) t.topic.0
   holding-exact place None at some = absurd (false≢true some)
-  holding-exact place (Some held) at some = what_is_lacking_is_exact hub.topics held name action t e right ((lives-at hub l hub.actors place held l.living at).live t.topic.0)
+  holding-exact place (Some held) at some = what_is_lacking_is_exact most_entries hub.topics held name action t e right ((lives-at hub l hub.actors place held l.living at).live t.topic.0)
 
   starting-exact : (full : Bool) (actor : List ℕ) → full ≡ false →
-      IsExact (cond {A = Reply × Hub EndlessTopics} full (Refused Codes.TooMany, hub) (started endless_step hub actor (endless_step hub.topics [] (On name action)))).0 action [] t.topic.0
+      IsExact (cond {A = Answer × Hub EndlessTopics} full (Replied (Refused Codes.TooMany), hub) (started endless_step hub actor (endless_step hub.topics [] (On name action)))).0 action [] t.topic.0
   starting-exact true actor room = absurd (false≢true (sym room))
-  starting-exact false actor room = what_is_lacking_is_exact hub.topics [] name action t e right (λ x has. absurd (has-nothing x has))
+  starting-exact false actor room = what_is_lacking_is_exact most_entries hub.topics [] name action t e right (λ x has. absurd (has-nothing x has))
 
   has-room : (o : Option ℕ) → IsSome o ⊎ (length hub.actors < most_actors) → o ≡ None → nat_le most_actors (length hub.actors) ≡ false
   has-room o (inl some) none = absurd (false≢true (subst IsSome none some))
@@ -234,8 +235,8 @@ module _ (hub : Hub EndlessTopics) (l : IsLiving hub) (name : Bytes) (action : A
   place-exact actor (Some place) at may = holding-exact place (holding_at hub.actors place) refl (found-there hub.actors actor place at)
 
   answer-exact : (bytes : List ℕ) (actor : Actor) → step_of bytes ≡ Some (actor, On name action) → MayAct hub.actors actor.0 →
-      IsExact (machine.answer hub (Good bytes)).0 action (held_by hub.actors actor.0) t.topic.0
-  unfolding answer_line machine
+      IsExact (answer_to endless_step hub (Good bytes)).0 action (held_by hub.actors actor.0) t.topic.0
+  unfolding answer_to
   answer-exact bytes actor is may =
       subst (λ (o : Option (Actor × Command)). IsExact (by_step endless_step hub o).0 action (held_by hub.actors actor.0) t.topic.0) (sym is)
       (place-exact actor.0 (place_of hub.actors actor.0) refl may)

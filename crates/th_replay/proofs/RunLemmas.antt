@@ -7,10 +7,8 @@ use Rattle.std.proofs.lemmas.Bool.{false≢true}
 use Rattle.th_lines.specs.Intake.{Came, Reading, Fills, Finds, lines_after, nothing_came}
 use Rattle.th_lines.specs.Lines.{Line, line_of, lines_from}
 use Rattle.th_lines.specs.Output.{Output, Adds, Flushes, WritesAll, WritesFront}
-use Rattle.th_lines.specs.Replies.{spell}
 use Rattle.th_lines.specs.Standing.{Standing, Advances, Stops}
 use Rattle.th_lines.specs.declared.counted.Moved.TheVariants.{Bytes, Again}
-use Rattle.th_lines.specs.declared.reply.Reply.{Reply}
 use Rattle.th_lines.proofs.LineLemmas.{last_line-one}
 use Rattle.th_lines.proofs.OutputLemmas.{adds_flushed, flushed_adds, waiting_front}
 use Rattle.th_lines.proofs.StandingLemmas.{answers_line, both, looks_on, stands, stops_after, stops_at, stops_here, takes_on, writes_on}
@@ -26,21 +24,21 @@ none_came c e f = λ i. record { begun = e i; ahead = f i }
 
 module _ {S : Type 0} (m : LineMachine S) where
   -- the next line was handed out and answered
-  pub next_one : (old : Standing S) (mid : Reading) (line : Line) (reply : Reply) (s : S) (out : Output) → Finds old.came true mid
-      → line ≡ line_of true mid.line → Turns m old.state line reply s → Adds (spell reply) old.out out → old.answered < old.limit
+  pub next_one : (old : Standing S) (mid : Reading) (line : Line) (text : List ℕ) (s : S) (out : Output) → Finds old.came true mid
+      → line ≡ line_of true mid.line → Turns m old.state line text s → Adds text old.out out → old.answered < old.limit
       → AnswersOne m old (record old { state = s; came = mid.came; answered = old.answered + 1; out = out })
-  next_one old mid line reply s out found e t said room = record {
-    ran = answers_line old mid reply s out found (subst (λ (l : Line). Turns m old.state l reply s) e t) said;
+  next_one old mid line text s out found e t said room = record {
+    ran = answers_line old mid text s out found (subst (λ (l : Line). Turns m old.state l text s) e t) said;
     one = refl;
     within = omega (arith, room);
   }
 
   -- it was answered, and the writer failed
-  pub next_broken : (old : Standing S) (mid : Reading) (line : Line) (reply : Reply) (s : S) (out : Output) → Finds old.came true mid
-      → line ≡ line_of true mid.line → Turns m old.state line reply s → WritesFront (old.out.waiting ++ spell reply) old.out out
+  pub next_broken : (old : Standing S) (mid : Reading) (line : Line) (text : List ℕ) (s : S) (out : Output) → Finds old.came true mid
+      → line ≡ line_of true mid.line → Turns m old.state line text s → WritesFront (old.out.waiting ++ text) old.out out
       → Stops (Turns m) old [] false false s out
-  next_broken old mid line reply s out found e t front =
-      stops_at old [] false false line (lines_after false mid.came []) reply s out
+  next_broken old mid line text s out found e t front =
+      stops_at old [] false false line (lines_after false mid.came []) text s out
       (found.1 false [] ∙ ap (λ (l : Line). l ∷ lines_after false mid.came []) (sym e)) t front
 
   -- there is no further line
@@ -105,26 +103,26 @@ module _ {S : Type 0} (m : LineMachine S) where
       → lines_after true old.came [] ≡ line_of false old.came.begun ∷ []
   last_one old none some = ap (λ (l : List ℕ). lines_from true old.came.begun (l ++ [])) none ∙ last_line-one old.came.begun some
 
-  module _ (old new : Standing S) (line : Line) (reply : Reply) (mid : Output) (none : old.came.ahead ≡ []) (some : 0 < length old.came.begun)
-      (last : line ≡ line_of false old.came.begun) (t : Turns m old.state line reply new.state) where
+  module _ (old new : Standing S) (line : Line) (text : List ℕ) (mid : Output) (none : old.came.ahead ≡ []) (some : 0 < length old.came.begun)
+      (last : line ≡ line_of false old.came.begun) (t : Turns m old.state line text new.state) where
     at_last : lines_after true old.came [] ≡ line ∷ []
     at_last = last_one old none some ∙ ap (λ (l : Line). l ∷ []) (sym last)
 
-    pub closes_broken : WritesFront (old.out.waiting ++ spell reply) old.out new.out → Stops (Turns m) old [] true false new.state new.out
-    closes_broken front = stops_at old [] true false line [] reply new.state new.out at_last t front
+    pub closes_broken : WritesFront (old.out.waiting ++ text) old.out new.out → Stops (Turns m) old [] true false new.state new.out
+    closes_broken front = stops_at old [] true false line [] text new.state new.out at_last t front
 
-    pub closes_one : (count : ℕ) → Adds (spell reply) old.out mid → WritesAll mid.waiting mid new.out → count ≡ old.answered + 1 → old.answered < old.limit
+    pub closes_one : (count : ℕ) → Adds text old.out mid → WritesAll mid.waiting mid new.out → count ≡ old.answered + 1 → old.answered < old.limit
         → Closes m old [] new count
     unfolding stops_at
     closes_one count said wrote counted within = record {
-      stopped = stops_at old [] true true line [] reply new.state new.out at_last t (adds_flushed said wrote);
+      stopped = stops_at old [] true true line [] text new.state new.out at_last t (adds_flushed said wrote);
       all = refl;
       counted = counted;
       within = omega (arith, counted, within);
     }
 
     -- by what came of the last writes
-    pub closes_last : {E : Type 0} (r : Result ℕ E) → Adds (spell reply) old.out mid → Flushes mid new.out r
+    pub closes_last : {E : Type 0} (r : Result ℕ E) → Adds text old.out mid → Flushes mid new.out r
         → IfOk r (λ count. count ≡ old.answered + 1) → old.answered < old.limit → ClosesOrFails m old new r
     closes_last (Ok count) said f counted within = closes_one count said f.0 counted within
     closes_last (Err e) said f counted within = closes_broken (waiting_front said f)

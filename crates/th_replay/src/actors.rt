@@ -1,18 +1,25 @@
 //! The hub of a schedule.
-ghost use Rattle.std.specs.Prelude.{◌≡◌, None, slice_get, remove, IfOk};
+ghost use Rattle.std.specs.Prelude.{◌≡◌, ◌||◌, List, ℕ, None, slice_get, remove, IfOk};
 ghost use Rattle.std.specs.Map.{values_of};
 ghost use Rattle.th_lines.specs.Intake.{line_given};
+ghost use Rattle.th_lines.specs.Output.{AddsOrFails, output};
+ghost use Rattle.th_session.specs.Kept.{told};
+ghost use Rattle.th_session.specs.Script as script;
+ghost use Rattle.th_session.specs.Script.{Replied};
 ghost use Rattle.th_replay.specs.Session.{Turns};
-ghost use Rattle.th_replay.specs.Schedule.{IsAnswer, answers, asks_by_holding, asks_by_place, by_holding, by_place, has_quit, is_short, picture_asks, picture_step, place_of, seen_start};
+ghost use Rattle.th_replay.specs.Schedule.{PutsAnswer, answers, asks_by_holding, asks_by_place, by_holding, by_place, has_quit, is_short, picture_asks, picture_step, place_of, seen_start};
 
 use indexmap::IndexMap;
 use std::alloc::{AllocError, Global};
+use std::io::Write;
 use std::marker::Model;
-use th_lines::{Code, Command, LineFault, Reply, name_and_rest, read_command};
+use th_lines::{
+    Code, Command, Counted, LineFault, Reply, WriteBuffer, WriteFailed, name_and_rest, read_command,
+};
 use th_model::{Name, NameRef};
 use th_registry::LocalDesk;
-use th_session::Session;
 use th_session::local::step;
+use th_session::{Answer, Session};
 
 /// The most actors at one time.
 const MOST_ACTORS: usize = 1024;
@@ -31,18 +38,24 @@ pub struct Hub {
 }
 
 impl Model for Hub {
+    ghost use Rattle.std.specs.Prelude.{◌≡◌};
     ghost use Rattle.th_registry.specs.Pictures.{SeenTopics};
-    ghost use Rattle.th_replay.specs.Schedule.{Hub};
+    ghost use Rattle.th_replay.specs.Schedule.{Hub, holdings, most_entries};
 
     ghost Value = { Hub SeenTopics };
 
-    ghost view = { λ h. record { topics = h.desk; actors = h.actors.entries } };
+    ghost view = { λ h. record {
+      topics = h.desk.topics;
+      actors = holdings h.actors.entries;
+    } };
+
+    ghost invariant = { λ h. h.desk.limit ≡ most_entries };
 }
 
 // Whether memory was refused.
 #[inline(always)]
 fn is_short(reply: &Reply) -> bool
-    ensures { result ≡ is_short reply.now }
+    ensures { result ≡ is_short (Replied reply.now) }
 {
     match reply {
         Reply::Refused(Code::NoMemory) => true,
@@ -53,11 +66,34 @@ fn is_short(reply: &Reply) -> bool
 // Whether the actor has quit.
 #[inline(always)]
 fn has_quit(reply: &Reply) -> bool
-    ensures { result ≡ has_quit reply.now }
+    ensures { result ≡ has_quit (Replied reply.now) }
 {
     match reply {
         Reply::Bye => true,
         _ => false,
+    }
+}
+
+// Whether an actor that was answered so is gone.
+#[inline(always)]
+fn quits(answer: &Answer) -> bool
+    ensures { (given : script.Answer) → answer.now ≡ told given → result ≡ has_quit given }
+{
+    match answer {
+        Answer::Reply(reply) => has_quit(reply),
+        Answer::Trace => false,
+    }
+}
+
+// Whether nobody begins who was answered so.
+#[inline(always)]
+fn begins_nobody(answer: &Answer) -> bool
+    ensures { (given : script.Answer) → answer.now ≡ told given →
+        result ≡ (is_short given || has_quit given) }
+{
+    match answer {
+        Answer::Reply(reply) => is_short(reply) || has_quit(reply),
+        Answer::Trace => false,
     }
 }
 
@@ -74,49 +110,70 @@ impl Hub {
     }
 
     /// Answers a line, which is given without its end, or as `None` where it has more than 4,096 bytes: finds the actor
-    /// whose name stands first, and reads and carries out the command behind it. A line that spells none is answered 10
-    /// and begins nobody, whoever says it, and one that is too long 23. One look-up of the actor's name, and none of it is
-    /// copied but where the actor begins.
+    /// whose name stands first, reads and carries out the command behind it, and puts the answer's text behind what waits.
+    /// A line that spells none is answered 10 and begins nobody, whoever says it, and one that is too long 23. One look-up
+    /// of the actor's name, and none of it is copied but where the actor begins.
+    ///
+    /// # Errors
+    ///
+    /// The writer failed, and a front of what waited and the answer's text was written. The command was carried out.
     #[inline(always)]
-    pub fn answer(&mut self, alloc: Global, line: Option<&[u8]>) -> Reply
-        ensures { Turns answers self.old (line_given line.entry) result self.new }
+    pub fn answer<W: Write>(
+        &mut self,
+        alloc: Global,
+        line: Option<&[u8]>,
+        out: &mut WriteBuffer,
+        writer: &mut Counted<W>,
+    ) -> Result<(), WriteFailed>
+        ensures { (text : List ℕ) × Turns answers self.old (line_given line.entry) text self.new
+            × AddsOrFails text
+            (output W.contents writer.old out.old) (output W.contents writer.new out.new) result }
     {
         let Some(line) = line else {
-            return Reply::Refused(Code::LongLine);
+            return out.append(writer, &Reply::Refused(Code::LongLine));
         };
         let Some((name, rest)) = name_and_rest(line) else {
-            return Reply::Refused(Code::BadLine);
+            return out.append(writer, &Reply::Refused(Code::BadLine));
         };
         let Some(text) = rest else {
-            return Reply::Refused(Code::BadLine);
+            return out.append(writer, &Reply::Refused(Code::BadLine));
         };
         let place = self.actors.get_index_of(&name);
         match read_command(alloc, text) {
             Ok(command) => match place {
-                Some(place) => self.carry_out(place, command),
-                None => self.carry_out_first(alloc, name, command),
+                Some(place) => self.carry_out(place, command, out, writer),
+                None => self.carry_out_first(alloc, name, command, out, writer),
             },
-            Err(LineFault::BadLine) => Reply::Refused(Code::BadLine),
-            Err(LineFault::Short) => Reply::Refused(Code::NoMemory),
+            Err(LineFault::BadLine) => out.append(writer, &Reply::Refused(Code::BadLine)),
+            Err(LineFault::Short) => out.append(writer, &Reply::Refused(Code::NoMemory)),
         }
     }
 
     // Carries out a command of the actor at this place, who is gone where it has quit. That takes time with the number of
     // actors; nothing else here does.
     #[inline(always)]
-    fn carry_out(&mut self, place: usize, command: Command<'_>) -> Reply
+    fn carry_out<W: Write>(
+        &mut self,
+        place: usize,
+        command: Command<'_>,
+        out: &mut WriteBuffer,
+        writer: &mut Counted<W>,
+    ) -> Result<(), WriteFailed>
         ensures { let held = slice_get (values_of self.old.actors) place in
-            IsAnswer (by_holding picture_step self.old place command.entry held)
-            (asks_by_holding picture_asks self.old command.entry held) self.old result self.new }
+            PutsAnswer (by_holding picture_step self.old place command.entry held)
+            (asks_by_holding picture_asks self.old command.entry held) self.old self.new
+            (output W.contents writer.old out.old) (output W.contents writer.new out.new) result }
     {
         let Some(session) = self.actors.get_index_mut(place) else {
-            return Reply::Refused(Code::NotHeld);
+            return out.append(writer, &Reply::Refused(Code::NotHeld));
         };
-        let reply = step(session, &mut self.desk, command);
-        if let Reply::Bye = &reply {
+        let answer = step(session, &mut self.desk, command);
+        let is_gone = quits(&answer);
+        let put = session.put_answer(answer, out, writer);
+        if is_gone {
             self.take_out(place);
         }
-        reply
+        put
     }
 
     // Takes the actor at this place out. The others stay in their order.
@@ -129,25 +186,35 @@ impl Hub {
 
     // Carries out the first command of an actor. It has begun then, unless it was refused for want of memory, or has quit
     // at once. Room for one more is made first, so that nothing has changed where it is refused.
-    fn carry_out_first(&mut self, alloc: Global, name: NameRef<'_>, command: Command<'_>) -> Reply
+    fn carry_out_first<W: Write>(
+        &mut self,
+        alloc: Global,
+        name: NameRef<'_>,
+        command: Command<'_>,
+        out: &mut WriteBuffer,
+        writer: &mut Counted<W>,
+    ) -> Result<(), WriteFailed>
         requires { place_of self.old.actors name ≡ None }
-        ensures { IsAnswer (by_place picture_step self.old name.entry command.entry None)
-            (asks_by_place picture_asks self.old command.entry None) self.old result self.new }
+        ensures { PutsAnswer (by_place picture_step self.old name.entry command.entry None)
+            (asks_by_place picture_asks self.old command.entry None) self.old self.new
+            (output W.contents writer.old out.old) (output W.contents writer.new out.new) result }
     {
         if self.actors.len() >= MOST_ACTORS {
-            return Reply::Refused(Code::TooMany);
+            return out.append(writer, &Reply::Refused(Code::TooMany));
         }
         let Ok(()) = self.actors.reserve(1) else {
-            return Reply::Refused(Code::NoMemory);
+            return out.append(writer, &Reply::Refused(Code::NoMemory));
         };
         let mut session = Session::new(alloc);
-        let reply = step(&mut session, &mut self.desk, command);
-        if is_short(&reply) || has_quit(&reply) {
-            return reply;
+        let answer = step(&mut session, &mut self.desk, command);
+        let is_over = begins_nobody(&answer);
+        let put = session.put_answer(answer, out, writer);
+        if is_over {
+            return put;
         }
         let Ok(_) = self.actors.insert(name.to_name(), session) else {
             unreachable!();
         };
-        reply
+        put
     }
 }

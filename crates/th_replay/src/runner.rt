@@ -19,7 +19,7 @@ pub struct Runner {
     hub: Hub,
     // What was read and is not answered yet.
     intake: Intake,
-    // The replies that were given and are not written yet.
+    // The answers' texts that are not written yet.
     out: WriteBuffer,
     // How many lines were answered: one more with each.
     answered: u64,
@@ -186,9 +186,9 @@ impl Runner {
         if !self.intake.next_line() {
             return Ok(false);
         }
-        let reply = self.hub.answer(alloc, self.intake.line(true));
+        let line = self.intake.line(true);
         self.answered += 1;
-        match self.out.append(writer, &reply) {
+        match self.hub.answer(alloc, line, &mut self.out, writer) {
             Ok(()) => Ok(true),
             Err(_) => Err(RunFault::Write),
         }
@@ -208,9 +208,9 @@ impl Runner {
         if !self.intake.last_line() {
             return self.count_written(writer);
         }
-        let reply = self.hub.answer(alloc, self.intake.line(false));
+        let line = self.intake.line(false);
         self.answered += 1;
-        match self.out.append(writer, &reply) {
+        match self.hub.answer(alloc, line, &mut self.out, writer) {
             Ok(()) => self.count_written(writer),
             Err(e) => Err(e),
         }

@@ -3,5 +3,6 @@ pub mod Playing
 pub mod Runs
 pub mod Order
 mod Rooms
+mod Kept
 pub mod Live
 pub mod Living

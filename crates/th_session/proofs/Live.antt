@@ -9,12 +9,12 @@ use Rattle.th_lines.specs.declared.command.Action.{Action}
 use Rattle.th_lines.specs.declared.command.Action.TheVariants as Actions
 use Rattle.th_lines.specs.declared.reply.Code.{Code}
 use Rattle.th_lines.specs.declared.reply.Code.TheVariants as Codes
-use Rattle.th_lines.specs.declared.reply.Reply.{Reply}
 use Rattle.th_lines.specs.declared.reply.Reply.TheVariants.{Refused}
 use Rattle.th_registry.specs.declared.opening.Found.{Found}
 use Rattle.th_registry.specs.declared.outcome.ChannelReply.TheVariants as ChannelReplies
 use Rattle.th_registry.specs.declared.outcome.NoEvent.TheVariants as NoEvents
-use Rattle.th_registry.specs.Events.{Event, Binds, Subscribes, Sends, Asks, Receives, Resubscribes, DropsTx, DropsRx, Hub, Own, any_sender, Told, NewTx, NewRx, Replied}
+use Rattle.th_registry.specs.Events.{Event, Binds, Subscribes, Sends, Asks, Receives, Resubscribes, DropsTx, DropsRx, Hub, Own, any_sender, Told, NewTx, NewRx}
+use Rattle.th_registry.specs.Events as events
 use Rattle.th_registry.specs.Hub.{say, On}
 use Rattle.th_registry.specs.Endless.{EndlessTopics, endless}
 use Rattle.th_registry.specs.Live.{Handle, Sender, Receiver, AskedBy, lacks_handle}
@@ -23,56 +23,58 @@ use Rattle.th_session.specs.declared.seats.Seats.{Seats}
 use Rattle.th_session.specs.Table.{is_for, judged, own, unless_held, replied}
 use Rattle.th_session.specs.Held.{Holding, seat_at}
 use Rattle.th_session.specs.Live.{Has, IsHeldLive}
-use Rattle.th_session.specs.Script.{Ask, Say, Script, at_topic, by_event, kept, run}
+use Rattle.th_session.specs.Script.{Answer, Ask, Replied, Say, Script, at_topic, by_event, kept, run}
 use Rattle.th_session.specs.Laws.{Lacks, WhatIsLackingIsExact}
 use Rattle.th_session.proofs.Rooms.{run-in-room}
 use Rattle.th_session.proofs.Order.{what_is_lacking_comes_next}
 
--- the reply is that the handle is not held
-abbrev is_not_held : Reply → Bool
-is_not_held (Refused Codes.NotHeld) = true
-is_not_held reply = false
+-- the answer is that the handle is not held
+abbrev is_not_held : Answer → Bool
+is_not_held (Replied (Refused Codes.NotHeld)) = true
+is_not_held answer = false
 
-told-not-held : (told : Told) → is_not_held (replied told) ≡ lacks_handle told
+told-not-held : (told : Told) → is_not_held (Replied (replied told)) ≡ lacks_handle told
 told-not-held (Ok (NewTx t)) = refl
 told-not-held (Ok (NewRx r)) = refl
-told-not-held (Ok (Replied (ChannelReplies.Broadcast (BReplies.Sent n)))) = refl
-told-not-held (Ok (Replied (ChannelReplies.Broadcast (BReplies.NoReceivers v)))) = refl
-told-not-held (Ok (Replied (ChannelReplies.Broadcast (BReplies.Exhausted v)))) = refl
-told-not-held (Ok (Replied (ChannelReplies.Broadcast (BReplies.Value v)))) = refl
-told-not-held (Ok (Replied (ChannelReplies.Broadcast BReplies.Empty))) = refl
-told-not-held (Ok (Replied (ChannelReplies.Broadcast BReplies.Closed))) = refl
-told-not-held (Ok (Replied (ChannelReplies.Broadcast (BReplies.Lagged n)))) = refl
-told-not-held (Ok (Replied (ChannelReplies.Broadcast (BReplies.NewRx r)))) = refl
-told-not-held (Ok (Replied (ChannelReplies.Broadcast (BReplies.NewTx t)))) = refl
-told-not-held (Ok (Replied (ChannelReplies.Broadcast (BReplies.Count n)))) = refl
-told-not-held (Ok (Replied (ChannelReplies.Broadcast BReplies.Done))) = refl
-told-not-held (Ok (Replied (ChannelReplies.Broadcast BReplies.TooMany))) = refl
-told-not-held (Ok (Replied (ChannelReplies.Broadcast (BReplies.NoHandle v)))) = refl
-told-not-held (Ok (Replied (ChannelReplies.Watch WReplies.Done))) = refl
-told-not-held (Ok (Replied (ChannelReplies.Watch (WReplies.NoReceivers v)))) = refl
-told-not-held (Ok (Replied (ChannelReplies.Watch (WReplies.Exhausted v)))) = refl
-told-not-held (Ok (Replied (ChannelReplies.Watch (WReplies.Was v)))) = refl
-told-not-held (Ok (Replied (ChannelReplies.Watch (WReplies.Modified true)))) = refl
-told-not-held (Ok (Replied (ChannelReplies.Watch (WReplies.Modified false)))) = refl
-told-not-held (Ok (Replied (ChannelReplies.Watch (WReplies.Shown v true)))) = refl
-told-not-held (Ok (Replied (ChannelReplies.Watch (WReplies.Shown v false)))) = refl
-told-not-held (Ok (Replied (ChannelReplies.Watch (WReplies.Changed true)))) = refl
-told-not-held (Ok (Replied (ChannelReplies.Watch (WReplies.Changed false)))) = refl
-told-not-held (Ok (Replied (ChannelReplies.Watch WReplies.Marked))) = refl
-told-not-held (Ok (Replied (ChannelReplies.Watch WReplies.NotYet))) = refl
-told-not-held (Ok (Replied (ChannelReplies.Watch WReplies.Closed))) = refl
-told-not-held (Ok (Replied (ChannelReplies.Watch (WReplies.Gone true)))) = refl
-told-not-held (Ok (Replied (ChannelReplies.Watch (WReplies.Gone false)))) = refl
-told-not-held (Ok (Replied (ChannelReplies.Watch (WReplies.NewRx r)))) = refl
-told-not-held (Ok (Replied (ChannelReplies.Watch (WReplies.NewTx t)))) = refl
-told-not-held (Ok (Replied (ChannelReplies.Watch (WReplies.Count n)))) = refl
-told-not-held (Ok (Replied (ChannelReplies.Watch WReplies.TooMany))) = refl
-told-not-held (Ok (Replied (ChannelReplies.Watch (WReplies.NoHandle v)))) = refl
+told-not-held (Ok (events.Replied (ChannelReplies.Broadcast (BReplies.Sent n)))) = refl
+told-not-held (Ok (events.Replied (ChannelReplies.Broadcast (BReplies.NoReceivers v)))) = refl
+told-not-held (Ok (events.Replied (ChannelReplies.Broadcast (BReplies.Exhausted v)))) = refl
+told-not-held (Ok (events.Replied (ChannelReplies.Broadcast (BReplies.Value v)))) = refl
+told-not-held (Ok (events.Replied (ChannelReplies.Broadcast BReplies.Empty))) = refl
+told-not-held (Ok (events.Replied (ChannelReplies.Broadcast BReplies.Closed))) = refl
+told-not-held (Ok (events.Replied (ChannelReplies.Broadcast (BReplies.Lagged n)))) = refl
+told-not-held (Ok (events.Replied (ChannelReplies.Broadcast (BReplies.NewRx r)))) = refl
+told-not-held (Ok (events.Replied (ChannelReplies.Broadcast (BReplies.NewTx t)))) = refl
+told-not-held (Ok (events.Replied (ChannelReplies.Broadcast (BReplies.Count n)))) = refl
+told-not-held (Ok (events.Replied (ChannelReplies.Broadcast BReplies.Done))) = refl
+told-not-held (Ok (events.Replied (ChannelReplies.Broadcast BReplies.TooMany))) = refl
+told-not-held (Ok (events.Replied (ChannelReplies.Broadcast (BReplies.NoHandle v)))) = refl
+told-not-held (Ok (events.Replied (ChannelReplies.Watch WReplies.Done))) = refl
+told-not-held (Ok (events.Replied (ChannelReplies.Watch (WReplies.NoReceivers v)))) = refl
+told-not-held (Ok (events.Replied (ChannelReplies.Watch (WReplies.Exhausted v)))) = refl
+told-not-held (Ok (events.Replied (ChannelReplies.Watch (WReplies.Was v)))) = refl
+told-not-held (Ok (events.Replied (ChannelReplies.Watch (WReplies.Modified true)))) = refl
+told-not-held (Ok (events.Replied (ChannelReplies.Watch (WReplies.Modified false)))) = refl
+told-not-held (Ok (events.Replied (ChannelReplies.Watch (WReplies.Shown v true)))) = refl
+told-not-held (Ok (events.Replied (ChannelReplies.Watch (WReplies.Shown v false)))) = refl
+told-not-held (Ok (events.Replied (ChannelReplies.Watch (WReplies.Changed true)))) = refl
+told-not-held (Ok (events.Replied (ChannelReplies.Watch (WReplies.Changed false)))) = refl
+told-not-held (Ok (events.Replied (ChannelReplies.Watch WReplies.Marked))) = refl
+told-not-held (Ok (events.Replied (ChannelReplies.Watch WReplies.NotYet))) = refl
+told-not-held (Ok (events.Replied (ChannelReplies.Watch WReplies.Closed))) = refl
+told-not-held (Ok (events.Replied (ChannelReplies.Watch (WReplies.Gone true)))) = refl
+told-not-held (Ok (events.Replied (ChannelReplies.Watch (WReplies.Gone false)))) = refl
+told-not-held (Ok (events.Replied (ChannelReplies.Watch (WReplies.NewRx r)))) = refl
+told-not-held (Ok (events.Replied (ChannelReplies.Watch (WReplies.NewTx t)))) = refl
+told-not-held (Ok (events.Replied (ChannelReplies.Watch (WReplies.Count n)))) = refl
+told-not-held (Ok (events.Replied (ChannelReplies.Watch WReplies.TooMany))) = refl
+told-not-held (Ok (events.Replied (ChannelReplies.Watch (WReplies.NoHandle v)))) = refl
 told-not-held (Err NoEvents.NoTopic) = refl
 told-not-held (Err NoEvents.WrongKind) = refl
 told-not-held (Err NoEvents.NoSender) = refl
+told-not-held (Err NoEvents.NotLive) = refl
 told-not-held (Err NoEvents.Blocked) = refl
+told-not-held (Err NoEvents.LogFull) = refl
 told-not-held (Err NoEvents.Short) = refl
 
 -- which event it is
@@ -140,22 +142,22 @@ judged-lacks Actions.End s e = absurd (let no : ⊥ = cc in no)
 abbrev pub asking : Action → Holding → ℕ → Event → Script
 asking action h n event = Ask (On n event) (λ said. Say (replied said) (kept action said n h))
 
-module _ (ts : EndlessTopics) (h : Holding) (action : Action) (n : ℕ) (live : IsHeldLive ts h n) where
+module _ (limit : ℕ) (ts : EndlessTopics) (h : Holding) (action : Action) (n : ℕ) (live : IsHeldLive ts h n) where
   -- the reply where this is why there is no event, or which event it is
-  by-judgement : (j : Result Event Code) → judged action (seat_at h n) ≡ j → (run endless ts (by_event action n h j)).0 ≡ Refused Codes.NotHeld → Lacks action (seat_at h n)
+  by-judgement : (j : Result Event Code) → judged action (seat_at h n) ≡ j → (run (endless limit) ts (by_event action n h j)).0 ≡ Replied (Refused Codes.NotHeld) → Lacks action (seat_at h n)
   by-judgement (Err code) j r = judged-lacks action (seat_at h n) (j ∙ ap (λ (k : Code). Err k) (let same : code ≡ Codes.NotHeld = cc in same))
   by-judgement (Ok event) j r =
       let held : IsOfHeld (seat_at h n) event = judged-held action (seat_at h n) event j in
-      let served : lacks_handle (say endless ts (On n event)).0 ≡ false = live_handles_are_served ts n event (λ x k. live x (held x k)) in
-      let reply = sym (ap (λ (end : Reply × Holding × EndlessTopics). end.0) (run-in-room endless ts action h (asking action h n event))) ∙ r in
-      absurd (false≢true (sym (told-not-held (say endless ts (On n event)).0 ∙ served) ∙ ap is_not_held reply))
+      let served : lacks_handle (say (endless limit) ts (On n event)).0 ≡ false = live_handles_are_served limit ts n event (λ x k. live x (held x k)) in
+      let reply = sym (ap (λ (end : Answer × Holding × EndlessTopics). end.0) (run-in-room (endless limit) ts action h (asking action h n event))) ∙ r in
+      absurd (false≢true (sym (told-not-held (say (endless limit) ts (On n event)).0 ∙ served) ∙ ap is_not_held reply))
 
-  by-kind : (right : Bool) → right ≡ true → (run endless ts (cond right (by_event action n h (judged action (seat_at h n))) (Say (Refused Codes.WrongKind) h))).0 ≡ Refused Codes.NotHeld → Lacks action (seat_at h n)
+  by-kind : (right : Bool) → right ≡ true → (run (endless limit) ts (cond right (by_event action n h (judged action (seat_at h n))) (Say (Refused Codes.WrongKind) h))).0 ≡ Replied (Refused Codes.NotHeld) → Lacks action (seat_at h n)
   by-kind true is r = by-judgement (judged action (seat_at h n)) refl r
   by-kind false is r = absurd (false≢true is)
 
 pub what_is_lacking_is_exact : WhatIsLackingIsExact
-what_is_lacking_is_exact ts h name action t e right live = (
-  λ r. by-kind ts h action t.topic.0 live (is_for t.kind action) right (sym (ap (λ (found : Option Found). (run endless ts (at_topic action h found)).0) e) ∙ r),
-  what_is_lacking_comes_next endless ts h name action t e right,
+what_is_lacking_is_exact limit ts h name action t e right live = (
+  λ r. by-kind limit ts h action t.topic.0 live (is_for t.kind action) right (sym (ap (λ (found : Option Found). (run (endless limit) ts (at_topic action h found)).0) e) ∙ r),
+  what_is_lacking_comes_next (endless limit) ts h name action t e right,
 )

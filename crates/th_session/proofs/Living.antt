@@ -20,12 +20,13 @@ use Rattle.th_lines.specs.declared.command.Command.{Command}
 use Rattle.th_lines.specs.declared.command.Command.TheVariants as Commands
 use Rattle.th_lines.specs.declared.reply.Code.{Code}
 use Rattle.th_lines.specs.declared.reply.Code.TheVariants as Codes
-use Rattle.th_lines.specs.declared.reply.Reply.{Reply}
 use Rattle.th_lines.specs.declared.reply.Reply.TheVariants.{Refused}
 use Rattle.th_registry.specs.declared.opening.Found.{Found}
 use Rattle.th_registry.specs.declared.outcome.NoEvent.{NoEvent}
-use Rattle.th_registry.specs.Events.{Event, Binds, Subscribes, Sends, Asks, Receives, Resubscribes, DropsTx, DropsRx, Hub, Own, By, any_sender, Told, NewTx, NewRx, Replied}
-use Rattle.th_registry.specs.Hub.{Query, Find, Open, On, Said, find, say}
+use Rattle.th_registry.specs.Events.{Event, Binds, Subscribes, Sends, Asks, Receives, Resubscribes, DropsTx, DropsRx, Hub, Own, By, any_sender, Told, NewTx, NewRx}
+use Rattle.th_registry.specs.Events as events
+use Rattle.th_registry.specs.Hub.{Query, Find, Open, On, Cut, Said, find, say}
+use Rattle.th_registry.specs.History.{ChannelSegment}
 use Rattle.th_registry.specs.Hub as hub
 use Rattle.th_registry.specs.Endless.{EndlessTopics, endless, AreProper}
 use Rattle.th_registry.specs.Live.{Handle, Sender, Receiver, IsLive, new_handle, Ends, EndsOn}
@@ -35,7 +36,7 @@ use Rattle.th_session.specs.declared.seats.Seats.{Seats}
 use Rattle.th_session.specs.Table.{is_for, judged, own, unless_held}
 use Rattle.th_session.specs.Held.{Holding, nothing, seats_of, seat_at, with_seats}
 use Rattle.th_session.specs.Live.{Has, AllIsLive}
-use Rattle.th_session.specs.Script.{Script, Say, Ask, run, by_event, acting, at_topic, kept, script, spend_sender, spend_receiver, spend_all}
+use Rattle.th_session.specs.Script.{Answer, Script, Say, Ask, run, by_event, acting, at_topic, kept, script, shown, traced, spend_sender, spend_receiver, spend_all}
 use Rattle.th_session.proofs.Live.{asking}
 use Rattle.th_session.proofs.Rooms.{run-in-room}
 use Rattle.th_session.proofs.Seating.{lookup-insert}
@@ -107,18 +108,18 @@ pub record Keeps (h : Holding) (ts : EndlessTopics) (h' : Holding) (ts' : Endles
   pub lives : Lives ts' h'
   pub others : (n : ℕ) (x : Handle) → IsOthers ts h n x → IsOthers ts' h' n x
 
-pub sound_after : (ts : EndlessTopics) (q : Query) → AreSound ts → AreSound (say endless ts q).1
-sound_after ts q s = record { proper = stays_proper ts q s.proper; numbered = stays_numbered ts q s.proper s.numbered }
+pub sound_after : (limit : ℕ) (ts : EndlessTopics) (q : Query) → AreSound ts → AreSound (say (endless limit) ts q).1
+sound_after limit ts q s = record { proper = stays_proper limit ts q s.proper; numbered = stays_numbered limit ts q s.proper s.numbered }
 
 nothing-changed : (ts : EndlessTopics) (h : Holding) → AreSound ts → Lives ts h → Keeps h ts h ts
 nothing-changed ts h s l = record { sound = s; lives = l; others = λ n x o. o }
 
 -- a query that ends no handle, by an actor that holds the same then
-asked : (ts : EndlessTopics) (h : Holding) (q : Query) → AreSound ts → Lives ts h → ((n : ℕ) (x : Handle) → EndsOn q (say endless ts q).0 n x → ⊥) → Keeps h ts h (say endless ts q).1
-asked ts h q s l none = record {
-  sound = sound_after ts q s;
-  lives = record { rising = l.rising; live = λ n x has. handles_stay_live ts q n x s.proper (none n x) (l.live n x has); own = l.own };
-  others = λ n x o. record { live = handles_stay_live ts q n x s.proper (none n x) o.live; own = o.own; apart = o.apart };
+asked : (limit : ℕ) (ts : EndlessTopics) (h : Holding) (q : Query) → AreSound ts → Lives ts h → ((n : ℕ) (x : Handle) → EndsOn q (say (endless limit) ts q).0 n x → ⊥) → Keeps h ts h (say (endless limit) ts q).1
+asked limit ts h q s l none = record {
+  sound = sound_after limit ts q s;
+  lives = record { rising = l.rising; live = λ n x has. handles_stay_live limit ts q n x s.proper (none n x) (l.live n x has); own = l.own };
+  others = λ n x o. record { live = handles_stay_live limit ts q n x s.proper (none n x) o.live; own = o.own; apart = o.apart };
 }
 
 -- an event, and what is kept then
@@ -131,21 +132,21 @@ pub record Changes (h : Holding) (n : ℕ) (event : Event) (told : Told) (h' : H
   pub held : (x : Handle) → Has (seat_at h' n) x → (Has (seat_at h n) x × ((x ≡ hubs_sender → ⊥) → Ends event told x → ⊥)) ⊎ (new_handle told ≡ Some x)
   pub ended : (x : Handle) → Ends event told x → Has (seat_at h n) x ⊎ (x ≡ hubs_sender)
 
-module _ (ts : EndlessTopics) (h : Holding) (n : ℕ) (event : Event) (h' : Holding) (s : AreSound ts) (l : Lives ts h)
-    (c : Changes h n event (say endless ts (On n event)).0 h') where
+module _ (limit : ℕ) (ts : EndlessTopics) (h : Holding) (n : ℕ) (event : Event) (h' : Holding) (s : AreSound ts) (l : Lives ts h)
+    (c : Changes h n event (say (endless limit) ts (On n event)).0 h') where
   abbrev answer : Told
-  answer = (say endless ts (On n event)).0
+  answer = (say (endless limit) ts (On n event)).0
 
   abbrev later : EndlessTopics
-  later = (say endless ts (On n event)).1
+  later = (say (endless limit) ts (On n event)).1
 
   stays : (m : ℕ) (x : Handle) → ((m ≡ n) × Ends event answer x → ⊥) → IsLive ts m x → IsLive later m x
-  stays m x kept live = handles_stay_live ts (On n event) m x s.proper kept live
+  stays m x kept live = handles_stay_live limit ts (On n event) m x s.proper kept live
 
   still-here : (x : Handle) → Has (seat_at h' n) x → IsLive later n x × (x ≡ hubs_sender → ⊥)
   still-here x has = elim (c.held x has) [
     | inl k ↦ (stays n x (λ e. k.1 (l.own n x k.0) e.1) (l.live n x k.0), l.own n x k.0)
-    | inr new ↦ ((new_handles_are_new ts n event x s.proper new).0, new_handles_are_not_the_hubs ts n event x s.proper s.numbered new)
+    | inr new ↦ ((new_handles_are_new limit ts n event x s.proper new).0, new_handles_are_not_the_hubs limit ts n event x s.proper s.numbered new)
   ]
 
   still : (m : ℕ) (x : Handle) → Has (seat_at h' m) x → IsLive later m x × (x ≡ hubs_sender → ⊥)
@@ -164,7 +165,7 @@ module _ (ts : EndlessTopics) (h : Holding) (n : ℕ) (event : Event) (h' : Hold
   apart-here : (x : Handle) → IsOthers ts h n x → Has (seat_at h' n) x → ⊥
   apart-here x o has = elim (c.held x has) [
     | inl k ↦ o.apart k.0
-    | inr new ↦ (new_handles_are_new ts n event x s.proper new).1 o.live
+    | inr new ↦ (new_handles_are_new limit ts n event x s.proper new).1 o.live
   ]
 
   apart : (m : ℕ) (x : Handle) → IsOthers ts h m x → Has (seat_at h' m) x → ⊥
@@ -175,7 +176,7 @@ module _ (ts : EndlessTopics) (h : Holding) (n : ℕ) (event : Event) (h' : Hold
 
   event-keeps : Keeps h ts h' later
   event-keeps = record {
-    sound = sound_after ts (On n event) s;
+    sound = sound_after limit ts (On n event) s;
     lives = record { rising = c.rising l.rising; live = λ m x has. (still m x has).0; own = λ m x has. (still m x has).1 };
     others = λ m x o. record { live = stays m x (not-ended m x o) o.live; own = o.own; apart = apart m x o };
   }
@@ -223,7 +224,7 @@ module _ (h : Holding) (n : ℕ) where
       held (Sender q) e = inr (ap (λ z. Some (Sender z)) (same_Some t q e))
       held (Receiver q) e = inl (e, λ own k. k)
   bind-changes (Ok (NewRx r)) = same-held h n Binds (Ok (NewRx r)) (λ x e. absurd e)
-  bind-changes (Ok (Replied reply)) = same-held h n Binds (Ok (Replied reply)) (λ x e. absurd e)
+  bind-changes (Ok (events.Replied reply)) = same-held h n Binds (Ok (events.Replied reply)) (λ x e. absurd e)
   bind-changes (Err why) = same-held h n Binds (Err why) (λ x e. absurd e)
 
   unbind-changes : (told : Told) (t : TxId) → (seat_at h n).sender ≡ Some t → Changes h n (DropsTx (Own t)) told (kept Actions.Unbind told n h)
@@ -241,7 +242,7 @@ module _ (h : Holding) (n : ℕ) where
       held (Sender q) e = inl (e, λ own k. k)
       held (Receiver q) e = inr (ap (λ z. Some (Receiver z)) (same_Some r q e))
   subscribe-changes (Ok (NewTx t)) start by = same-held h n (Subscribes start by) (Ok (NewTx t)) (λ x e. absurd e)
-  subscribe-changes (Ok (Replied reply)) start by = same-held h n (Subscribes start by) (Ok (Replied reply)) (λ x e. absurd e)
+  subscribe-changes (Ok (events.Replied reply)) start by = same-held h n (Subscribes start by) (Ok (events.Replied reply)) (λ x e. absurd e)
   subscribe-changes (Err why) start by = same-held h n (Subscribes start by) (Err why) (λ x e. absurd e)
 
   unsubscribe-changes : (told : Told) (r : RxId) → (seat_at h n).receiver ≡ Some r → Changes h n (DropsRx r) told (kept Actions.Unsubscribe told n h)
@@ -259,7 +260,7 @@ module _ (h : Holding) (n : ℕ) where
       held (Sender q) e = inl (e, λ own k. let no : ⊥ = cc in no)
       held (Receiver q) e = inr (ap (λ z. Some (Receiver z)) (same_Some new q e))
   resubscribe-changes (Ok (NewTx t)) r has = same-held h n (Resubscribes r) (Ok (NewTx t)) (λ x e. absurd e)
-  resubscribe-changes (Ok (Replied reply)) r has = same-held h n (Resubscribes r) (Ok (Replied reply)) (λ x e. absurd e)
+  resubscribe-changes (Ok (events.Replied reply)) r has = same-held h n (Resubscribes r) (Ok (events.Replied reply)) (λ x e. absurd e)
   resubscribe-changes (Err why) r has = same-held h n (Resubscribes r) (Err why) (λ x e. absurd e)
 
   end-changes : (told : Told) → Changes h n (DropsTx Hub) told (kept Actions.End told n h)
@@ -292,31 +293,45 @@ module _ (h : Holding) (n : ℕ) where
 
 -- scripts
 
-abbrev RunKeeps : EndlessTopics → Holding → Script → Type 0
-RunKeeps ts h s = Keeps h ts (run endless ts s).1 (run endless ts s).2
+abbrev RunKeeps : (limit : ℕ) → EndlessTopics → Holding → Script → Type 0
+RunKeeps limit ts h s = Keeps h ts (run (endless limit) ts s).1 (run (endless limit) ts s).2
 
-module _ (ts : EndlessTopics) (h : Holding) (s : AreSound ts) (l : Lives ts h) where
-  event-run : (action : Action) (n : ℕ) (j : Result Event Code) → judged action (seat_at h n) ≡ j → RunKeeps ts h (by_event action n h j)
+-- the same of a script that goes on at later topics
+abbrev RunKeepsTo : (limit : ℕ) → EndlessTopics → Holding → EndlessTopics → Script → Type 0
+RunKeepsTo limit ts h later s = Keeps h ts (run (endless limit) later s).1 (run (endless limit) later s).2
+
+module _ (limit : ℕ) (ts : EndlessTopics) (h : Holding) (s : AreSound ts) (l : Lives ts h) where
+  event-run : (action : Action) (n : ℕ) (j : Result Event Code) → judged action (seat_at h n) ≡ j → RunKeeps limit ts h (by_event action n h j)
   event-run action n (Err code) is = nothing-changed ts h s l
   event-run action n (Ok event) is =
-      let told : Told = (say endless ts (On n event)).0 in
-      subst (λ (end : Reply × Holding × EndlessTopics). Keeps h ts end.1 end.2) (sym (run-in-room endless ts action h (asking action h n event)))
-      (event-keeps ts h n event (kept action told n h) s l (action-changes h n action event told is))
+      let told : Told = (say (endless limit) ts (On n event)).0 in
+      subst (λ (end : Answer × Holding × EndlessTopics). Keeps h ts end.1 end.2) (sym (run-in-room (endless limit) ts action h (asking action h n event)))
+      (event-keeps limit ts h n event (kept action told n h) s l (action-changes h n action event told is))
 
-  if-run : (b : Bool) (x y : Script) → RunKeeps ts h x → RunKeeps ts h y → RunKeeps ts h (cond b x y)
+  if-run : (b : Bool) (x y : Script) → RunKeeps limit ts h x → RunKeeps limit ts h y → RunKeeps limit ts h (cond b x y)
   if-run true x y k m = k
   if-run false x y k m = m
 
-  topic-run : (action : Action) (found : Option Found) → RunKeeps ts h (at_topic action h found)
+  topic-run : (action : Action) (found : Option Found) → RunKeeps limit ts h (at_topic action h found)
   topic-run action None = nothing-changed ts h s l
   topic-run action (Some t) =
       if-run (is_for t.kind action) (acting action t.topic.0 h) (Say (Refused Codes.WrongKind) h)
       (event-run action t.topic.0 (judged action (seat_at h t.topic.0)) refl) (nothing-changed ts h s l)
 
+  shown-run : (n : ℕ) (said : Result ChannelSegment NoEvent) (after : EndlessTopics) → Keeps h ts h after → RunKeepsTo limit ts h after (shown n h said)
+  shown-run n (Ok segment) after k = k
+  shown-run n (Err why) after k = k
+
+  trace-run : (found : Option Found) → RunKeeps limit ts h (traced h found)
+  trace-run None = nothing-changed ts h s l
+  trace-run (Some t) =
+      shown-run t.topic.0 (say (endless limit) ts (Cut t.topic.0)).0 (say (endless limit) ts (Cut t.topic.0)).1
+      (asked limit ts h (Cut t.topic.0) s l (λ n x e. e))
+
 -- spendings: what is none of these handles stays live
-abbrev Leaves : (ℕ → Handle → Type 0) → Script → Type 0
-Leaves Q script = (ts : EndlessTopics) → AreSound ts →
-    AreSound (run endless ts script).2 × ((m : ℕ) (x : Handle) → Q m x → IsLive ts m x → IsLive (run endless ts script).2 m x) × ((run endless ts script).1 ≡ [])
+abbrev Leaves : (limit : ℕ) → (ℕ → Handle → Type 0) → Script → Type 0
+Leaves limit Q script = (ts : EndlessTopics) → AreSound ts →
+    AreSound (run (endless limit) ts script).2 × ((m : ℕ) (x : Handle) → Q m x → IsLive ts m x → IsLive (run (endless limit) ts script).2 m x) × ((run (endless limit) ts script).1 ≡ [])
 
 ends-sender : (t : TxId) (told : Told) (x : Handle) → Ends (DropsTx (Own t)) told x → x ≡ Sender t
 ends-sender t (Ok outcome) x e = e
@@ -326,22 +341,22 @@ ends-receiver : (r : RxId) (told : Told) (x : Handle) → Ends (DropsRx r) told 
 ends-receiver r (Ok outcome) x e = e
 ends-receiver r (Err why) x e = absurd e
 
-module _ (Q : ℕ → Handle → Type 0) (n : ℕ) (next : Script) (rest : Leaves Q next) where
+module _ (limit : ℕ) (Q : ℕ → Handle → Type 0) (n : ℕ) (next : Script) (rest : Leaves limit Q next) where
   -- topic n's handle x is spent first
-  spend-one : (event : Event) (x : Handle) → ((told : Told) (y : Handle) → Ends event told y → y ≡ x) → (Q n x → ⊥) → Leaves Q (Ask (On n event) (λ said. next))
+  spend-one : (event : Event) (x : Handle) → ((told : Told) (y : Handle) → Ends event told y → y ≡ x) → (Q n x → ⊥) → Leaves limit Q (Ask (On n event) (λ said. next))
   spend-one event x ends not ts s =
-      let mid : EndlessTopics = (say endless ts (On n event)).1 in
-      let later = rest mid (sound_after ts (On n event) s) in (
+      let mid : EndlessTopics = (say (endless limit) ts (On n event)).1 in
+      let later = rest mid (sound_after limit ts (On n event) s) in (
         later.0,
-        λ m y q live. later.1 m y q (handles_stay_live ts (On n event) m y s.proper (λ e. not (subst (λ k. Q k x) e.0 (subst (Q m) (ends (say endless ts (On n event)).0 y e.1) q))) live),
+        λ m y q live. later.1 m y q (handles_stay_live limit ts (On n event) m y s.proper (λ e. not (subst (λ k. Q k x) e.0 (subst (Q m) (ends (say (endless limit) ts (On n event)).0 y e.1) q))) live),
         later.2,
       )
 
-  sender-leaves : (o : Option TxId) → ((t : TxId) → o ≡ Some t → Q n (Sender t) → ⊥) → Leaves Q (spend_sender n o next)
+  sender-leaves : (o : Option TxId) → ((t : TxId) → o ≡ Some t → Q n (Sender t) → ⊥) → Leaves limit Q (spend_sender n o next)
   sender-leaves None not = rest
   sender-leaves (Some t) not = spend-one (DropsTx (Own t)) (Sender t) (ends-sender t) (not t refl)
 
-  receiver-leaves : (o : Option RxId) → ((r : RxId) → o ≡ Some r → Q n (Receiver r) → ⊥) → Leaves Q (spend_receiver n o next)
+  receiver-leaves : (o : Option RxId) → ((r : RxId) → o ≡ Some r → Q n (Receiver r) → ⊥) → Leaves limit Q (spend_receiver n o next)
   receiver-leaves None not = rest
   receiver-leaves (Some r) not = spend-one (DropsRx r) (Receiver r) (ends-receiver r) (not r refl)
 
@@ -359,24 +374,24 @@ not-in-rest n s h above m x not has = elim (eqb_tells m n) [
   | inr ne ↦ not (subst (λ seats. Has seats x) (ap (λ b. unwrap_or (cond b (Some s) (seats_of h m)) nothing) (sym (not_at m n ne.1))) has)
 ]
 
-all-leaves : (h : Holding) → IsRising (keys_of h) → Leaves (IsNotHeld h) (spend_all h)
-all-leaves [] r = λ ts s. (s, λ m x q live. live, refl)
-all-leaves ((n, seats) ∷ h) r =
-    sender-leaves (IsNotHeld ((n, seats) ∷ h)) n (spend_receiver n seats.receiver (spend_all h))
-    (receiver-leaves (IsNotHeld ((n, seats) ∷ h)) n (spend_all h)
-    (λ ts s. let later = all-leaves h r.1 ts s in (later.0, λ m x q live. later.1 m x (not-in-rest n seats h r.0 m x q) live, later.2))
+all-leaves : (limit : ℕ) (h : Holding) → IsRising (keys_of h) → Leaves limit (IsNotHeld h) (spend_all h)
+all-leaves limit [] r = λ ts s. (s, λ m x q live. live, refl)
+all-leaves limit ((n, seats) ∷ h) r =
+    sender-leaves limit (IsNotHeld ((n, seats) ∷ h)) n (spend_receiver n seats.receiver (spend_all h))
+    (receiver-leaves limit (IsNotHeld ((n, seats) ∷ h)) n (spend_all h)
+    (λ ts s. let later = all-leaves limit h r.1 ts s in (later.0, λ m x q live. later.1 m x (not-in-rest n seats h r.0 m x q) live, later.2))
     seats.receiver (λ q e not. not (ap (λ s. s.receiver) (seat-first n seats h) ∙ e)))
     seats.sender (λ t e not. not (ap (λ s. s.sender) (seat-first n seats h) ∙ e))
 
 pub lives-nothing : (ts : EndlessTopics) (h : Holding) → h ≡ [] → Lives ts h
 lives-nothing ts h e = subst (Lives ts) (sym e) (record { rising = tt; live = λ n x has. absurd (has-nothing x has); own = λ n x has. absurd (has-nothing x has) })
 
-quit-run : (ts : EndlessTopics) (h : Holding) → AreSound ts → Lives ts h → RunKeeps ts h (spend_all h)
-quit-run ts h s l =
-    let later = all-leaves h l.rising ts s in
+quit-run : (limit : ℕ) (ts : EndlessTopics) (h : Holding) → AreSound ts → Lives ts h → RunKeeps limit ts h (spend_all h)
+quit-run limit ts h s l =
+    let later = all-leaves limit h l.rising ts s in
     record {
       sound = later.0;
-      lives = lives-nothing (run endless ts (spend_all h)).2 (run endless ts (spend_all h)).1 later.2;
+      lives = lives-nothing (run (endless limit) ts (spend_all h)).2 (run (endless limit) ts (spend_all h)).1 later.2;
       others = λ n x o. record {
         live = later.1 n x o.apart o.live;
         own = o.own;
@@ -384,8 +399,9 @@ quit-run ts h s l =
       };
     }
 
-pub command_keeps : (ts : EndlessTopics) (h : Holding) (command : Command) → AreSound ts → Lives ts h → RunKeeps ts h (script h command)
-command_keeps ts h (Commands.Open name making) s l = asked ts h (Open name making) s l (λ n x e. e)
-command_keeps ts h (Commands.On name action) s l = topic-run ts h s l action (find ts name)
-command_keeps ts h Commands.List s l = asked ts h hub.List s l (λ n x e. e)
-command_keeps ts h Commands.Quit s l = quit-run ts h s l
+pub command_keeps : (limit : ℕ) (ts : EndlessTopics) (h : Holding) (command : Command) → AreSound ts → Lives ts h → RunKeeps limit ts h (script h command)
+command_keeps limit ts h (Commands.Open name making) s l = asked limit ts h (Open name making) s l (λ n x e. e)
+command_keeps limit ts h (Commands.On name action) s l = topic-run limit ts h s l action (find ts name)
+command_keeps limit ts h (Commands.Trace name) s l = trace-run limit ts h s l (find ts name)
+command_keeps limit ts h Commands.List s l = asked limit ts h hub.List s l (λ n x e. e)
+command_keeps limit ts h Commands.Quit s l = quit-run limit ts h s l

@@ -1,16 +1,15 @@
--- Room for a new handle, in a script: where there is some the script is carried out as without it.
+-- Room in a script: where there is some the script is carried out as without it.
 use Rattle.std.proofs.Common.{◌≡◌, ℕ, inl, inr, Result, Ok, refl, sym, subst}
 use Rattle.th_model.specs.declared.verb.Start.{Start}
 use Rattle.th_lines.specs.declared.command.Action.{Action}
 use Rattle.th_lines.specs.declared.command.Action.TheVariants.{Bind, Unbind, Subscribe, Unsubscribe, Resubscribe, BySender, Ask, ByReceiver, End}
 use Rattle.th_lines.specs.declared.reply.Code.{Code}
 use Rattle.th_lines.specs.declared.reply.Code.TheVariants as Codes
-use Rattle.th_lines.specs.declared.reply.Reply.{Reply}
 use Rattle.th_lines.specs.declared.reply.Reply.TheVariants.{Refused}
 use Rattle.th_registry.specs.Events.{Event}
 use Rattle.th_registry.specs.Hub.{Machines, Query, Said, Topics}
 use Rattle.th_session.specs.Held.{Holding}
-use Rattle.th_session.specs.Script.{Plays, Script, by_event, run, with_room}
+use Rattle.th_session.specs.Script.{Answer, Plays, Replied, Script, by_event, run, with_room}
 
 -- the hub has room
 pub run-in-room : {B W : Type 0} (m : Machines B W) (ts : Topics B W) (action : Action) (h : Holding) (s : Script) →
@@ -27,27 +26,27 @@ run-in-room m ts End h s = refl
 
 module _ {D : Type 0} (says : D → (q : Query) → Said q → D → Type 0) where
   -- where there was room, what was done is the script
-  pub plays-in-room : (action : Action) (h : Holding) (s : Script) (old : D) (reply : Reply) (after : Holding) (new : D) →
-      Plays says s old reply after new → Plays says (with_room action h s) old reply after new
-  plays-in-room Bind h s old reply after new p = inl p
-  plays-in-room Unbind h s old reply after new p = p
-  plays-in-room (Subscribe start) h s old reply after new p = inl p
-  plays-in-room Unsubscribe h s old reply after new p = p
-  plays-in-room Resubscribe h s old reply after new p = p
-  plays-in-room (BySender verb) h s old reply after new p = p
-  plays-in-room (Ask question) h s old reply after new p = p
-  plays-in-room (ByReceiver verb) h s old reply after new p = p
-  plays-in-room End h s old reply after new p = p
+  pub plays-in-room : (action : Action) (h : Holding) (s : Script) (old : D) (answer : Answer) (after : Holding) (new : D) →
+      Plays says s old answer after new → Plays says (with_room action h s) old answer after new
+  plays-in-room Bind h s old answer after new p = inl p
+  plays-in-room Unbind h s old answer after new p = p
+  plays-in-room (Subscribe start) h s old answer after new p = inl p
+  plays-in-room Unsubscribe h s old answer after new p = p
+  plays-in-room Resubscribe h s old answer after new p = p
+  plays-in-room (BySender verb) h s old answer after new p = p
+  plays-in-room (Ask question) h s old answer after new p = p
+  plays-in-room (ByReceiver verb) h s old answer after new p = p
+  plays-in-room End h s old answer after new p = p
 
 -- there was no room, and what is held is as before
 module _ {D : Type 0} (says : D → (q : Query) → Said q → D → Type 0) (topic : ℕ) (h after : Holding) (old : D) {judgement : Result Event Code} {event : Event} where
-  pub no-room-to-bind : judgement ≡ Ok event → after ≡ h → Plays says (by_event Bind topic h judgement) old (Refused Codes.NoMemory) after old
+  pub no-room-to-bind : judgement ≡ Ok event → after ≡ h → Plays says (by_event Bind topic h judgement) old (Replied (Refused Codes.NoMemory)) after old
   no-room-to-bind j same =
-      let P : Result Event Code → Type 0 = λ k. Plays says (by_event Bind topic h k) old (Refused Codes.NoMemory) after old in
+      let P : Result Event Code → Type 0 = λ k. Plays says (by_event Bind topic h k) old (Replied (Refused Codes.NoMemory)) after old in
       subst P (sym j) (inr (refl, same, refl))
 
   pub no-room-to-subscribe : (start : Start) → judgement ≡ Ok event → after ≡ h →
-      Plays says (by_event (Subscribe start) topic h judgement) old (Refused Codes.NoMemory) after old
+      Plays says (by_event (Subscribe start) topic h judgement) old (Replied (Refused Codes.NoMemory)) after old
   no-room-to-subscribe start j same =
-      let P : Result Event Code → Type 0 = λ k. Plays says (by_event (Subscribe start) topic h k) old (Refused Codes.NoMemory) after old in
+      let P : Result Event Code → Type 0 = λ k. Plays says (by_event (Subscribe start) topic h k) old (Replied (Refused Codes.NoMemory)) after old in
       subst P (sym j) (inr (refl, same, refl))

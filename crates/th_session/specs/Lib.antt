@@ -1,7 +1,9 @@
 pub mod Held
 pub mod Table
 pub mod Script
+pub mod Kept
 pub mod Step
 pub mod Live
 pub mod Laws
 pub mod Answer
+pub mod Pieces

@@ -1,52 +1,72 @@
-//! One line answered: from its bytes to the bytes of its reply.
-ghost use Rattle.std.specs.Prelude.{◌≡◌, ◌+◌, ◌*◌, ◌<◌, length, IfErr, OnOk, vec_capacity, vec_len};
-ghost use Rattle.th_lines.specs.Replies.{reply_lines};
-ghost use Rattle.th_session.specs.Answer.{Answers, Appends};
+//! One line answered: from its bytes to the bytes of its answer.
+ghost use Rattle.th_lines.specs.Output.{output};
+ghost use Rattle.th_session.specs.Answer.{Answers, Puts, PutsTold};
+ghost use Rattle.th_session.specs.Kept.{Tells};
 
-use crate::session::Session;
+use crate::session::{Answer, Session};
+use crate::trace::append_trace;
 use std::alloc::Global;
-use th_lines::{Code, LineFault, Reply, print_reply, read_command};
+use std::io::Write;
+use th_lines::{Code, Counted, LineFault, Reply, WriteBuffer, WriteFailed, read_command};
 use th_registry::Desk;
 
 impl<D: Desk> Session<D> {
-    // The reply to a line.
-    fn reply_to(&mut self, alloc: Global, desk: &mut D, line: &[u8]) -> Reply
-        ensures { Answers D.says self.old desk.old line.now result self.new desk.new }
+    // The answer to a line.
+    fn answer_to(&mut self, alloc: Global, desk: &mut D, line: &[u8]) -> Answer
+        ensures { Tells result (λ answer.
+            Answers D.says self.old desk.old line.now answer self.new desk.new) }
     {
         match read_command(alloc, line) {
             Ok(command) => self.step(desk, command),
-            Err(LineFault::BadLine) => Reply::Refused(Code::BadLine),
-            Err(LineFault::Short) => Reply::Refused(Code::NoMemory),
+            Err(LineFault::BadLine) => Answer::Reply(Reply::Refused(Code::BadLine)),
+            Err(LineFault::Short) => Answer::Reply(Reply::Refused(Code::NoMemory)),
         }
     }
 
-    /// Answers a line, which is given without its end: carries out the command that it spells, and appends the spelling
-    /// of the reply. A line that spells none is answered 10, and one for which memory was refused 21; then nothing has
-    /// changed.
+    /// Answers a line, which is given without its end: carries out the command that it spells, and puts the answer's
+    /// text behind what waits: the spelling of a reply; or the number of a trace's lines, and these. A line that spells
+    /// no command is answered 10, and one for which memory was refused 21; then nothing has changed. However long the text
+    /// is, it takes no memory.
     ///
     /// # Errors
     ///
-    /// The reply, where there was no memory for its spelling; the text is as it was. It is no error where 4,096 bytes
-    /// are free for each line of the reply.
-    pub fn answer(
+    /// The writer failed, and a front of what waited and the answer's text was written. The command was carried out.
+    pub fn answer<W: Write>(
         &mut self,
         alloc: Global,
         desk: &mut D,
         line: &[u8],
-        out: &mut Vec<u8>,
-    ) -> Result<(), Reply>
-        ensures ok { OnOk result (Appends D.says self.old desk.old line.now self.new desk.new
-            out.old.items out.new.items) }
-        ensures err { IfErr result (λ reply.
-            Answers D.says self.old desk.old line.now reply self.new desk.new
-            × (out.new.items ≡ out.old.items)) }
-        ensures fits { IfErr result (λ reply.
-            vec_capacity out.old < vec_len out.old + 4096 * length (reply_lines reply)) }
+        out: &mut WriteBuffer,
+        writer: &mut Counted<W>,
+    ) -> Result<(), WriteFailed>
+        ensures { Puts D.says self.old desk.old line.now self.new desk.new
+            (output W.contents writer.old out.old) (output W.contents writer.new out.new) result }
     {
-        let reply = self.reply_to(alloc, desk, line);
-        match print_reply(&reply, out) {
-            Ok(()) => Ok(()),
-            Err(_) => Err(reply),
+        let answer = self.answer_to(alloc, desk, line);
+        self.put_answer(answer, out, writer)
+    }
+
+    /// Puts the text of the answer that this session was given last behind what waits: the spelling of a reply; or the
+    /// number of a trace's lines, and these. However long the text is, it takes no memory.
+    ///
+    /// # Errors
+    ///
+    /// The writer failed, and a front of what waited and the answer's text was written.
+    pub fn put_answer<W: Write>(
+        &self,
+        answer: Answer,
+        out: &mut WriteBuffer,
+        writer: &mut Counted<W>,
+    ) -> Result<(), WriteFailed>
+        ensures { PutsTold answer self.now.segments
+            (output W.contents writer.old out.old) (output W.contents writer.new out.new) result }
+    {
+        match answer {
+            Answer::Reply(reply) => out.append(writer, &reply),
+            Answer::Trace => match self.last_segment() {
+                Some(segment) => append_trace(segment, out, writer),
+                None => Ok(()),
+            },
         }
     }
 }

@@ -1,4 +1,4 @@
-//! Sessions: one actor's handles, and its commands carried out at a desk.
+//! Sessions: what one actor has, and its commands carried out at a desk.
 //!
 //! ```text
 //! let mut desk = LocalDesk::new(alloc);
@@ -6,6 +6,7 @@
 //! step(&mut bob, &mut desk, read_command(alloc, b"OPEN news B 10")?);    // Count(16), the capacity in force
 //! step(&mut bob, &mut desk, read_command(alloc, b"SUB news")?);          // Done
 //! step(&mut bob, &mut desk, read_command(alloc, b"NEXT news")?);         // Blocked: nothing is sent yet
+//! step(&mut bob, &mut desk, read_command(alloc, b"TRACE news")?);        // Trace: of the segment that bob keeps last
 //! step(&mut bob, &mut desk, Command::Quit);                              // Bye
 //! ```
 #![tactic(auto)]
@@ -20,6 +21,7 @@ pub mod session;
 mod table;
 #[cfg(test)]
 mod tests;
+mod trace;
 
 pub use seats::Seats;
-pub use session::Session;
+pub use session::{Answer, Session};

@@ -1,7 +1,7 @@
 //! The end of all that an actor holds.
 ghost use Rattle.std.specs.Option.{option_map};
 ghost use Rattle.th_session.specs.Held.{Holding, held, numbers};
-ghost use Rattle.th_session.specs.Script.{Plays, Script, spend_all, spend_receiver, spend_sender};
+ghost use Rattle.th_session.specs.Script.{Answer, Plays, Replied, Script, spend_all, spend_receiver, spend_sender};
 
 use crate::seats::Seats;
 use std::collections::BTreeMap;
@@ -10,9 +10,9 @@ use th_registry::{Desk, TopicId};
 
 // The last event of a sender, if there is one.
 fn leave_sender<D: Desk>(desk: &mut D, topic: TopicId, sender: Option<D::Tx>)
-    ensures { (next : Script) (reply : Reply) (after : Holding) (end : D) →
-        Plays D.says next desk.new reply after end →
-        Plays D.says (spend_sender topic.0 (option_map D.tx sender) next) desk.old reply after end }
+    ensures { (next : Script) (answer : Answer) (after : Holding) (end : D) →
+        Plays D.says next desk.new answer after end →
+        Plays D.says (spend_sender topic.0 (option_map D.tx sender) next) desk.old answer after end }
 {
     if let Some(sender) = sender {
         let _ = desk.spend_sender(topic, sender);
@@ -21,10 +21,10 @@ fn leave_sender<D: Desk>(desk: &mut D, topic: TopicId, sender: Option<D::Tx>)
 
 // The last event of a receiver, if there is one.
 fn leave_receiver<D: Desk>(desk: &mut D, topic: TopicId, receiver: Option<D::Rx>)
-    ensures { (next : Script) (reply : Reply) (after : Holding) (end : D) →
-        Plays D.says next desk.new reply after end →
+    ensures { (next : Script) (answer : Answer) (after : Holding) (end : D) →
+        Plays D.says next desk.new answer after end →
         let receivers = spend_receiver topic.0 (option_map D.rx receiver) next in
-        Plays D.says receivers desk.old reply after end }
+        Plays D.says receivers desk.old answer after end }
 {
     if let Some(receiver) = receiver {
         let _ = desk.spend_receiver(topic, receiver);
@@ -33,10 +33,10 @@ fn leave_receiver<D: Desk>(desk: &mut D, topic: TopicId, receiver: Option<D::Rx>
 
 // The last events of the handles on one topic, the sender's first.
 fn leave<D: Desk>(desk: &mut D, topic: TopicId, seats: Seats<D::Tx, D::Rx>)
-    ensures { (next : Script) (reply : Reply) (after : Holding) (end : D) →
+    ensures { (next : Script) (answer : Answer) (after : Holding) (end : D) →
         let s = numbers D.tx D.rx seats in
         let both = spend_sender topic.0 s.sender (spend_receiver topic.0 s.receiver next) in
-        Plays D.says next desk.new reply after end → Plays D.says both desk.old reply after end }
+        Plays D.says next desk.new answer after end → Plays D.says both desk.old answer after end }
 {
     let Seats { sender, receiver } = seats;
     leave_sender(desk, topic, sender);
@@ -46,7 +46,7 @@ fn leave<D: Desk>(desk: &mut D, topic: TopicId, seats: Seats<D::Tx, D::Rx>)
 // Spends each handle, topics in order of opening, whatever is said of it.
 pub(crate) fn quit<D: Desk>(seats: &mut BTreeMap<u64, Seats<D::Tx, D::Rx>>, desk: &mut D) -> Reply
     ensures { Plays D.says (spend_all (held D.tx D.rx seats.old.entries)) desk.old
-        result (held D.tx D.rx seats.new.entries) desk.new }
+        (Replied result) (held D.tx D.rx seats.new.entries) desk.new }
 {
     while let Some((topic, both)) = seats.pop_first() {
         leave(desk, TopicId(topic), both);

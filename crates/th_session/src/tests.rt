@@ -1,5 +1,6 @@
-//! Lines of three actors over a desk of one thread, and their replies, as they are spelled. A text of rows has one on
-//! each line, `LINE => REPLY`; of a reply of several lines, " / " stands between them. What begins with '#' is no row.
+//! Lines of three actors over a desk of one thread, and their answers, as they are spelled. A text of rows has one on
+//! each line, `LINE => ANSWER`; of an answer of several lines, " / " stands between them. What begins with '#' is no
+//! row.
 
 mod answers;
 mod ends;
@@ -7,12 +8,15 @@ mod limits;
 mod memory;
 mod order;
 mod rows;
+mod segments;
+mod traces;
 
 use crate::local::step;
-use crate::session::Session;
+use crate::session::{Answer, Session};
+use crate::trace::append_trace;
 use std::alloc::{AllocError, Global};
 use std::test::Fail;
-use th_lines::{Code, Command, LineFault, Reply, print_reply, read_command};
+use th_lines::{Code, Command, Counted, LineFault, Reply, WriteBuffer, print_reply, read_command};
 use th_registry::LocalDesk;
 
 #[derive(Drop)]
@@ -23,54 +27,97 @@ struct Hub {
     c: Session<LocalDesk>,
 }
 
-fn empty_hub(alloc: Global) -> Hub {
+fn hub_at(alloc: Global, desk: LocalDesk) -> Hub {
     Hub {
-        desk: LocalDesk::new(alloc),
+        desk,
         a: Session::new(alloc),
         b: Session::new(alloc),
         c: Session::new(alloc),
     }
 }
 
-fn carry_out(hub: &mut Hub, actor: &str, command: Command<'_>) -> Reply {
-    match actor {
-        "a" => step(&mut hub.a, &mut hub.desk, command),
-        "b" => step(&mut hub.b, &mut hub.desk, command),
-        "c" => step(&mut hub.c, &mut hub.desk, command),
-        _ => Reply::Refused(Code::BadLine),
+fn empty_hub(alloc: Global) -> Hub {
+    hub_at(alloc, LocalDesk::new(alloc))
+}
+
+// A hub whose segments have at most so many entries.
+fn hub_with_limit(alloc: Global, limit: u64) -> Result<Hub, Fail> {
+    match LocalDesk::with_limit(alloc, limit) {
+        Ok(desk) => Ok(hub_at(alloc, desk)),
+        Err(_) => Err(Fail::new("no limit")),
     }
 }
 
-fn reply_to(alloc: Global, hub: &mut Hub, line: &str) -> Reply {
-    let Some((actor, text)) = line.split_once(' ') else {
-        return Reply::Refused(Code::BadLine);
+// The text of the trace that the session was answered last.
+fn last_trace(alloc: Global, session: &Session<LocalDesk>) -> Result<Vec<u8>, AllocError> {
+    let mut out = WriteBuffer::new(alloc)?;
+    let mut writer = Counted::new(Vec::new(alloc));
+    let Some(segment) = session.last_segment() else {
+        return Ok(Vec::new(alloc));
     };
-    match read_command(alloc, text.as_bytes()) {
-        Ok(command) => carry_out(hub, actor, command),
-        Err(LineFault::BadLine) => Reply::Refused(Code::BadLine),
-        Err(LineFault::Short) => Reply::Refused(Code::NoMemory),
+    let Ok(()) = append_trace(segment, &mut out, &mut writer) else {
+        return Err(AllocError);
+    };
+    match out.flush(&mut writer) {
+        Ok(()) => Ok(writer.into_device()),
+        Err(_) => Err(AllocError),
     }
 }
 
-// The reply as it stands in a row.
-fn spelled(alloc: Global, reply: &Reply) -> Result<String, AllocError> {
+// The text of what a command is answered.
+fn carry_out(
+    alloc: Global,
+    session: &mut Session<LocalDesk>,
+    desk: &mut LocalDesk,
+    command: Command<'_>,
+) -> Result<Vec<u8>, AllocError> {
+    match step(session, desk, command) {
+        Answer::Reply(reply) => spelled(alloc, &reply),
+        Answer::Trace => last_trace(alloc, session),
+    }
+}
+
+fn spelled(alloc: Global, reply: &Reply) -> Result<Vec<u8>, AllocError> {
     let mut bytes = Vec::new(alloc);
     print_reply(reply, &mut bytes)?;
+    Ok(bytes)
+}
+
+// The text of what a line is answered.
+fn text_for(alloc: Global, hub: &mut Hub, line: &str) -> Result<Vec<u8>, AllocError> {
+    let Some((actor, text)) = line.split_once(' ') else {
+        return spelled(alloc, &Reply::Refused(Code::BadLine));
+    };
+    let command = match read_command(alloc, text.as_bytes()) {
+        Ok(command) => command,
+        Err(LineFault::BadLine) => return spelled(alloc, &Reply::Refused(Code::BadLine)),
+        Err(LineFault::Short) => return spelled(alloc, &Reply::Refused(Code::NoMemory)),
+    };
+    match actor {
+        "a" => carry_out(alloc, &mut hub.a, &mut hub.desk, command),
+        "b" => carry_out(alloc, &mut hub.b, &mut hub.desk, command),
+        "c" => carry_out(alloc, &mut hub.c, &mut hub.desk, command),
+        _ => spelled(alloc, &Reply::Refused(Code::BadLine)),
+    }
+}
+
+// The answer to a line, as it stands in a row.
+fn answer_to(alloc: Global, hub: &mut Hub, line: &str) -> Result<String, AllocError> {
+    let bytes = text_for(alloc, hub, line)?;
     let text = String::from_utf8_lossy(alloc, bytes.as_slice())?;
     text.trim_end().replace(alloc, '\n', " / ")
 }
 
-// The line has this reply. One that is refused memory has another.
+// The line has this answer. One that is refused memory has another.
 fn says(alloc: Global, hub: &mut Hub, line: &str, wanted: &str) -> Result<(), Fail> {
-    let reply = reply_to(alloc, hub, line);
-    let had = spelled(alloc, &reply)?;
+    let had = answer_to(alloc, hub, line)?;
     if had.as_str() != wanted {
         return Err(Fail::new(format_args!("{line} => {had}, where {wanted} was wanted")));
     }
     Ok(())
 }
 
-// Each row's line has its reply.
+// Each row's line has its answer.
 fn follow(alloc: Global, hub: &mut Hub, rows: &str) -> Result<(), Fail> {
     for row in rows.lines() {
         if row.starts_with('#') {

@@ -8,3 +8,5 @@ pub mod WatchDrafting
 pub mod Begun
 pub mod BroadcastAgain
 pub mod WatchAgain
+pub mod Few
+pub mod Pieces

@@ -4,6 +4,7 @@ pub mod Broadcast
 pub mod Watch
 pub mod Traces
 pub mod ToCome
+pub mod Pieces
 pub mod Tables
 pub mod BroadcastWords
 pub mod WatchWords

@@ -75,10 +75,11 @@ impl<'a> BroadcastLines<'a> {
         }
     }
 
-    /// How many lines the picture has, in a trace of whichever version.
+    /// How many lines the picture has, in a trace of whichever version: at most 196,609.
     pub fn count(picture: &PictureParts<Value>) -> u64
-        ensures { (version : Version) →
+        ensures count { (version : Version) →
             result ≡ length (picture_lines (told version picture.now)) }
+        ensures most { result ≤ 196609 }
     {
         let window = picture.window();
         // Its contract says that the picture is sound: few handles are live.

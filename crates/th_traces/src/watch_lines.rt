@@ -58,9 +58,10 @@ impl<'a> WatchLines<'a> {
         }
     }
 
-    /// How many lines the picture has.
+    /// How many lines the picture has: at most 131,074.
     pub fn count(picture: &PictureParts<Value>) -> u64
-        ensures { result ≡ length (picture_lines (told picture.now)) }
+        ensures count { result ≡ length (picture_lines (told picture.now)) }
+        ensures most { result ≤ 131074 }
     {
         // Its contract says that the picture is sound: few handles are live.
         let _next = picture.next_number();

@@ -54,6 +54,7 @@ fn segments_that_meet_join(rt: HostRuntime) -> Result<(), Fail> {
     let all = joined(joined(two, d)?, last)?;
     assert_eq!(rt; (all.key(), all.first(), all.len()), (KEY, 0, 2));
     assert_eq!(rt; all.entry(1), Some((&Send(TX, 5), &Sent(1))));
+    assert_eq!(rt; all.entries().last(), Some(&(Send(TX, 5), Sent(1))));
     Ok(())
 }
 

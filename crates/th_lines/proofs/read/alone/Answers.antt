@@ -41,6 +41,7 @@ returns-in_default c =
     & inr refl
     & inr refl
     & inr refl
+    & inr refl
     & inl (search rules)
     & inl (search rules)
     & tt

@@ -8,7 +8,7 @@ use Rattle.th_model.specs.declared.verb.ReceiverVerb.TheVariants.{TryRecv, Recv,
 use Rattle.th_model.specs.declared.verb.SenderVerb.TheVariants.{Send, Replace}
 use Rattle.th_model.specs.declared.verb.Start.TheVariants.{Tail}
 use Rattle.th_lines.specs.Fields.{Rest, by_word, ended, field_then, name_then, or_field, value_last}
-use Rattle.th_lines.specs.Commands.{carries_value, beginning, command_of, editing, making, on, sending, words}
+use Rattle.th_lines.specs.Commands.{carries_value, beginning, command_of, editing, making, on, sending, tracing, words}
 use Rattle.th_lines.specs.Reads.{Reads, rest_of}
 use Rattle.th_lines.proofs.Readers.{by_word-misses, nameless, parts, parts-found}
 use Rattle.th_lines.proofs.Tables.{◌&◌}
@@ -42,6 +42,7 @@ no_name word fields none =
     & inr (without (λ t. ended (on (ByReceiver MarkChanged) t)))
     & inr (without (λ t. ended (on (ByReceiver MarkUnchanged) t)))
     & inr (without (λ t. ended (on End t)))
+    & inr (without (λ t. ended (tracing t)))
     & inr refl
     & inr refl
     & tt

@@ -11,7 +11,7 @@ use Rattle.th_model.specs.declared.verb.ReceiverVerb.TheVariants.{TryRecv, Recv,
 use Rattle.th_model.specs.declared.verb.SenderVerb.TheVariants.{Send, Replace}
 use Rattle.th_model.specs.declared.verb.Start.TheVariants.{Tail}
 use Rattle.th_lines.specs.Fields.{Rest, by_word, field_then, name_then, or_field, value_last}
-use Rattle.th_lines.specs.Commands.{carries_value, beginning, editing, making, on, sending, words}
+use Rattle.th_lines.specs.Commands.{carries_value, beginning, editing, making, on, sending, tracing, words}
 use Rattle.th_lines.specs.Reads.{Reads}
 use Rattle.th_lines.proofs.Readers.{by_word-misses, named-more, reads-after, value-read, value-refused}
 use Rattle.th_lines.proofs.Tables.{◌&◌}
@@ -90,6 +90,7 @@ returns-in_default c =
     & inr (named-more (on (ByReceiver MarkChanged)) t bytes c.requires)
     & inr (named-more (on (ByReceiver MarkUnchanged)) t bytes c.requires)
     & inr (named-more (on End) t bytes c.requires)
+    & inr (named-more tracing t bytes c.requires)
     & inr refl
     & inr refl
     & tt

@@ -3,6 +3,7 @@ use Rattle.th_model.specs.declared.handles.TxId.{TxId}
 use Rattle.th_registry.specs.Events.{Event, Asks, any_sender}
 use Rattle.th_registry.specs.Typed.{replied}
 use Rattle.th_session.specs.Held.{held}
+use Rattle.th_session.specs.Script.{Replied}
 use Rattle.th_session.proofs.Seating.{at-in, at-out, held-set, sender-seen}
 use Rattle.th_session.proofs.Playing.{sender-there, said-by}
 use Rattle.th_session.proofs.action.ask.Goals as goal
@@ -15,7 +16,7 @@ returns-in-Some g c =
     let kept = sender-seen g.D.Desk.tx g.D.Desk.rx c.in-Some.seat.now c.ask.new.sender c.ask.ensures.sender in
     let same = held-set g.D.Desk.tx g.D.Desk.rx c.args.seats.now.entries _ c.args.topic.0 c.in-Some.seat.now _ (sym c.in-Some.ensures.value)
     (c.get_mut.follows.holds (record { sender = c.ask.new.sender; receiver = c.in-Some.seat.now.receiver })).0 kept in
-    (replied c.ask.result, c.ask.new.self, said-by g.D.Desk.says event c.args.topic.0 _ _ _ _ _ has c.ask.ensures.event, (c.replied.ensures, same, refl))
+    (replied c.ask.result, c.ask.new.self, said-by g.D.Desk.says event c.args.topic.0 _ _ _ _ _ has c.ask.ensures.event, (ap (λ x. Replied x) c.replied.ensures, same, refl))
 
 pub returns-in-None : goal.returns-in-None
 returns-in-None g c =
@@ -24,5 +25,5 @@ returns-in-None g c =
       replied c.ask-in-None.result,
       c.ask-in-None.new.self,
       said-by g.D.Desk.says event c.args.topic.0 _ _ _ _ _ lacks c.ask-in-None.ensures.event,
-      (c.replied-in-None.ensures, ap (λ m. held g.D.Desk.tx g.D.Desk.rx m.entries) c.get_mut.follows.holds-at-none, refl),
+      (ap (λ x. Replied x) c.replied-in-None.ensures, ap (λ m. held g.D.Desk.tx g.D.Desk.rx m.entries) c.get_mut.follows.holds-at-none, refl),
     )

@@ -1,25 +1,65 @@
-use Rattle.std.proofs.Common.{◌∙◌, sym, ap, subst, slice_get}
+use Rattle.std.proofs.Common.{◌≡◌, ◌∙◌, true, false, sym, ap, subst, slice_get}
+use Rattle.std.specs.Prelude.{remove}
 use Rattle.std.specs.Map.{values_of}
-use Rattle.std.specs.Option.{option_copied_mut}
+use Rattle.std.specs.Option.{option_copied_mut, option_map}
 use Rattle.indexmap.specs.IndexMap.{set_value_at}
+use Rattle.th_lines.specs.Output.{Output, output}
+use Rattle.th_lines.specs.declared.reply.Code.TheVariants as Codes
+use Rattle.th_lines.specs.declared.reply.Reply.TheVariants.{Refused}
 use Rattle.th_registry.specs.Pictures.{SeenTopics}
-use Rattle.th_replay.specs.Schedule.{Hub, IsAnswer, asks_by_holding, by_holding, has_quit, picture_asks, picture_step}
-use Rattle.th_replay.proofs.Orders.{not-quit, goes_on, gone, stays}
+use Rattle.th_session.specs.Script.{Replied}
+use Rattle.th_replay.specs.Schedule.{Actors, Hub, PutsAnswer, asks_by_holding, by_holding, has_quit, holdings, picture_asks, picture_step}
+use Rattle.th_replay.proofs.Holdings.{at-held, handles, set-held}
+use Rattle.th_replay.proofs.Orders.{goes_on, gone, lacks, stays}
+use Rattle.th_replay.proofs.Steps.{ends_so, keeps}
 use Rattle.th_replay.proofs.actors.Hub.carry_out.Goals as goal
 
-pub returns-in-Bye : goal.returns-in-Bye
-returns-in-Bye c =
-    let P : Hub SeenTopics → SeenTopics → Type 0 = λ hub topics. IsAnswer (by_holding picture_step hub c.args.place c.args.command (slice_get (values_of hub.actors) c.args.place)) (asks_by_holding picture_asks hub c.args.command (slice_get (values_of hub.actors) c.args.place)) hub c.step-reply.result (record { topics = topics; actors = c.take_out.new.self.actors }) in
-    let left = gone c.step-reply.result c.args.place c.step-reply.new.session c.self.inside.actors.entries c.take_out.new.self.actors (ap has_quit c.in-Bye.is) c.take_out.ensures.actors in
-    subst (λ (topics : SeenTopics). P c.args.self.now topics) (sym c.take_out.ensures.topics)
-    (subst (λ (hub : Hub SeenTopics). P hub c.step-reply.new.desk) c.self.view_is
-    (goes_on c.self.inside.desk c.self.inside.actors.entries c.args.place c.args.command c.in-Some.session.now c.step-reply.new.session c.step-reply.result c.step-reply.new.desk c.take_out.new.self.actors
-    (sym c.get_index_mut.ensures.value ∙ ap option_copied_mut c.in-Some.is) c.step-reply.ensures left))
+pub returns-in_default : goal.returns-in_default
+returns-in_default g c =
+    let i = c.self.inside in
+    let after : Output = output g.W.Write.contents c.append.new.writer c.append.new.self in
+    let inside : Hub SeenTopics = record { topics = i.desk.topics; actors = holdings i.actors.entries } in
+    let P : Hub SeenTopics → Type 0 = λ hub. PutsAnswer (by_holding picture_step hub c.args.place c.args.command (slice_get (values_of hub.actors) c.args.place)) (asks_by_holding picture_asks hub c.args.command (slice_get (values_of hub.actors) c.args.place)) hub inside (output g.W.Write.contents c.args.writer.now c.args.out.now) after c.append.result in
+    let none = at-held i.actors.entries c.args.place ∙ ap (option_map handles) (sym c.get_index_mut.ensures.value ∙ ap option_copied_mut c.in_default.is) in
+    subst P c.self.view_is (Replied (Refused Codes.NotHeld), lacks inside c.args.place c.args.command (slice_get (values_of inside.actors) c.args.place) none, c.append.ensures)
 
-pub returns-in_default-reply : goal.returns-in_default-reply
-returns-in_default-reply c =
-    let P : Hub SeenTopics → Type 0 = λ hub. IsAnswer (by_holding picture_step hub c.args.place c.args.command (slice_get (values_of hub.actors) c.args.place)) (asks_by_holding picture_asks hub c.args.command (slice_get (values_of hub.actors) c.args.place)) hub c.step-reply.result (record { topics = c.step-reply.new.desk; actors = set_value_at c.self.inside.actors.entries c.args.place c.step-reply.new.session }) in
-    let left = stays c.step-reply.result c.args.place c.step-reply.new.session c.self.inside.actors.entries (not-quit c.step-reply.result c.in_default-reply.not-Bye) in
+pub returns-then-is_gone : goal.returns-then-is_gone
+returns-then-is_gone g c =
+    let i = c.self.inside in
+    let a = c.step-answer.ensures.step in
+    let had = c.in-Some.session.now in
+    let has = c.step-answer.new.session in
+    let after : Output = output g.W.Write.contents c.put_answer-put.new.writer c.put_answer-put.new.out in
+    let left : Actors = c.take_out.new.self.actors in
+    let P : Hub SeenTopics → SeenTopics → Type 0 = λ hub topics. PutsAnswer (by_holding picture_step hub c.args.place c.args.command (slice_get (values_of hub.actors) c.args.place)) (asks_by_holding picture_asks hub c.args.command (slice_get (values_of hub.actors) c.args.place)) hub (record { topics = topics; actors = left }) (output g.W.Write.contents c.args.writer.now c.args.out.now) after c.put_answer-put.result in
+    let quit : has_quit a.0 ≡ true = sym (c.quits-is_gone.ensures a.0 a.1) ∙ c.if-is_gone.true in
+    let rest = gone a.0 c.args.place has.handles (holdings i.actors.entries) left quit (c.take_out.ensures.actors ∙ ap (λ (all : Actors). remove all c.args.place) (set-held i.actors.entries c.args.place has)) in
+    let there = at-held i.actors.entries c.args.place ∙ ap (option_map handles) (sym c.get_index_mut.ensures.value ∙ ap option_copied_mut c.in-Some.is) in
+    let end = ends_so had i.desk.topics c.args.command a.0 has c.step-answer.new.desk.topics i.desk.limit c.self.invariant a.2 in
+    let put = c.put_answer-put.ensures a.0 had.segments a.1 (keeps had i.desk.topics c.args.command a.0 has c.step-answer.new.desk.topics i.desk.limit a.2) in
+    subst (λ (topics : SeenTopics). P c.args.self.now topics) (sym c.take_out.ensures.topics)
+    (subst (λ (hub : Hub SeenTopics). P hub c.step-answer.new.desk.topics) c.self.view_is
+    (a.0, goes_on i.desk.topics (holdings i.actors.entries) c.args.place c.args.command had.handles has.handles a.0 c.step-answer.new.desk.topics left there end rest, put))
+
+pub returns-else-is_gone : goal.returns-else-is_gone
+returns-else-is_gone g c =
+    let i = c.self.inside in
+    let a = c.step-answer.ensures.step in
+    let had = c.in-Some.session.now in
+    let has = c.step-answer.new.session in
+    let after : Output = output g.W.Write.contents c.put_answer-put.new.writer c.put_answer-put.new.out in
+    let left : Actors = holdings (set_value_at i.actors.entries c.args.place has) in
+    let P : Hub SeenTopics → Type 0 = λ hub. PutsAnswer (by_holding picture_step hub c.args.place c.args.command (slice_get (values_of hub.actors) c.args.place)) (asks_by_holding picture_asks hub c.args.command (slice_get (values_of hub.actors) c.args.place)) hub (record { topics = c.step-answer.new.desk.topics; actors = left }) (output g.W.Write.contents c.args.writer.now c.args.out.now) after c.put_answer-put.result in
+    let not_quit : has_quit a.0 ≡ false = sym (c.quits-is_gone.ensures a.0 a.1) ∙ c.if-is_gone.false in
+    let rest = set-held i.actors.entries c.args.place has ∙ stays a.0 c.args.place has.handles (holdings i.actors.entries) not_quit in
+    let there = at-held i.actors.entries c.args.place ∙ ap (option_map handles) (sym c.get_index_mut.ensures.value ∙ ap option_copied_mut c.in-Some.is) in
+    let end = ends_so had i.desk.topics c.args.command a.0 has c.step-answer.new.desk.topics i.desk.limit c.self.invariant a.2 in
+    let put = c.put_answer-put.ensures a.0 had.segments a.1 (keeps had i.desk.topics c.args.command a.0 has c.step-answer.new.desk.topics i.desk.limit a.2) in
     subst P c.self.view_is
-    (goes_on c.self.inside.desk c.self.inside.actors.entries c.args.place c.args.command c.in-Some.session.now c.step-reply.new.session c.step-reply.result c.step-reply.new.desk (set_value_at c.self.inside.actors.entries c.args.place c.step-reply.new.session)
-    (sym c.get_index_mut.ensures.value ∙ ap option_copied_mut c.in-Some.is) c.step-reply.ensures left)
+    (a.0, goes_on i.desk.topics (holdings i.actors.entries) c.args.place c.args.command had.handles has.handles a.0 c.step-answer.new.desk.topics left there end rest, put)
+
+pub invariant_of-self-then-is_gone : goal.invariant_of-self-then-is_gone
+invariant_of-self-then-is_gone g c = c.step-answer.ensures.limit ∙ c.self.invariant
+
+pub invariant_of-self-else-is_gone : goal.invariant_of-self-else-is_gone
+invariant_of-self-else-is_gone g c = c.step-answer.ensures.limit ∙ c.self.invariant

@@ -1,11 +1,14 @@
-use Rattle.std.proofs.Common.{◌≡◌, ◌∙◌, ◌+◌, [], ap, arith, false, subst, sym}
+use Rattle.std.proofs.Common.{◌≡◌, ◌∙◌, ◌+◌, Bool, [], ap, arith, false, subst, sym}
+use Rattle.std.specs.Prelude.{Result}
 use Rattle.th_lines.specs.Output.{Output, output}
 use Rattle.th_lines.specs.Standing.{Advances, Standing, Stops}
 use Rattle.th_registry.specs.Pictures.{SeenTopics}
-use Rattle.th_replay.specs.Progress.{AnswersOne, Course, IsFull, stands}
+use Rattle.th_replay.specs.declared.fault.RunFault.{RunFault}
+use Rattle.th_replay.specs.Progress.{AnswersNext, AnswersOne, Course, IsFull, stands}
 use Rattle.th_replay.specs.Schedule.{Hub, answers}
 use Rattle.th_replay.specs.Session.{Turns}
 use Rattle.th_replay.proofs.RunLemmas.{full, next_broken, next_none, next_one, nothing_next}
+use Rattle.th_replay.proofs.runner.Runner.answer_next.Goals.{in-Ok, in-Err}
 use Rattle.th_replay.proofs.runner.Runner.answer_next.Goals as goal
 
 pub returns-then-is_empty : goal.returns-then-is_empty
@@ -30,24 +33,24 @@ returns-then-not-next_line g c =
     subst (λ (k : Course). Advances (Turns answers) (at k) [] (at (record o { came = mid.came })) × (mid.came.ahead ≡ [])) c.self.view_is
     (next_none answers (at o) mid c.if-not-next_line.ensures)
 
-pub returns-in-Ok : goal.returns-in-Ok
-returns-in-Ok g c =
-    let i = c.self.inside in
-    let o : Course = record { hub = i.hub; came = i.intake.came; waiting = i.out; answered = i.answered; limit = i.limit } in
-    let at : Course → Standing (Hub SeenTopics) = λ k. stands g.W.Write.contents c.args.writer.now k in
-    let out : Output = output g.W.Write.contents c.append.new.writer c.append.new.self in
-    let mid = c.next_line.new.self in
-    let new : Standing (Hub SeenTopics) = record { state = c.answer-reply.new.self; came = mid.came; answered = i.answered + 1; limit = i.limit; out = out } in
-    subst (λ (k : Course). AnswersOne answers (at k) new) c.self.view_is
-    (next_one answers (at o) mid _ c.answer-reply.result c.answer-reply.new.self out c.if-not-next_line.ensures c.line.ensures c.answer-reply.ensures
-    c.in-Ok.ensures c.if-self.false)
-
 pub returns : goal.returns
 returns g c =
     let i = c.self.inside in
     let o : Course = record { hub = i.hub; came = i.intake.came; waiting = i.out; answered = i.answered; limit = i.limit } in
     let at : Course → Standing (Hub SeenTopics) = λ k. stands g.W.Write.contents c.args.writer.now k in
-    let out : Output = output g.W.Write.contents c.append.new.writer c.append.new.self in
-    subst (λ (k : Course). Stops (Turns answers) (at k) [] false false c.answer-reply.new.self out) c.self.view_is
-    (next_broken answers (at o) c.next_line.new.self _ c.answer-reply.result c.answer-reply.new.self out c.if-not-next_line.ensures c.line.ensures
-    c.answer-reply.ensures c.in-Err.ensures)
+    let out : Output = output g.W.Write.contents c.answer.new.writer c.answer.new.out in
+    let mid = c.next_line.new.self in
+    let new : Standing (Hub SeenTopics) = record { state = c.answer.new.self; came = mid.came; answered = i.answered + 1; limit = i.limit; out = out } in
+    let P : Result Bool RunFault → Type 0 = λ r. AnswersNext answers (stands g.W.Write.contents c.args.writer.now c.args.self.now) new r in
+    elim c.match-answer.branch [
+      | in-Ok w ↦
+          (let answer = w.in-Ok.ensures in
+          subst P (sym w.result-is)
+          (subst (λ (k : Course). AnswersOne answers (at k) new) c.self.view_is
+          (next_one answers (at o) mid _ answer.0 c.answer.new.self out c.if-not-next_line.ensures c.line-line.ensures answer.1 answer.2 c.if-self.false)))
+      | in-Err w ↦
+          (let answer = w.in-Err.ensures in
+          subst P (sym w.result-is)
+          (subst (λ (k : Course). Stops (Turns answers) (at k) [] false false c.answer.new.self out) c.self.view_is
+          (next_broken answers (at o) mid _ answer.0 c.answer.new.self out c.if-not-next_line.ensures c.line-line.ensures answer.1 answer.2)))
+    ]

@@ -30,25 +30,27 @@ returns-in-Ok g c =
     let o : Course = record { hub = i.hub; came = i.intake.came; waiting = i.out; answered = i.answered; limit = i.limit } in
     let at : Course → Standing (Hub SeenTopics) = λ k. stands g.W.Write.contents c.args.writer.now k in
     let new : Standing (Hub SeenTopics) = stands g.W.Write.contents c.count_written-in-Ok.new.writer c.count_written-in-Ok.new.self in
-    let mid : Output = output g.W.Write.contents c.append.new.writer c.append.new.self in
+    let mid : Output = output g.W.Write.contents c.answer.new.writer c.answer.new.out in
     let ahead : i.intake.came.ahead ≡ [] = ap (λ (k : Course). k.came.ahead) c.self.view_is ∙ c.requires in
     let some : 0 < length i.intake.came.begun = c.if-not-last_line.ensures.0 in
-    let last = c.line.ensures ∙ ap (λ (r : Reading). line_of false r.line) c.if-not-last_line.ensures.1 in
+    let last = c.line-line.ensures ∙ ap (λ (r : Reading). line_of false r.line) c.if-not-last_line.ensures.1 in
     let flushed = c.count_written-in-Ok.ensures.flushed in
-    let line : Line = line_given c.line.result in
-    let turned = subst (λ (s : Hub SeenTopics). Turns answers i.hub line c.answer-reply.result s) (sym (ap (λ (k : Standing (Hub SeenTopics)). k.state) flushed.0)) c.answer-reply.ensures in
+    let line : Line = line_given c.line-line.result in
+    let answer = c.in-Ok.ensures in
+    let turned = subst (λ (s : Hub SeenTopics). Turns answers i.hub line answer.0 s) (sym (ap (λ (k : Standing (Hub SeenTopics)). k.state) flushed.0)) answer.1 in
     subst (λ (k : Course). ClosesOrFails answers (at k) new c.count_written-in-Ok.result) c.self.view_is
-    (closes_last answers (at o) new line c.answer-reply.result mid ahead some last turned c.count_written-in-Ok.result c.in-Ok.ensures flushed.1
+    (closes_last answers (at o) new line answer.0 mid ahead some last turned c.count_written-in-Ok.result answer.2 flushed.1
     c.count_written-in-Ok.ensures.count (c.self.invariant.begun some))
 
-pub returns : goal.returns
-returns g c =
+pub returns-in-Err : goal.returns-in-Err
+returns-in-Err g c =
     let i = c.self.inside in
     let o : Course = record { hub = i.hub; came = i.intake.came; waiting = i.out; answered = i.answered; limit = i.limit } in
     let at : Course → Standing (Hub SeenTopics) = λ k. stands g.W.Write.contents c.args.writer.now k in
     let new : Standing (Hub SeenTopics) =
-    stands g.W.Write.contents c.append.new.writer (record { hub = c.answer-reply.new.self; came = c.last_line.new.self.came; waiting = c.append.new.self; answered = i.answered + 1; limit = i.limit }) in
+    stands g.W.Write.contents c.answer.new.writer (record { hub = c.answer.new.self; came = c.last_line.new.self.came; waiting = c.answer.new.out; answered = i.answered + 1; limit = i.limit }) in
     let ahead : i.intake.came.ahead ≡ [] = ap (λ (k : Course). k.came.ahead) c.self.view_is ∙ c.requires in
-    let last = c.line.ensures ∙ ap (λ (r : Reading). line_of false r.line) c.if-not-last_line.ensures.1 in
+    let last = c.line-line.ensures ∙ ap (λ (r : Reading). line_of false r.line) c.if-not-last_line.ensures.1 in
+    let answer = c.in-Err.ensures in
     subst (λ (k : Course). Stops (Turns answers) (at k) [] true false new.state new.out) c.self.view_is
-    (closes_broken answers (at o) new _ c.answer-reply.result new.out ahead c.if-not-last_line.ensures.0 last c.answer-reply.ensures c.in-Err.ensures)
+    (closes_broken answers (at o) new _ answer.0 new.out ahead c.if-not-last_line.ensures.0 last answer.1 answer.2)

@@ -1,0 +1,8 @@
+use Rattle.std.proofs.Common.{Ok, ap, ◌∙◌}
+use Rattle.th_registry.proofs.Spending.{is_new, old-is-there, receiver-spends}
+use Rattle.th_registry.proofs.event.move_receiver.Goals as goal
+
+pub spend_broadcast-requires-clause-spends : goal.spend_broadcast-requires-clause-spends
+spend_broadcast-requires-clause-spends c =
+    let new = ap is_new c.in-Ok.is ∙ ap (λ reply. is_new (Ok reply)) c.in-NewRx.is in
+    receiver-spends c.call_broadcast.new.channel.state c.args.rx (old-is-there c.args.channel.now c.args.rx c.call_broadcast.result c.call_broadcast.new.channel c.call_broadcast.ensures new)
