@@ -32,5 +32,5 @@ pub use intake::Intake;
 pub use lines::Lines;
 pub use print::{print_line, print_reply};
 pub use read::{read_command, read_step};
-pub use reply::{Code, Reply};
+pub use reply::{Code, Reply, ValueWord};
 pub use write_buffer::WriteBuffer;

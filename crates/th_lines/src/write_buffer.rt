@@ -2,17 +2,17 @@
 ghost use Rattle.std.specs.Prelude.{◌≡◌, ◌+◌, ◌≤◌, [], ℕ, List, IfOk, OnOk, map, vec_capacity, vec_len};
 ghost use Rattle.std.specs.List.{concat};
 ghost use Rattle.th_lines.specs.Output.{AddsOrFails, Flushes, Writes, output};
-ghost use Rattle.th_lines.specs.Replies.{ended, row, spell};
+ghost use Rattle.th_lines.specs.Replies.{ended, row, spell, telling};
 
 use crate::counted::{Counted, Moved};
 use crate::fault::WriteFailed;
 use crate::lines::Lines;
-use crate::print::{print_head, print_row};
-use crate::reply::Reply;
+use crate::print::{print_head, print_row, print_value};
+use crate::reply::{Reply, ValueWord};
 use std::alloc::{AllocError, Global};
 use std::io::Write;
 use std::marker::Model;
-use th_model::Listed;
+use th_model::{Listed, Value};
 
 /// How many bytes wait at most.
 const ROOM: usize = 65536;
@@ -79,6 +79,32 @@ impl WriteBuffer {
         if let Reply::Topics(listing) = reply {
             return append_rows(waiting, retries, writer, listing.rows());
         }
+        Ok(())
+    }
+
+    /// Puts the reply that tells a value so behind those that wait. The value stays where it is.
+    ///
+    /// # Errors
+    ///
+    /// The writer failed, and a front of what waited and the reply was written.
+    #[inline(always)]
+    pub fn append_value<W: Write>(
+        &mut self,
+        writer: &mut Counted<W>,
+        word: ValueWord,
+        value: &Value,
+    ) -> Result<(), WriteFailed>
+        ensures { AddsOrFails (spell (telling word value.now))
+            (output W.contents writer.old self.old) (output W.contents writer.new self.new) result }
+    {
+        let waiting = &mut self.waiting;
+        match make_room(waiting, &mut self.retries, writer) {
+            Ok(()) => {}
+            Err(e) => return Err(e),
+        }
+        let Ok(()) = print_value(word, value, waiting) else {
+            unreachable!();
+        };
         Ok(())
     }
 

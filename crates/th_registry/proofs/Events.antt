@@ -10,10 +10,10 @@ use Rattle.th_model.specs.declared.verb.Question.{Question}
 use Rattle.th_model.specs.declared.verb.Start.{Start}
 use Rattle.th_registry.specs.declared.outcome.NoEvent.{NoEvent}
 use Rattle.th_registry.specs.Calls.{Bytes}
-use Rattle.th_registry.specs.Events.{Event, Asks, Subscribes, Told, any_sender, is_hub, takes_memory}
+use Rattle.th_registry.specs.Events.{Event, Asks, Subscribes, any_sender, is_hub, takes_memory}
 use Rattle.th_registry.specs.declared.opening.Found.{Found}
 use Rattle.th_registry.specs.History.{ChannelSegment}
-use Rattle.th_registry.specs.Hub.{Find, On, Cut, find, written, on_channel, channel_event, cut_channel, Says}
+use Rattle.th_registry.specs.Hub.{Find, On, Cut, Noted, find, written, on_channel, channel_event, cut_channel, receipt_on, Says}
 use Rattle.th_registry.specs.Outcomes.{ChannelCuts, ChannelTells, SaysOrShort}
 use Rattle.th_registry.specs.Pictures.{Desk, DeskSays, SeenChannel, SeenTopics, pictures, seen_broadcast, seen_watch}
 
@@ -29,16 +29,20 @@ module _ (limit : ℕ) where
   finds ts name found e = inl (λ i. (e i, ts))
 
   -- what its channel tells is what the topic says
-  pub topic-says : {c new : SeenChannel} {told : Told} (ts : SeenTopics) (topic : ℕ) (e : Event) →
-      slice_get (values_of ts) topic ≡ Some c → ChannelTells c e told new →
-      Says (pictures limit) ts (On topic e) told (set_value_at ts topic new)
-  topic-says ts topic e there (inl eq) =
-      inl (ap (on_channel ts topic (λ d. channel_event seen_broadcast seen_watch d e)) there ∙ ap (written ts topic) eq)
+  abbrev noted : SeenTopics → ℕ → Event → Option SeenChannel → Noted × SeenTopics
+  noted ts topic e o =
+      let s = on_channel ts topic (λ d. channel_event seen_broadcast seen_watch d e) o in
+      ((s.0, receipt_on (pictures limit) o e), s.1)
+
+  pub topic-says : {c new : SeenChannel} {said : Noted} (ts : SeenTopics) (topic : ℕ) (e : Event) →
+      slice_get (values_of ts) topic ≡ Some c → ChannelTells c e said new →
+      Says (pictures limit) ts (On topic e) said (set_value_at ts topic new)
+  topic-says ts topic e there (inl eq) = inl (ap (noted ts topic e) there ∙ ap (written ts topic) eq)
   topic-says {c = c} ts topic e there (inr h) =
       inr (
         h.0,
         ap (set_value_at ts topic) h.1 ∙ set-same ts topic c there,
-        ap (λ o. takes_memory e (on_channel ts topic (λ d. channel_event seen_broadcast seen_watch d e) o).0) there ∙ h.2,
+        ap (λ o. takes_memory e (noted ts topic e o).0.0) there ∙ h.2,
       )
 
   -- and what it cuts is the topic's segment
@@ -58,11 +62,11 @@ module _ (limit : ℕ) where
 abbrev desk_of : ℕ → SeenTopics → Desk
 desk_of limit ts = record { limit = limit; topics = ts }
 
-pub desk-says : {c new : SeenChannel} {told : Told} {limit : ℕ} {ts : SeenTopics} {old : Desk} (topic : ℕ) (e : Event) → desk_of limit ts ≡ old →
-    slice_get (values_of ts) topic ≡ Some c → ChannelTells c e told new →
-    DeskSays old (On topic e) told (desk_of limit (set_value_at ts topic new))
-desk-says {new = new} {told = told} {limit = limit} {ts = ts} topic e same there tells =
-    let P : Desk → Type 0 = λ old. DeskSays old (On topic e) told (desk_of limit (set_value_at ts topic new)) in
+pub desk-says : {c new : SeenChannel} {said : Noted} {limit : ℕ} {ts : SeenTopics} {old : Desk} (topic : ℕ) (e : Event) → desk_of limit ts ≡ old →
+    slice_get (values_of ts) topic ≡ Some c → ChannelTells c e said new →
+    DeskSays old (On topic e) said (desk_of limit (set_value_at ts topic new))
+desk-says {new = new} {said = said} {limit = limit} {ts = ts} topic e same there tells =
+    let P : Desk → Type 0 = λ old. DeskSays old (On topic e) said (desk_of limit (set_value_at ts topic new)) in
     subst P same (refl, topic-says limit ts topic e there tells)
 
 pub desk-cuts : {c new : SeenChannel} {segment : Result ChannelSegment NoEvent} {limit : ℕ} {ts : SeenTopics} {old : Desk} (topic : ℕ) → desk_of limit ts ≡ old →
@@ -73,8 +77,8 @@ desk-cuts {new = new} {segment = segment} {limit = limit} {ts = ts} topic same t
     subst P same (refl, topic-cuts limit ts topic there cuts)
 
 -- what a channel tells, told of a channel of either kind
-pub tells-as : {R C D : Type 0} {s : Result R NoEvent × C} {said : Result R NoEvent} {old new : C} (takes : Result R NoEvent → Bool) (f : C → D) →
-    SaysOrShort takes s old said new → SaysOrShort takes (s.0, f s.1) (f old) said (f new)
+pub tells-as : {A C D : Type 0} {s : A × C} {said refusal : A} {old new : C} (takes : A → Bool) (f : C → D) →
+    SaysOrShort refusal takes s old said new → SaysOrShort refusal takes (s.0, f s.1) (f old) said (f new)
 tells-as takes f (inl e) = inl (ap (λ s. (s.0, f s.1)) e)
 tells-as takes f (inr h) = inr (h.0, ap f h.1, h.2)
 
@@ -85,7 +89,7 @@ hub_given None false e = sym e
 hub_given (Some t) true e = sym e
 hub_given (Some t) false e = refl
 
-module _ {old new : Desk} {told : Told} (topic : ℕ) where
+module _ {old new : Desk} {told : Noted} (topic : ℕ) where
   -- by the number of a sender, which is the sender itself
   pub subscribes-own : (start : Start) (sender : Option TxId) → DeskSays old (On topic (Subscribes start (any_sender sender))) told new →
       DeskSays old (On topic (Subscribes start (any_sender (option_map (λ t. t) sender)))) told new

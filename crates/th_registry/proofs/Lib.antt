@@ -1,4 +1,5 @@
 pub mod Events
+pub mod Noting
 pub mod Openings
 pub mod Spending
 pub mod Seeing

@@ -201,5 +201,5 @@ not-hubs ts topic event x (Some c) at proper h e k =
     omega (arith, before, same)
 
 pub new_handles_are_not_the_hubs : (limit : ℕ) (ts : EndlessTopics) (n : ℕ) (event : Event) (x : Handle) → AreProper ts → AreNumbered ts →
-    new_handle (say (endless limit) ts (On n event)).0 ≡ Some x → x ≡ hubs_sender → ⊥
+    new_handle (say (endless limit) ts (On n event)).0.0 ≡ Some x → x ≡ hubs_sender → ⊥
 new_handles_are_not_the_hubs limit ts n event x proper h e k = not-hubs ts n event x (slice_get (values_of ts) n) refl proper h e k

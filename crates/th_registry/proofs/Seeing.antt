@@ -44,10 +44,11 @@ use Rattle.th_model.specs.declared.making.Making.TheVariants as Makings
 use Rattle.th_registry.specs.declared.opening.Refusal.{Refusal}
 use Rattle.th_registry.specs.declared.opening.Refusal.TheVariants as Refusals
 use Rattle.th_registry.specs.Calls.{Bytes}
-use Rattle.th_registry.specs.Events.{Event, Binds, Subscribes, Sends, Asks, Receives, Resubscribes, DropsTx, DropsRx, Hub, Own, broadcast_call, broadcast_waits, is_hub, watch_call, watch_waits}
+use Rattle.th_registry.specs.Events.{Event, Binds, Subscribes, Sends, Asks, Receives, Resubscribes, DropsTx, DropsRx, Hub, Own, broadcast_call, broadcast_waits, is_end, is_hub, watch_call, watch_waits}
 use Rattle.th_registry.specs.History.{History, is_full, recorded}
 use Rattle.th_registry.specs.Kinds.{kind_of}
-use Rattle.th_registry.specs.Hub.{ChannelMachine, Find, List, Open, On, Cut, most_topics, found_in, found_at, find, list, written, on_channel, at_topic, added, made_broadcast, made, open_topic, replies, if_live, broadcast_replies, moved, broadcast_event, watch_replies, watch_event, as_broadcast, as_watch, channel_event, cut_channel}
+use Rattle.th_registry.specs.Hub.{ChannelMachine, Find, List, Open, On, Cut, most_topics, found_in, found_at, find, list, written, on_channel, at_topic, added, made_broadcast, made, open_topic, replies, if_live, broadcast_replies, moved, broadcast_event, watch_replies, watch_event, as_broadcast, as_watch, channel_event, channel_receipt, cut_channel, broadcast_receipt, watch_receipt, receipt, receipt_on, receipted}
+use Rattle.th_registry.specs.Hub as hub
 use Rattle.th_registry.specs.Endless.{EndlessBroadcast, EndlessChannel, EndlessTopics, EndlessWatch, endless, endless_broadcast, endless_watch, IsProperChannel, AreProper}
 use Rattle.th_registry.specs.Pictures.{SeenBroadcast, SeenChannel, SeenTopics, SeenWatch, pictures, seen_broadcast, seen_watch, with_state, see_channel, see_topics}
 use Rattle.th_registry.specs.Laws.{SaysWhatIsSeen, StaysProper}
@@ -418,11 +419,50 @@ module _ {A : Type 0} (done_seen : SeenChannel → Result A NoEvent × SeenChann
       ap (λ o. on_channel (see_topics ts) n done_seen o) (ap (λ vs. slice_get vs n) (values-seen ts) ∙ slice_get-map see_channel (values_of ts) n)
       ∙ on_channel-seen ts n (slice_get (values_of ts) n) (proper-at ts proper n)
 
+-- the receipt of an event
+
+receipted-seen : {E F S T C R P Q : Type 0} (m : ChannelMachine (History E S C R) C R P) (p : ChannelMachine (History F T C R) C R Q)
+    (h : History E S C R) (k : History F T C R) → ((call : C) (reply : R) → p.receipt k call reply ≡ m.receipt h call reply) →
+    (said : Result R NoEvent) (call : Option C) → receipted p k said call ≡ receipted m h said call
+receipted-seen m p h k same (Ok reply) (Some call) = ap (λ r. Some r) (same call reply)
+receipted-seen m p h k same (Ok reply) None = refl
+receipted-seen m p h k same (Err why) call = refl
+
+broadcast_receipt-seen : (h : EndlessBroadcast) → broadcast.IsProper h.state → (event : Event) →
+    broadcast_receipt seen_broadcast (see_broadcast h) event ≡ broadcast_receipt endless_broadcast h event
+broadcast_receipt-seen h proper event =
+    ap (λ (s : Replies (BReply Bytes) SeenBroadcast). cond (is_end event) None (receipted seen_broadcast (see_broadcast h) s.0 (broadcast_call event))) (broadcast-seen h proper event)
+    ∙ ap (cond (is_end event) None) (receipted-seen endless_broadcast seen_broadcast h (see_broadcast h) (λ _ _. refl) (broadcast_event endless_broadcast h event).0 (broadcast_call event))
+
+watch_receipt-seen : (h : EndlessWatch) → watch.IsProper h.state → (event : Event) →
+    watch_receipt seen_watch (see_watch h) event ≡ watch_receipt endless_watch h event
+watch_receipt-seen h proper event =
+    ap (λ (s : Replies (WReply Bytes) SeenWatch). cond (is_end event) None (receipted seen_watch (see_watch h) s.0 (watch_call event))) (watch-seen h proper event)
+    ∙ ap (cond (is_end event) None) (receipted-seen endless_watch seen_watch h (see_watch h) (λ _ _. refl) (watch_event endless_watch h event).0 (watch_call event))
+
+channel_receipt-seen : (c : EndlessChannel) → IsProperChannel c → (event : Event) →
+    channel_receipt seen_broadcast seen_watch (see_channel c) event ≡ channel_receipt endless_broadcast endless_watch c event
+channel_receipt-seen (Broadcast h) proper event = ap (option_map (λ r. Broadcast r)) (broadcast_receipt-seen h proper event)
+channel_receipt-seen (Watch h) proper event = ap (option_map (λ r. Watch r)) (watch_receipt-seen h proper event)
+
+receipt_on-seen : (limit : ℕ) (event : Event) (o : Option EndlessChannel) → ((c : EndlessChannel) → o ≡ Some c → IsProperChannel c) →
+    receipt_on (pictures limit) (option_map see_channel o) event ≡ receipt_on (endless limit) o event
+receipt_on-seen limit event None proper = refl
+receipt_on-seen limit event (Some c) proper = channel_receipt-seen c (proper c refl) event
+
+receipt-seen : (limit : ℕ) (ts : EndlessTopics) (n : ℕ) (event : Event) → AreProper ts →
+    receipt (pictures limit) (see_topics ts) n event ≡ receipt (endless limit) ts n event
+receipt-seen limit ts n event proper =
+    ap (λ o. receipt_on (pictures limit) o event) (ap (λ vs. slice_get vs n) (values-seen ts) ∙ slice_get-map see_channel (values_of ts) n)
+    ∙ receipt_on-seen limit event (slice_get (values_of ts) n) (proper-at ts proper n)
+
 pub says_what_is_seen : SaysWhatIsSeen
 says_what_is_seen limit ts (Find name) proper = ap (λ f. (f, see_topics ts)) (find-seen ts name)
 says_what_is_seen limit ts List proper = ap (λ rows. (Ok rows, see_topics ts)) (list-seen ts)
 says_what_is_seen limit ts (Open name making) proper = open-seen limit ts name making
-says_what_is_seen limit ts (On n event) proper = at_topic-seen _ _ (λ c p. channel-seen c p event) ts proper n
+says_what_is_seen limit ts (On n event) proper =
+    ap (λ s. ((s.0, receipt (pictures limit) (see_topics ts) n event), s.1)) (at_topic-seen _ _ (λ c p. channel-seen c p event) ts proper n)
+    ∙ ap (λ r. (((hub.event (endless limit) ts n event).0, r), see_topics (hub.event (endless limit) ts n event).1)) (receipt-seen limit ts n event proper)
 says_what_is_seen limit ts (Cut n) proper = at_topic-seen _ _ (λ c p. cut-seen c) ts proper n
 
 -- proper states

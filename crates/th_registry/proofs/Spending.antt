@@ -27,6 +27,7 @@ use Rattle.th_registry.specs.Calls.{Bytes}
 use Rattle.th_registry.specs.Hub.{broadcast_replies}
 use Rattle.th_registry.specs.Outcomes.{BroadcastSays}
 use Rattle.th_registry.specs.Pictures.{SeenBroadcast, seen_broadcast}
+use Rattle.th_registry.specs.Receipts.{BroadcastReceipt, reply_of}
 
 some-of : {X : Type 0} (o : Option X) → is_some o ≡ true → (x : X) × (o ≡ Some x)
 some-of None h = absurd (false≢true h)
@@ -85,10 +86,10 @@ module _ (old : SeenBroadcast) (rx : RxId) where
   replied : IsThereThen (broadcast_replies seen_broadcast old false (Some (BCalls.Resubscribe rx)))
   replied = cond_case IsThereThen (seen_broadcast.is_full old (BCalls.Resubscribe rx)) _ _ (λ _ no. absurd (false≢true no)) (λ _. resubscribed old.state rx)
 
-  pub old-is-there : (said : Result (BReply Bytes) NoEvent) (new : SeenBroadcast) → BroadcastSays old false (Some (BCalls.Resubscribe rx)) said new →
-      is_new said ≡ true → is_some (place_of new.state.window.places rx.0) ≡ true
-  old-is-there said new (inl e) h = subst IsThereThen e replied h
-  old-is-there said new (inr short) h = absurd (false≢true (sym (ap is_new short.0) ∙ h))
+  pub old-is-there : (said : Result BroadcastReceipt NoEvent) (new : SeenBroadcast) → BroadcastSays old false (Some (BCalls.Resubscribe rx)) said new →
+      is_new (reply_of said) ≡ true → is_some (place_of new.state.window.places rx.0) ≡ true
+  old-is-there said new (inl e, is) h = subst IsThereThen e replied h
+  old-is-there said new (inr short, is) h = absurd (false≢true (sym (ap is_new short.0) ∙ h))
 
 module _ (p : watch.Picture Bytes) where
   pub watch-sender-spends : (tx : TxId) → is_sender p.senders tx.0 ≡ true → live_watchers (watch.answer (pointwise nat_eq) p (WCalls.DropTx tx)).1 < live_watchers p

@@ -18,6 +18,7 @@ use Rattle.th_registry.specs.declared.channel.Channel.{Channel}
 use Rattle.th_registry.specs.declared.channel.Channel.TheVariants.{Broadcast, Watch}
 use Rattle.th_registry.specs.Calls.{Bytes}
 use Rattle.th_registry.specs.History.{History, BroadcastSegment, WatchSegment, opened, recorded, is_full, segment, cut}
+use Rattle.th_registry.specs.Receipts.{receipt_of}
 use Rattle.th_registry.specs.Hub.{ChannelMachine, Machines, Topics}
 
 abbrev pub EndlessBroadcast : Type 0
@@ -44,6 +45,7 @@ endless_broadcast = record {
   has_sender = λ h tx. is_sender h.state.senders tx.0;
   has_receiver = λ h rx. is_some (place_of h.state.index rx.0);
   cut = λ h. (segment h (broadcast_picture.see h.state), cut h (broadcast_picture.see h.state));
+  receipt = receipt_of;
 }
 
 abbrev pub endless_watch : ChannelMachine EndlessWatch (WCall Bytes) (WReply Bytes) WatchSegment
@@ -53,6 +55,7 @@ endless_watch = record {
   has_sender = λ h tx. is_sender h.state.senders tx.0;
   has_receiver = λ h rx. is_some (reader_of h.state.marks rx.0);
   cut = λ h. (segment h (watch_picture.see h.state), cut h (watch_picture.see h.state));
+  receipt = receipt_of;
 }
 
 -- segments have at most `limit` entries

@@ -61,6 +61,12 @@ is_by_hub (Asks by question) = is_hub by
 is_by_hub (DropsTx by) = is_hub by
 is_by_hub event = false
 
+-- whether an event is the end of a handle, of which no receipt is handed out
+abbrev pub is_end : Event → Bool
+is_end (DropsTx by) = true
+is_end (DropsRx r) = true
+is_end event = false
+
 -- the call of a broadcast channel, and of a watch channel, if it has one
 abbrev pub broadcast_call : Event → Option (BCall Bytes)
 broadcast_call Binds = Some (BCalls.CloneTx (tx 1))

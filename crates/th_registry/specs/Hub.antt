@@ -28,7 +28,8 @@ use Rattle.th_registry.specs.declared.outcome.NoEvent.TheVariants as NoEvents
 use Rattle.th_registry.specs.Kinds.{kind_of}
 use Rattle.th_registry.specs.Calls.{Bytes, tx}
 use Rattle.th_registry.specs.History.{BroadcastSegment, WatchSegment, ChannelSegment}
-use Rattle.th_registry.specs.Events.{Event, Resubscribes, DropsTx, DropsRx, Own, Outcome, Told, broadcast_call, broadcast_outcome, broadcast_waits, watch_call, watch_outcome, watch_waits, is_by_hub, takes_memory}
+use Rattle.th_registry.specs.Receipts.{Receipt, BroadcastReceipt, WatchReceipt, ChannelReceipt}
+use Rattle.th_registry.specs.Events.{Event, Resubscribes, DropsTx, DropsRx, Own, Outcome, Told, broadcast_call, broadcast_outcome, broadcast_waits, watch_call, watch_outcome, watch_waits, is_by_hub, is_end, takes_memory}
 
 -- the most topics of a hub
 abbrev pub most_topics : ℕ
@@ -45,6 +46,8 @@ pub record ChannelMachine (C K R P : Type 0) : Type 0 where
   pub has_receiver : C → RxId → Bool
   -- the segment so far, and the channel with the next one begun
   pub cut : C → P × C
+  -- the receipt of the next event, of a call that is replied so
+  pub receipt : C → K → R → Receipt K R
 
 -- the machines of both kinds, and new channels; the key is no other channel's
 pub record Machines (B W : Type 0) : Type 0 where
@@ -61,13 +64,17 @@ pub data Query : Type 0 where
   On : ℕ → Event → Query
   Cut : ℕ → Query
 
+-- what is said of an event, and its receipt, if one is handed out
+abbrev pub Noted : Type 0
+Noted = Told × Option ChannelReceipt
+
 -- what is said to it: the topic of the name; the topics; the number that is told of a new topic; what came of the event;
 -- the topic's segment
 abbrev pub Said : Query → Type 0
 Said (Find name) = Option Found
 Said List = Result (prelude.List Listed) (Short Unit)
 Said (Open name making) = Result ℕ Refusal
-Said (On topic event) = Told
+Said (On topic event) = Noted
 Said (Cut topic) = Result ChannelSegment NoEvent
 
 -- whether memory is asked for before this is said: for a list, for an opening that nothing else refuses, for an event by
@@ -76,7 +83,7 @@ abbrev pub asks_memory : (q : Query) → Said q → Bool
 asks_memory (Find name) found = false
 asks_memory List topics = true
 asks_memory (Open name making) opened = is_ok opened
-asks_memory (On topic event) told = takes_memory event told
+asks_memory (On topic event) noted = takes_memory event noted.0
 asks_memory (Cut topic) segment = is_ok segment
 
 -- what is said where memory is refused
@@ -84,7 +91,7 @@ abbrev pub IsRefusal : (q : Query) → Said q → Type 0
 IsRefusal (Find name) found = ⊥
 IsRefusal List topics = topics ≡ Err (record { call = tt })
 IsRefusal (Open name making) opened = opened ≡ Err Refusals.Short
-IsRefusal (On topic event) told = told ≡ Err NoEvents.Short
+IsRefusal (On topic event) noted = noted ≡ (Err NoEvents.Short, None)
 IsRefusal (Cut topic) segment = segment ≡ Err NoEvents.Short
 
 -- What a channel replies to a call, or the first reason why there is no event: the kind has no such call; it goes
@@ -106,6 +113,12 @@ if_live live c s = if live then s else (Err NoEvents.NotLive, c)
 abbrev pub came : {R : Type 0} → (R → Outcome) → Result R NoEvent → Told
 came outcome (Ok reply) = Ok (outcome reply)
 came outcome (Err why) = Err why
+
+-- the receipt of what is replied to a call, where it was an event
+abbrev pub receipted : {C K R P : Type 0} → ChannelMachine C K R P → C → Result R NoEvent → Option K → Option (Receipt K R)
+receipted m c (Ok reply) (Some call) = Some (m.receipt c call reply)
+receipted m c (Ok reply) None = None
+receipted m c (Err why) call = None
 
 -- topics in order of opening, each with its name
 abbrev pub Topics : Type 0 → Type 0 → Type 0
@@ -173,6 +186,11 @@ module _ {B : Type 0} (m : ChannelMachine B (BCall Bytes) (BReply Bytes) Broadca
       if_live (m.has_receiver c r) c (broadcast_replies c false (broadcast_call (DropsRx r)))
   broadcast_event c event = broadcast_replies c (is_by_hub event) (broadcast_call event)
 
+  -- the receipt of its one call, or of its first; the end of a handle has none
+  abbrev pub broadcast_receipt : B → Event → Option BroadcastReceipt
+  broadcast_receipt c event =
+      if is_end event then None else receipted m c (broadcast_event c event).0 (broadcast_call event)
+
 -- a watch channel
 module _ {W : Type 0} (m : ChannelMachine W (WCall Bytes) (WReply Bytes) WatchSegment) where
   -- one call of a watch channel
@@ -186,6 +204,10 @@ module _ {W : Type 0} (m : ChannelMachine W (WCall Bytes) (WReply Bytes) WatchSe
   watch_event c (DropsRx r) =
       if_live (m.has_receiver c r) c (watch_replies c false (watch_call (DropsRx r)))
   watch_event c event = watch_replies c (is_by_hub event) (watch_call event)
+
+  abbrev pub watch_receipt : W → Event → Option WatchReceipt
+  watch_receipt c event =
+      if is_end event then None else receipted m c (watch_event c event).0 (watch_call event)
 
 module _ {B W : Type 0} where
   abbrev pub as_broadcast : Event → Result (BReply Bytes) NoEvent × B → Told × Channel B W
@@ -201,6 +223,11 @@ module _ {B W : Type 0} (b : ChannelMachine B (BCall Bytes) (BReply Bytes) Broad
   abbrev pub channel_event : Channel B W → Event → Told × Channel B W
   channel_event (Broadcast c) event = as_broadcast event (broadcast_event b c event)
   channel_event (Watch c) event = as_watch event (watch_event w c event)
+
+  -- the receipt of an event, if one is handed out
+  abbrev pub channel_receipt : Channel B W → Event → Option ChannelReceipt
+  channel_receipt (Broadcast c) event = option_map (λ r. Broadcast r) (broadcast_receipt b c event)
+  channel_receipt (Watch c) event = option_map (λ r. Watch r) (watch_receipt w c event)
 
   -- a channel's segment so far, and the channel with the next one begun
   abbrev pub cut_channel : Channel B W → Result ChannelSegment NoEvent × Channel B W
@@ -234,12 +261,20 @@ module _ {B W : Type 0} (m : Machines B W) where
   abbrev pub event : Topics B W → ℕ → Event → Told × Topics B W
   event ts n e = at_topic ts n (λ c. channel_event m.broadcast m.watch c e)
 
+  abbrev pub receipt_on : Option (Channel B W) → Event → Option ChannelReceipt
+  receipt_on None e = None
+  receipt_on (Some c) e = channel_receipt m.broadcast m.watch c e
+
+  -- its receipt, if one is handed out
+  abbrev pub receipt : Topics B W → ℕ → Event → Option ChannelReceipt
+  receipt ts n e = receipt_on (slice_get (values_of ts) n) e
+
   -- what the hub says to a query, and the topics after it
   abbrev pub say : Topics B W → (q : Query) → Said q × Topics B W
   say ts (Find name) = (find ts name, ts)
   say ts List = (Ok (list ts), ts)
   say ts (Open name making) = open_topic ts name making
-  say ts (On n e) = event ts n e
+  say ts (On n e) = (((event ts n e).0, receipt ts n e), (event ts n e).1)
   say ts (Cut n) = at_topic ts n (cut_channel m.broadcast m.watch)
 
   -- memory was refused where it is asked for, and nothing has changed

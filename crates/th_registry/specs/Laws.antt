@@ -23,11 +23,11 @@ HandlesStayLive = (limit : ℕ) (ts : EndlessTopics) (q : Query) (n : ℕ) (x : 
 -- a handle that an event made is live on its topic, and was not so before
 abbrev pub NewHandlesAreNew : Type 0
 NewHandlesAreNew = (limit : ℕ) (ts : EndlessTopics) (n : ℕ) (event : Event) (x : Handle) → AreProper ts →
-    new_handle (say (endless limit) ts (On n event)).0 ≡ Some x →
+    new_handle (say (endless limit) ts (On n event)).0.0 ≡ Some x →
     IsLive (say (endless limit) ts (On n event)).1 n x × (IsLive ts n x → ⊥)
 
 -- where the handle is live by which an event is asked for, no channel says that there is no such handle
 abbrev pub LiveHandlesAreServed : Type 0
 LiveHandlesAreServed = (limit : ℕ) (ts : EndlessTopics) (n : ℕ) (event : Event) →
     ((x : Handle) → AskedBy event x → IsLive ts n x) →
-    lacks_handle (say (endless limit) ts (On n event)).0 ≡ false
+    lacks_handle (say (endless limit) ts (On n event)).0.0 ≡ false

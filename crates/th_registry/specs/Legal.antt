@@ -75,4 +75,4 @@ is_done told = false
 -- the end of a live handle is never refused ("The limit")
 abbrev pub LiveHandlesEnd : Type 0
 LiveHandlesEnd = (limit : ℕ) (ts : EndlessTopics) (n : ℕ) (event : Event) (x : Handle) → AreKept limit ts →
-    IsEndOf event x → IsLive ts n x → is_done (say (endless limit) ts (On n event)).0 ≡ true
+    IsEndOf event x → IsLive ts n x → is_done (say (endless limit) ts (On n event)).0.0 ≡ true

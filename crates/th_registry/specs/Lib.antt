@@ -3,6 +3,7 @@ pub mod Calls
 pub mod Events
 pub mod History
 pub mod Refusals
+pub mod Receipts
 pub mod Hub
 pub mod Typed
 pub mod Endless

@@ -55,7 +55,7 @@ abbrev pub EndsOn : (q : Query) → Said q → ℕ → Handle → Type 0
 EndsOn (Find name) said n x = ⊥
 EndsOn List said n x = ⊥
 EndsOn (Open name making) said n x = ⊥
-EndsOn (On topic event) told n x = (n ≡ topic) × Ends event told x
+EndsOn (On topic event) noted n x = (n ≡ topic) × Ends event noted.0 x
 EndsOn (Cut topic) said n x = ⊥
 
 -- the event is asked for by this handle, and not through the hub's own sender

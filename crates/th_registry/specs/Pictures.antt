@@ -17,6 +17,7 @@ use Rattle.th_registry.specs.declared.channel.Channel.{Channel}
 use Rattle.th_registry.specs.declared.channel.Channel.TheVariants.{Broadcast, Watch}
 use Rattle.th_registry.specs.Calls.{Bytes}
 use Rattle.th_registry.specs.History.{History, BroadcastSegment, WatchSegment, opened, recorded, is_full, segment, cut}
+use Rattle.th_registry.specs.Receipts.{receipt_of}
 use Rattle.th_registry.specs.Hub.{ChannelMachine, Machines, Query, Said, Says, Topics}
 use Rattle.th_registry.specs.Endless.{EndlessBroadcast, EndlessChannel, EndlessTopics, EndlessWatch}
 
@@ -43,6 +44,7 @@ seen_broadcast = record {
   has_sender = λ h tx. is_sender h.state.senders tx.0;
   has_receiver = λ h rx. is_some (place_of h.state.window.places rx.0);
   cut = λ h. (segment h h.state, cut h h.state);
+  receipt = receipt_of;
 }
 
 abbrev pub seen_watch : ChannelMachine SeenWatch (WCall Bytes) (WReply Bytes) WatchSegment
@@ -52,6 +54,7 @@ seen_watch = record {
   has_sender = λ h tx. is_sender h.state.senders tx.0;
   has_receiver = λ h rx. is_some (reader_of h.state.readers rx.0);
   cut = λ h. (segment h h.state, cut h h.state);
+  receipt = receipt_of;
 }
 
 -- segments have at most `limit` entries

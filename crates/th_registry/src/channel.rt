@@ -4,7 +4,7 @@ ghost use Rattle.th_registry.specs.Kinds.{kind_of};
 
 use crate::recorded::Recorded;
 use th_bcast::Broadcast;
-use th_log::Segment;
+use th_log::{Receipt, Segment};
 use th_model::{Kind, Value};
 use th_ring::RingShelf;
 use th_watch::Watch;
@@ -36,6 +36,9 @@ pub type HubWatch = Watch<Value>;
 
 /// A segment of a topic's history.
 pub type TopicSegment = Channel<Segment<HubBroadcast>, Segment<HubWatch>>;
+
+/// The receipt of an event of a topic.
+pub type TopicReceipt = Channel<Receipt<HubBroadcast>, Receipt<HubWatch>>;
 
 /// A channel of a desk of one thread.
 pub type LocalChannel = Channel<Recorded<HubBroadcast>, Recorded<HubWatch>>;

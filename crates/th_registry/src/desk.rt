@@ -5,16 +5,16 @@ ghost use Rattle.th_model.specs.declared.handles.TxId.{TxId};
 ghost use Rattle.th_model.specs.declared.handles.RxId.{RxId};
 ghost use Rattle.th_registry.specs.Events.{Asks, Binds, DropsRx, DropsTx, Hub, Own, Receives, Resubscribes, Sends, Subscribes, any_sender};
 ghost use Rattle.th_registry.specs.Hub.{Query, Said, Find, List, Open, On, Cut};
-ghost use Rattle.th_registry.specs.Typed.{made_rx, made_tx, replied, spent};
+ghost use Rattle.th_registry.specs.Typed.{ended, made_rx, made_tx, replied, spent};
 
-use crate::channel::TopicSegment;
+use crate::channel::{TopicReceipt, TopicSegment};
 use crate::opening::{Found, Refusal, TopicId};
 use crate::outcome::{ChannelReply, Made, NoEvent, Unspent};
 use th_model::{Listing, Making, NameRef, Question, ReceiverVerb, SenderVerb, Short, Start};
 
 /// Topics by name. Each call but `find`, `list` and `cut` is one event, on the topic of that number or of the registry, or
 /// none; `resubscribe` is both of its events, or none. By which side of handles an event is made is the call's name and
-/// the type of its verb.
+/// the type of its verb. An event's receipt is handed out, but for the end of a handle.
 pub trait Desk: Drop {
     /// A sender of a topic.
     type Tx: Drop;
@@ -65,7 +65,7 @@ pub trait Desk: Drop {
         topic: TopicId,
         sender: &mut Self::Tx,
         verb: SenderVerb,
-    ) -> Result<ChannelReply, NoEvent>
+    ) -> Result<TopicReceipt, NoEvent>
         ensures event { let event = Sends (tx sender.old) verb in
             says self.old (On topic.0 event) (replied result) self.new }
         ensures sender { tx sender.new ≡ tx sender.old };
@@ -76,7 +76,7 @@ pub trait Desk: Drop {
         topic: TopicId,
         sender: &mut Option<Self::Tx>,
         question: Question,
-    ) -> Result<ChannelReply, NoEvent>
+    ) -> Result<TopicReceipt, NoEvent>
         ensures event { let by = any_sender (option_map tx sender.old) in
             says self.old (On topic.0 (Asks by question)) (replied result) self.new }
         ensures sender { option_map tx sender.new ≡ option_map tx sender.old };
@@ -87,7 +87,7 @@ pub trait Desk: Drop {
         topic: TopicId,
         receiver: &mut Self::Rx,
         verb: ReceiverVerb,
-    ) -> Result<ChannelReply, NoEvent>
+    ) -> Result<TopicReceipt, NoEvent>
         ensures event { let event = Receives (rx receiver.old) verb in
             says self.old (On topic.0 event) (replied result) self.new }
         ensures receiver { rx receiver.new ≡ rx receiver.old };
@@ -124,7 +124,7 @@ pub trait Desk: Drop {
 
     /// The last event of the hub's own sender.
     fn end(&mut self, topic: TopicId) -> Result<ChannelReply, NoEvent>
-        ensures { says self.old (On topic.0 (DropsTx Hub)) (replied result) self.new };
+        ensures { says self.old (On topic.0 (DropsTx Hub)) (ended result) self.new };
 
     /// Hands out the topic's segment so far, and begins the next one. It is no event.
     fn cut(&mut self, topic: TopicId) -> Result<TopicSegment, NoEvent>

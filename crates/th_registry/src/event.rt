@@ -4,19 +4,20 @@ ghost use Rattle.std.specs.Cmp.Lexicographic.{pointwise};
 ghost use Rattle.th_log.specs.History.{live_after};
 ghost use Rattle.th_log.specs.Machines.{broadcast, watch};
 ghost use Rattle.th_model.specs.Live.{live_handles, live_watchers};
-ghost use Rattle.th_registry.specs.Events.{Asks, Binds, DropsRx, DropsTx, Hub, NewRx, Own, Receives, Resubscribes, Sends, Subscribes, any_sender, broadcast_call, broadcast_made_rx, sender_of, watch_call, watch_made_rx};
+ghost use Rattle.th_registry.specs.Events.{Asks, Binds, DropsRx, DropsTx, Hub, NewRx, NewTx, Own, Receives, Resubscribes, Sends, Subscribes, any_sender, broadcast_call, broadcast_made_rx, broadcast_made_tx, sender_of, watch_call, watch_made_rx, watch_made_tx};
 ghost use Rattle.th_registry.specs.Outcomes.{BroadcastMoves, BroadcastSays, BroadcastSpends, BroadcastTells, ChannelCuts, ChannelTells, WatchSays, WatchSpends, WatchTells};
 ghost use Rattle.th_registry.specs.Calls.{tx};
 ghost use Rattle.th_registry.specs.Pictures.{seen_broadcast, seen_watch};
-ghost use Rattle.th_registry.specs.Typed.{made_rx, made_tx, outcome_of, replied};
+ghost use Rattle.th_registry.specs.Typed.{ended, made_rx, made_tx, outcome_of, replied};
 
 use crate::calls::{
     broadcast_asked, broadcast_by_receiver, broadcast_by_sender, watch_asked, watch_by_receiver,
     watch_by_sender,
 };
-use crate::channel::{Channel, HubBroadcast, HubWatch, LocalChannel, TopicSegment};
+use crate::channel::{Channel, HubBroadcast, HubWatch, LocalChannel, TopicReceipt, TopicSegment};
 use crate::outcome::{ChannelReply, Made, NoEvent};
 use crate::recorded::Recorded;
+use th_log::Receipt;
 use th_model::{
     BCall, BReply, Question, ReceiverVerb, RxId, SenderVerb, Start, TxId, Value, WCall, WReply,
 };
@@ -45,7 +46,7 @@ fn call_broadcast(
     channel: &mut Recorded<HubBroadcast>,
     by_hub: bool,
     call: Option<BCall<Value>>,
-) -> Result<BReply<Value>, NoEvent>
+) -> Result<Receipt<HubBroadcast>, NoEvent>
     ensures { BroadcastSays channel.old by_hub call result channel.new }
 {
     let Some(call) = call else {
@@ -57,10 +58,7 @@ fn call_broadcast(
     if !channel.object().ready(&call) {
         return Err(NoEvent::Blocked);
     }
-    match channel.record(call) {
-        Ok(receipt) => Ok(receipt.into_reply()),
-        Err(why) => Err(why),
-    }
+    channel.record(call)
 }
 
 // Whether a call of a watch channel is to go through the hub's own sender, and that is spent.
@@ -77,7 +75,7 @@ fn call_watch(
     channel: &mut Recorded<HubWatch>,
     by_hub: bool,
     call: Option<WCall<Value>>,
-) -> Result<WReply<Value>, NoEvent>
+) -> Result<Receipt<HubWatch>, NoEvent>
     ensures { WatchSays channel.old by_hub call result channel.new }
 {
     let Some(call) = call else {
@@ -89,10 +87,7 @@ fn call_watch(
     if !channel.object().ready(&call) {
         return Err(NoEvent::Blocked);
     }
-    match channel.record(call) {
-        Ok(receipt) => Ok(receipt.into_reply()),
-        Err(why) => Err(why),
-    }
+    channel.record(call)
 }
 
 // What the channel replies to a call that makes no handle.
@@ -101,11 +96,11 @@ fn tell_broadcast(
     channel: &mut Recorded<HubBroadcast>,
     by_hub: bool,
     call: Option<BCall<Value>>,
-) -> Result<ChannelReply, NoEvent>
+) -> Result<TopicReceipt, NoEvent>
     ensures { BroadcastTells channel.old by_hub call (replied result) channel.new }
 {
     match call_broadcast(channel, by_hub, call) {
-        Ok(reply) => Ok(ChannelReply::Broadcast(reply)),
+        Ok(receipt) => Ok(Channel::Broadcast(receipt)),
         Err(why) => Err(why),
     }
 }
@@ -116,11 +111,11 @@ fn tell_watch(
     channel: &mut Recorded<HubWatch>,
     by_hub: bool,
     call: Option<WCall<Value>>,
-) -> Result<ChannelReply, NoEvent>
+) -> Result<TopicReceipt, NoEvent>
     ensures { WatchTells channel.old by_hub call (replied result) channel.new }
 {
     match call_watch(channel, by_hub, call) {
-        Ok(reply) => Ok(ChannelReply::Watch(reply)),
+        Ok(receipt) => Ok(Channel::Watch(receipt)),
         Err(why) => Err(why),
     }
 }
@@ -132,7 +127,7 @@ fn spend_broadcast(
 ) -> Result<ChannelReply, NoEvent>
     requires ready { broadcast.ready channel.old.state call ≡ true }
     requires spends { live_after broadcast channel.old.state call < live_handles channel.old.state }
-    ensures { BroadcastSpends channel.old call (replied result) channel.new }
+    ensures { BroadcastSpends channel.old call (ended result).0 channel.new }
 {
     match channel.record(call) {
         Ok(receipt) => Ok(ChannelReply::Broadcast(receipt.into_reply())),
@@ -148,7 +143,7 @@ fn spend_watch(
     requires ready { (watch (pointwise nat_eq)).ready channel.old.state call ≡ true }
     requires spends { live_after (watch (pointwise nat_eq)) channel.old.state call
         < live_watchers channel.old.state }
-    ensures { WatchSpends channel.old call (replied result) channel.new }
+    ensures { WatchSpends channel.old call (ended result).0 channel.new }
 {
     match channel.record(call) {
         Ok(receipt) => Ok(ChannelReply::Watch(receipt.into_reply())),
@@ -162,7 +157,7 @@ pub fn by_sender(
     channel: &mut LocalChannel,
     tx: TxId,
     verb: SenderVerb,
-) -> Result<ChannelReply, NoEvent>
+) -> Result<TopicReceipt, NoEvent>
     ensures { ChannelTells channel.old (Sends tx verb) (replied result) channel.new }
 {
     match channel {
@@ -179,7 +174,7 @@ pub fn by_receiver(
     channel: &mut LocalChannel,
     rx: RxId,
     verb: ReceiverVerb,
-) -> Result<ChannelReply, NoEvent>
+) -> Result<TopicReceipt, NoEvent>
     ensures { ChannelTells channel.old (Receives rx verb) (replied result) channel.new }
 {
     match channel {
@@ -195,7 +190,7 @@ pub fn ask(
     channel: &mut LocalChannel,
     sender: Option<TxId>,
     question: Question,
-) -> Result<ChannelReply, NoEvent>
+) -> Result<TopicReceipt, NoEvent>
     ensures { let event = Asks (any_sender sender) question in
         ChannelTells channel.old event (replied result) channel.new }
 {
@@ -211,7 +206,7 @@ pub fn ask(
 
 /// The end of a sender, where it is live.
 pub fn drop_tx(channel: &mut LocalChannel, tx: TxId) -> Result<ChannelReply, NoEvent>
-    ensures { ChannelTells channel.old (DropsTx (Own tx)) (replied result) channel.new }
+    ensures { ChannelTells channel.old (DropsTx (Own tx)) (ended result) channel.new }
 {
     match channel {
         Channel::Broadcast(channel) => {
@@ -231,7 +226,7 @@ pub fn drop_tx(channel: &mut LocalChannel, tx: TxId) -> Result<ChannelReply, NoE
 
 /// The end of a receiver, where it is live.
 pub fn drop_rx(channel: &mut LocalChannel, rx: RxId) -> Result<ChannelReply, NoEvent>
-    ensures { ChannelTells channel.old (DropsRx rx) (replied result) channel.new }
+    ensures { ChannelTells channel.old (DropsRx rx) (ended result) channel.new }
 {
     match channel {
         Channel::Broadcast(channel) => {
@@ -251,7 +246,7 @@ pub fn drop_rx(channel: &mut LocalChannel, rx: RxId) -> Result<ChannelReply, NoE
 
 /// The end of the hub's own sender, where it is live.
 pub fn end(channel: &mut LocalChannel) -> Result<ChannelReply, NoEvent>
-    ensures { ChannelTells channel.old (DropsTx Hub) (replied result) channel.new }
+    ensures { ChannelTells channel.old (DropsTx Hub) (ended result) channel.new }
 {
     match channel {
         Channel::Broadcast(channel) => {
@@ -269,6 +264,36 @@ pub fn end(channel: &mut LocalChannel) -> Result<ChannelReply, NoEvent>
     }
 }
 
+// The sender that a call of a broadcast channel made, with the receipt.
+fn sender_of_broadcast(receipt: Receipt<HubBroadcast>) -> Made<TxId>
+    ensures made { outcome_of (λ t. NewTx t) result ≡ broadcast_made_tx receipt.reply }
+    ensures receipt { result.receipt ≡ Channel.Broadcast receipt }
+{
+    let handle = match receipt.reply() {
+        BReply::NewTx(tx) => Some(*tx),
+        _ => None,
+    };
+    Made {
+        handle,
+        receipt: Channel::Broadcast(receipt),
+    }
+}
+
+// The same of a watch channel.
+fn sender_of_watch(receipt: Receipt<HubWatch>) -> Made<TxId>
+    ensures made { outcome_of (λ t. NewTx t) result ≡ watch_made_tx receipt.reply }
+    ensures receipt { result.receipt ≡ Channel.Watch receipt }
+{
+    let handle = match receipt.reply() {
+        WReply::NewTx(tx) => Some(*tx),
+        _ => None,
+    };
+    Made {
+        handle,
+        receipt: Channel::Watch(receipt),
+    }
+}
+
 /// A new sender, by the hub's own.
 pub fn bind(channel: &mut LocalChannel) -> Result<Made<TxId>, NoEvent>
     ensures { ChannelTells channel.old Binds (made_tx (λ t. t) result) channel.new }
@@ -276,38 +301,46 @@ pub fn bind(channel: &mut LocalChannel) -> Result<Made<TxId>, NoEvent>
     match channel {
         Channel::Broadcast(channel) => {
             match call_broadcast(channel, true, Some(BCall::CloneTx(HUB_SENDER))) {
-                Ok(BReply::NewTx(tx)) => Ok(Made::New(tx)),
-                Ok(reply) => Ok(Made::Not(ChannelReply::Broadcast(reply))),
+                Ok(receipt) => Ok(sender_of_broadcast(receipt)),
                 Err(why) => Err(why),
             }
         }
         Channel::Watch(channel) => {
             match call_watch(channel, true, Some(WCall::CloneTx(HUB_SENDER))) {
-                Ok(WReply::NewTx(tx)) => Ok(Made::New(tx)),
-                Ok(reply) => Ok(Made::Not(ChannelReply::Watch(reply))),
+                Ok(receipt) => Ok(sender_of_watch(receipt)),
                 Err(why) => Err(why),
             }
         }
     }
 }
 
-// What came of a call that makes a receiver.
-fn made_by_broadcast(reply: BReply<Value>) -> Made<RxId>
-    ensures { outcome_of (λ r. NewRx r) result ≡ broadcast_made_rx reply }
+// The receiver that a call of a broadcast channel made, with the receipt.
+fn receiver_of_broadcast(receipt: Receipt<HubBroadcast>) -> Made<RxId>
+    ensures made { outcome_of (λ r. NewRx r) result ≡ broadcast_made_rx receipt.reply }
+    ensures receipt { result.receipt ≡ Channel.Broadcast receipt }
 {
-    match reply {
-        BReply::NewRx(rx) => Made::New(rx),
-        reply => Made::Not(ChannelReply::Broadcast(reply)),
+    let handle = match receipt.reply() {
+        BReply::NewRx(rx) => Some(*rx),
+        _ => None,
+    };
+    Made {
+        handle,
+        receipt: Channel::Broadcast(receipt),
     }
 }
 
 // The same of a watch channel.
-fn made_by_watch(reply: WReply<Value>) -> Made<RxId>
-    ensures { outcome_of (λ r. NewRx r) result ≡ watch_made_rx reply }
+fn receiver_of_watch(receipt: Receipt<HubWatch>) -> Made<RxId>
+    ensures made { outcome_of (λ r. NewRx r) result ≡ watch_made_rx receipt.reply }
+    ensures receipt { result.receipt ≡ Channel.Watch receipt }
 {
-    match reply {
-        WReply::NewRx(rx) => Made::New(rx),
-        reply => Made::Not(ChannelReply::Watch(reply)),
+    let handle = match receipt.reply() {
+        WReply::NewRx(rx) => Some(*rx),
+        _ => None,
+    };
+    Made {
+        handle,
+        receipt: Channel::Watch(receipt),
     }
 }
 
@@ -346,13 +379,13 @@ pub fn subscribe(
     match channel {
         Channel::Broadcast(channel) => {
             match call_broadcast(channel, by_hub, Some(broadcast_subscribing(start, sender))) {
-                Ok(reply) => Ok(made_by_broadcast(reply)),
+                Ok(receipt) => Ok(receiver_of_broadcast(receipt)),
                 Err(why) => Err(why),
             }
         }
         Channel::Watch(channel) => {
             match call_watch(channel, by_hub, watch_subscribing(start, sender)) {
-                Ok(reply) => Ok(made_by_watch(reply)),
+                Ok(receipt) => Ok(receiver_of_watch(receipt)),
                 Err(why) => Err(why),
             }
         }
@@ -360,15 +393,18 @@ pub fn subscribe(
 }
 
 // A new receiver, and then the end of the old one, for which room was kept.
-fn move_receiver(channel: &mut Recorded<HubBroadcast>, rx: RxId) -> Result<BReply<Value>, NoEvent>
+fn move_receiver(
+    channel: &mut Recorded<HubBroadcast>,
+    rx: RxId,
+) -> Result<Receipt<HubBroadcast>, NoEvent>
     ensures { BroadcastMoves channel.old rx result channel.new }
 {
     match call_broadcast(channel, false, Some(BCall::Resubscribe(rx))) {
-        Ok(reply) => {
-            if let BReply::NewRx(_) = &reply {
+        Ok(receipt) => {
+            if let BReply::NewRx(_) = receipt.reply() {
                 let _ = spend_broadcast(channel, BCall::DropRx(rx));
             }
-            Ok(reply)
+            Ok(receipt)
         }
         Err(why) => Err(why),
     }
@@ -380,7 +416,7 @@ pub fn resubscribe(channel: &mut LocalChannel, rx: RxId) -> Result<Made<RxId>, N
 {
     match channel {
         Channel::Broadcast(channel) => match move_receiver(channel, rx) {
-            Ok(reply) => Ok(made_by_broadcast(reply)),
+            Ok(receipt) => Ok(receiver_of_broadcast(receipt)),
             Err(why) => Err(why),
         },
         Channel::Watch(_) => Err(NoEvent::WrongKind),

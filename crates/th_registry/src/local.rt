@@ -2,7 +2,7 @@
 ghost use Rattle.std.specs.Prelude.{◌≡◌, ◌≤◌, ◌<◌, ◌↔◌, [], IfOk, IsOk};
 ghost use Rattle.th_registry.specs.Pictures.{DeskSays};
 
-use crate::channel::TopicSegment;
+use crate::channel::{TopicReceipt, TopicSegment};
 use crate::desk::Desk;
 use crate::event;
 use crate::opening::{Found, Refusal, TopicId};
@@ -148,7 +148,7 @@ impl Desk for LocalDesk {
         topic: TopicId,
         sender: &mut TxId,
         verb: SenderVerb,
-    ) -> Result<ChannelReply, NoEvent> {
+    ) -> Result<TopicReceipt, NoEvent> {
         let Some(channel) = self.channels.get_index_mut(topic.0 as usize) else {
             return Err(NoEvent::NoTopic);
         };
@@ -160,7 +160,7 @@ impl Desk for LocalDesk {
         topic: TopicId,
         sender: &mut Option<TxId>,
         question: Question,
-    ) -> Result<ChannelReply, NoEvent> {
+    ) -> Result<TopicReceipt, NoEvent> {
         let Some(channel) = self.channels.get_index_mut(topic.0 as usize) else {
             return Err(NoEvent::NoTopic);
         };
@@ -173,7 +173,7 @@ impl Desk for LocalDesk {
         topic: TopicId,
         receiver: &mut RxId,
         verb: ReceiverVerb,
-    ) -> Result<ChannelReply, NoEvent> {
+    ) -> Result<TopicReceipt, NoEvent> {
         let Some(channel) = self.channels.get_index_mut(topic.0 as usize) else {
             return Err(NoEvent::NoTopic);
         };

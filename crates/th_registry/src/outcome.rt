@@ -1,4 +1,5 @@
 //! What comes of an event.
+use crate::channel::TopicReceipt;
 use th_model::{BReply, Value, WReply};
 use thiserror::Error;
 
@@ -11,13 +12,13 @@ pub enum ChannelReply {
     Watch(WReply<Value>),
 }
 
-/// What came of an event that makes a handle.
+/// What came of an event that is to make a handle.
 #[derive(Drop)]
-pub enum Made<H> {
-    /// The new handle.
-    New(H),
-    /// The channel made none, and replied this.
-    Not(ChannelReply),
+pub struct Made<H> {
+    /// The new handle. The channel may have made none, and says why in its reply.
+    pub handle: Option<H>,
+    /// The event's receipt, with the channel's reply.
+    pub receipt: TopicReceipt,
 }
 
 /// Why there was no event. Nothing has changed.

@@ -2,6 +2,7 @@
 ghost use Rattle.std.specs.Prelude.{◌≡◌, ◌<◌, ◌≤◌, true, false, IfOk, OnOk, IfErr, IsOk};
 ghost use Rattle.th_log.specs.History.{live_after};
 ghost use Rattle.th_registry.specs.History.{cut, is_full, opened, recorded, segment};
+ghost use Rattle.th_registry.specs.Receipts.{receipt_of};
 ghost use Rattle.th_registry.specs.Refusals.{RefusesEvent};
 
 use crate::outcome::NoEvent;
@@ -58,6 +59,8 @@ impl<O: Object> Recorded<O> {
         ensures event { IfOk result (λ receipt.
             recorded self.old call (O.machine.answer self.old.state call)
             ≡ (receipt.reply, self.new)) }
+        ensures receipt { IfOk result (λ receipt.
+            receipt ≡ receipt_of self.old call receipt.reply) }
         ensures room { OnOk result
             (is_full self.old (live_after O.machine self.old.state call) ≡ false) }
         ensures refused { IfErr result (λ why. RefusesEvent self.old self.new
@@ -67,6 +70,7 @@ impl<O: Object> Recorded<O> {
     {
         // What is kept of every log is said here.
         let _entries = self.log.len();
+        let _number = self.log.key();
         match self.log.apply(&mut self.share, call) {
             Ok(receipt) => Ok(receipt),
             Err(Refused::LogFull(_)) => Err(NoEvent::LogFull),

@@ -2,7 +2,7 @@
 mod logs;
 
 use crate::calls::{answers, receives, sends};
-use crate::channel::Channel;
+use crate::channel::{Channel, TopicReceipt};
 use crate::desk::Desk;
 use crate::local::LocalDesk;
 use crate::opening::{Found, Refusal, TopicId};
@@ -53,8 +53,8 @@ fn makes<H: PartialEq + Drop>(
     handle: H,
 ) {
     let made = match &told {
-        Ok(Made::New(new)) => *new == handle,
-        _ => false,
+        Ok(made) => made.handle == Some(handle),
+        Err(_) => false,
     };
     assert!(rt; made, "{what}");
 }
@@ -62,38 +62,64 @@ fn makes<H: PartialEq + Drop>(
 /// The event was to make a handle, and a broadcast channel replied that no live handle asked.
 fn has_no_handle<H: Drop>(rt: &impl Abort, what: &str, told: Result<Made<H>, NoEvent>) {
     let replied = match &told {
-        Ok(Made::Not(ChannelReply::Broadcast(reply))) => *reply == BReply::NoHandle(None),
-        _ => false,
+        Ok(made) => made.handle.is_none() && has_reply(&made.receipt, &BReply::NoHandle(None)),
+        Err(_) => false,
     };
     assert!(rt; replied, "{what}");
 }
 
+/// The receipt is of a broadcast channel that replied so.
+fn has_reply(receipt: &TopicReceipt, expected: &BReply<Value>) -> bool {
+    match receipt {
+        Channel::Broadcast(receipt) => receipt.reply() == expected,
+        Channel::Watch(_) => false,
+    }
+}
+
 /// A broadcast channel replied so.
-fn tells<E: Drop>(
+fn tells(
     rt: &impl Abort,
     what: &str,
-    told: Result<ChannelReply, E>,
+    told: Result<TopicReceipt, NoEvent>,
     expected: BReply<Value>,
 ) {
     let replied = match &told {
-        Ok(ChannelReply::Broadcast(reply)) => *reply == expected,
-        _ => false,
+        Ok(receipt) => has_reply(receipt, &expected),
+        Err(_) => false,
     };
     assert!(rt; replied, "{what}");
 }
 
 /// A watch channel replied so.
-fn shows<E: Drop>(
+fn shows(
     rt: &impl Abort,
     what: &str,
-    told: Result<ChannelReply, E>,
+    told: Result<TopicReceipt, NoEvent>,
     expected: WReply<Value>,
 ) {
     let replied = match &told {
-        Ok(ChannelReply::Watch(reply)) => *reply == expected,
+        Ok(Channel::Watch(receipt)) => *receipt.reply() == expected,
         _ => false,
     };
     assert!(rt; replied, "{what}");
+}
+
+/// The handle was spent on a broadcast channel.
+fn ends<E: Drop>(rt: &impl Abort, what: &str, told: Result<ChannelReply, E>) {
+    let done = match &told {
+        Ok(ChannelReply::Broadcast(reply)) => *reply == BReply::Done,
+        _ => false,
+    };
+    assert!(rt; done, "{what}");
+}
+
+/// The handle was spent on a watch channel.
+fn watch_ends<E: Drop>(rt: &impl Abort, what: &str, told: Result<ChannelReply, E>) {
+    let done = match &told {
+        Ok(ChannelReply::Watch(reply)) => *reply == WReply::Done,
+        _ => false,
+    };
+    assert!(rt; done, "{what}");
 }
 
 /// There was no event, for this reason.
@@ -354,11 +380,11 @@ fn handles_are_spent(rt: HostRuntime) {
         RxId(3),
     );
     let told = desk.spend_receiver(TOPIC, RxId(3));
-    tells(&rt, "the receiver is spent", told, BReply::Done);
+    ends(&rt, "the receiver is spent", told);
     let told = desk.ask(TOPIC, &mut None, Question::Readers);
     tells(&rt, "no receiver is left", told, BReply::Count(0));
     let told = desk.spend_sender(TOPIC, TxId(2));
-    tells(&rt, "the sender is spent", told, BReply::Done);
+    ends(&rt, "the sender is spent", told);
     let verb = SenderVerb::Send(value(&rt, alloc, b"x"));
     let told = desk.by_sender(TOPIC, &mut TxId(2), verb);
     let back = BReply::NoHandle(Some(value(&rt, alloc, b"x")));
@@ -423,7 +449,7 @@ fn receivers_of_an_ended_topic_do_not_wait(rt: HostRuntime) {
         desk.subscribe(TOPIC, Start::Tail, &mut None),
         RxId(2),
     );
-    tells(&rt, "end", desk.end(TOPIC), BReply::Done);
+    ends(&rt, "end", desk.end(TOPIC));
     let told = desk.by_receiver(TOPIC, &mut RxId(2), ReceiverVerb::Recv);
     tells(&rt, "Recv of a closed topic", told, BReply::Closed);
     let mut desk = watch_desk(&rt, rt.alloc());
@@ -433,7 +459,7 @@ fn receivers_of_an_ended_topic_do_not_wait(rt: HostRuntime) {
         desk.subscribe(TOPIC, Start::Tail, &mut None),
         RxId(2),
     );
-    shows(&rt, "end of a watch topic", desk.end(TOPIC), WReply::Done);
+    watch_ends(&rt, "end of a watch topic", desk.end(TOPIC));
     let told = desk.by_receiver(TOPIC, &mut RxId(2), ReceiverVerb::Changed);
     shows(&rt, "Changed of a closed topic", told, WReply::Closed);
 }
@@ -475,12 +501,8 @@ fn a_desk_serves_readers_of_watch_topics(rt: HostRuntime) {
     shows(&rt, "MarkUnchanged", told, WReply::Done);
     let told = desk.by_receiver(TOPIC, &mut reader, ReceiverVerb::HasChanged);
     shows(&rt, "HasChanged", told, WReply::Changed(false));
-    shows(
-        &rt,
-        "the reader is spent",
-        desk.spend_receiver(TOPIC, reader),
-        WReply::Done,
-    );
+    let told = desk.spend_receiver(TOPIC, reader);
+    watch_ends(&rt, "the reader is spent", told);
 }
 
 #[test]
@@ -520,12 +542,8 @@ fn a_desk_serves_senders_of_watch_topics(rt: HostRuntime) {
     shows(&rt, "Send", told, WReply::Done);
     let told = desk.ask(TOPIC, &mut None, Question::Readers);
     shows(&rt, "Readers", told, WReply::Count(1));
-    shows(
-        &rt,
-        "the sender is spent",
-        desk.spend_sender(TOPIC, sender),
-        WReply::Done,
-    );
+    let told = desk.spend_sender(TOPIC, sender);
+    watch_ends(&rt, "the sender is spent", told);
 }
 
 #[test]

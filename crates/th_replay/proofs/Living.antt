@@ -27,7 +27,7 @@ use Rattle.th_registry.specs.Live.{Handle}
 use Rattle.th_session.specs.Held.{Holding, seat_at}
 use Rattle.th_session.specs.Laws.{Lacks}
 use Rattle.th_session.specs.Live.{Has, AllIsLive}
-use Rattle.th_session.specs.Script.{Answer, Replied}
+use Rattle.th_session.specs.Script.{Answer, Replied, reply_of}
 use Rattle.th_session.specs.Table.{is_for}
 use Rattle.th_session.proofs.Live.{what_is_lacking_is_exact}
 use Rattle.th_session.proofs.Living.{AreSound, Lives, IsOthers, Keeps, has-nothing, lives-nothing, command_keeps}
@@ -211,7 +211,7 @@ found-there actors name place e = there actors place (position-Some (pointwise n
 
 -- the answer is that the handle is not held exactly where it is lacking
 abbrev IsExact : Answer → Action → Holding → ℕ → Type 0
-IsExact answer action h n = (answer ≡ Replied (Refused Codes.NotHeld)) ↔ Lacks action (seat_at h n)
+IsExact answer action h n = (reply_of answer ≡ Some (Refused Codes.NotHeld)) ↔ Lacks action (seat_at h n)
 
 module _ (hub : Hub EndlessTopics) (l : IsLiving hub) (name : Bytes) (action : Action) (t : Found)
     (e : find hub.topics name ≡ Some t) (right : is_for t.kind action ≡ true) where

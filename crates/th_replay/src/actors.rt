@@ -81,6 +81,7 @@ fn quits(answer: &Answer) -> bool
 {
     match answer {
         Answer::Reply(reply) => has_quit(reply),
+        Answer::Event => false,
         Answer::Trace => false,
     }
 }
@@ -93,6 +94,7 @@ fn begins_nobody(answer: &Answer) -> bool
 {
     match answer {
         Answer::Reply(reply) => is_short(reply) || has_quit(reply),
+        Answer::Event => false,
         Answer::Trace => false,
     }
 }

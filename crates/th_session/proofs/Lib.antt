@@ -3,6 +3,8 @@ pub mod Playing
 pub mod Runs
 pub mod Order
 mod Rooms
+mod Replying
 mod Kept
 pub mod Live
 pub mod Living
+mod Telling

@@ -9,6 +9,7 @@ use Rattle.th_lines.specs.declared.command.Action.{Action}
 use Rattle.th_lines.specs.declared.command.Action.TheVariants as Actions
 use Rattle.th_lines.specs.declared.reply.Code.{Code}
 use Rattle.th_lines.specs.declared.reply.Code.TheVariants as Codes
+use Rattle.th_lines.specs.declared.reply.Reply.{Reply}
 use Rattle.th_lines.specs.declared.reply.Reply.TheVariants.{Refused}
 use Rattle.th_registry.specs.declared.opening.Found.{Found}
 use Rattle.th_registry.specs.declared.outcome.ChannelReply.TheVariants as ChannelReplies
@@ -23,17 +24,18 @@ use Rattle.th_session.specs.declared.seats.Seats.{Seats}
 use Rattle.th_session.specs.Table.{is_for, judged, own, unless_held, replied}
 use Rattle.th_session.specs.Held.{Holding, seat_at}
 use Rattle.th_session.specs.Live.{Has, IsHeldLive}
-use Rattle.th_session.specs.Script.{Answer, Ask, Replied, Say, Script, at_topic, by_event, kept, run}
+use Rattle.th_session.specs.Script.{Answer, Ask, Give, Say, Script, answered, at_topic, by_event, kept, reply_of, run}
 use Rattle.th_session.specs.Laws.{Lacks, WhatIsLackingIsExact}
+use Rattle.th_session.proofs.Replying.{event-told}
 use Rattle.th_session.proofs.Rooms.{run-in-room}
 use Rattle.th_session.proofs.Order.{what_is_lacking_comes_next}
 
 -- the answer is that the handle is not held
-abbrev is_not_held : Answer → Bool
-is_not_held (Replied (Refused Codes.NotHeld)) = true
-is_not_held answer = false
+abbrev is_not_held : Option Reply → Bool
+is_not_held (Some (Refused Codes.NotHeld)) = true
+is_not_held reply = false
 
-told-not-held : (told : Told) → is_not_held (Replied (replied told)) ≡ lacks_handle told
+told-not-held : (told : Told) → is_not_held (Some (replied told)) ≡ lacks_handle told
 told-not-held (Ok (NewTx t)) = refl
 told-not-held (Ok (NewRx r)) = refl
 told-not-held (Ok (events.Replied (ChannelReplies.Broadcast (BReplies.Sent n)))) = refl
@@ -140,24 +142,24 @@ judged-lacks Actions.End s e = absurd (let no : ⊥ = cc in no)
 
 -- the question for an action's event
 abbrev pub asking : Action → Holding → ℕ → Event → Script
-asking action h n event = Ask (On n event) (λ said. Say (replied said) (kept action said n h))
+asking action h n event = Ask (On n event) (λ noted. Give (answered n noted) (kept action noted.0 n h))
 
 module _ (limit : ℕ) (ts : EndlessTopics) (h : Holding) (action : Action) (n : ℕ) (live : IsHeldLive ts h n) where
   -- the reply where this is why there is no event, or which event it is
-  by-judgement : (j : Result Event Code) → judged action (seat_at h n) ≡ j → (run (endless limit) ts (by_event action n h j)).0 ≡ Replied (Refused Codes.NotHeld) → Lacks action (seat_at h n)
+  by-judgement : (j : Result Event Code) → judged action (seat_at h n) ≡ j → reply_of (run (endless limit) ts (by_event action n h j)).0 ≡ Some (Refused Codes.NotHeld) → Lacks action (seat_at h n)
   by-judgement (Err code) j r = judged-lacks action (seat_at h n) (j ∙ ap (λ (k : Code). Err k) (let same : code ≡ Codes.NotHeld = cc in same))
   by-judgement (Ok event) j r =
       let held : IsOfHeld (seat_at h n) event = judged-held action (seat_at h n) event j in
-      let served : lacks_handle (say (endless limit) ts (On n event)).0 ≡ false = live_handles_are_served limit ts n event (λ x k. live x (held x k)) in
-      let reply = sym (ap (λ (end : Answer × Holding × EndlessTopics). end.0) (run-in-room (endless limit) ts action h (asking action h n event))) ∙ r in
-      absurd (false≢true (sym (told-not-held (say (endless limit) ts (On n event)).0 ∙ served) ∙ ap is_not_held reply))
+      let served : lacks_handle (say (endless limit) ts (On n event)).0.0 ≡ false = live_handles_are_served limit ts n event (λ x k. live x (held x k)) in
+      let reply = sym (ap (λ (end : Answer × Holding × EndlessTopics). reply_of end.0) (run-in-room (endless limit) ts action h (asking action h n event))) ∙ r in
+      absurd (false≢true (sym (told-not-held (say (endless limit) ts (On n event)).0.0 ∙ served) ∙ ap is_not_held (sym (event-told (endless limit) (λ c call reply. refl) (λ c call reply. refl) n ts event) ∙ reply)))
 
-  by-kind : (right : Bool) → right ≡ true → (run (endless limit) ts (cond right (by_event action n h (judged action (seat_at h n))) (Say (Refused Codes.WrongKind) h))).0 ≡ Replied (Refused Codes.NotHeld) → Lacks action (seat_at h n)
+  by-kind : (right : Bool) → right ≡ true → reply_of (run (endless limit) ts (cond right (by_event action n h (judged action (seat_at h n))) (Say (Refused Codes.WrongKind) h))).0 ≡ Some (Refused Codes.NotHeld) → Lacks action (seat_at h n)
   by-kind true is r = by-judgement (judged action (seat_at h n)) refl r
   by-kind false is r = absurd (false≢true is)
 
 pub what_is_lacking_is_exact : WhatIsLackingIsExact
 what_is_lacking_is_exact limit ts h name action t e right live = (
-  λ r. by-kind limit ts h action t.topic.0 live (is_for t.kind action) right (sym (ap (λ (found : Option Found). (run (endless limit) ts (at_topic action h found)).0) e) ∙ r),
+  λ r. by-kind limit ts h action t.topic.0 live (is_for t.kind action) right (sym (ap (λ (found : Option Found). reply_of (run (endless limit) ts (at_topic action h found)).0) e) ∙ r),
   what_is_lacking_comes_next (endless limit) ts h name action t e right,
 )

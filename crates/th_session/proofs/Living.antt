@@ -133,9 +133,9 @@ pub record Changes (h : Holding) (n : ℕ) (event : Event) (told : Told) (h' : H
   pub ended : (x : Handle) → Ends event told x → Has (seat_at h n) x ⊎ (x ≡ hubs_sender)
 
 module _ (limit : ℕ) (ts : EndlessTopics) (h : Holding) (n : ℕ) (event : Event) (h' : Holding) (s : AreSound ts) (l : Lives ts h)
-    (c : Changes h n event (say (endless limit) ts (On n event)).0 h') where
+    (c : Changes h n event (say (endless limit) ts (On n event)).0.0 h') where
   abbrev answer : Told
-  answer = (say (endless limit) ts (On n event)).0
+  answer = (say (endless limit) ts (On n event)).0.0
 
   abbrev later : EndlessTopics
   later = (say (endless limit) ts (On n event)).1
@@ -304,7 +304,7 @@ module _ (limit : ℕ) (ts : EndlessTopics) (h : Holding) (s : AreSound ts) (l :
   event-run : (action : Action) (n : ℕ) (j : Result Event Code) → judged action (seat_at h n) ≡ j → RunKeeps limit ts h (by_event action n h j)
   event-run action n (Err code) is = nothing-changed ts h s l
   event-run action n (Ok event) is =
-      let told : Told = (say (endless limit) ts (On n event)).0 in
+      let told : Told = (say (endless limit) ts (On n event)).0.0 in
       subst (λ (end : Answer × Holding × EndlessTopics). Keeps h ts end.1 end.2) (sym (run-in-room (endless limit) ts action h (asking action h n event)))
       (event-keeps limit ts h n event (kept action told n h) s l (action-changes h n action event told is))
 
@@ -348,7 +348,7 @@ module _ (limit : ℕ) (Q : ℕ → Handle → Type 0) (n : ℕ) (next : Script)
       let mid : EndlessTopics = (say (endless limit) ts (On n event)).1 in
       let later = rest mid (sound_after limit ts (On n event) s) in (
         later.0,
-        λ m y q live. later.1 m y q (handles_stay_live limit ts (On n event) m y s.proper (λ e. not (subst (λ k. Q k x) e.0 (subst (Q m) (ends (say (endless limit) ts (On n event)).0 y e.1) q))) live),
+        λ m y q live. later.1 m y q (handles_stay_live limit ts (On n event) m y s.proper (λ e. not (subst (λ k. Q k x) e.0 (subst (Q m) (ends (say (endless limit) ts (On n event)).0.0 y e.1) q))) live),
         later.2,
       )
 

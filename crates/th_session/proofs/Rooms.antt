@@ -1,6 +1,5 @@
 -- Room in a script: where there is some the script is carried out as without it.
 use Rattle.std.proofs.Common.{◌≡◌, ℕ, inl, inr, Result, Ok, refl, sym, subst}
-use Rattle.th_model.specs.declared.verb.Start.{Start}
 use Rattle.th_lines.specs.declared.command.Action.{Action}
 use Rattle.th_lines.specs.declared.command.Action.TheVariants.{Bind, Unbind, Subscribe, Unsubscribe, Resubscribe, BySender, Ask, ByReceiver, End}
 use Rattle.th_lines.specs.declared.reply.Code.{Code}
@@ -9,7 +8,7 @@ use Rattle.th_lines.specs.declared.reply.Reply.TheVariants.{Refused}
 use Rattle.th_registry.specs.Events.{Event}
 use Rattle.th_registry.specs.Hub.{Machines, Query, Said, Topics}
 use Rattle.th_session.specs.Held.{Holding}
-use Rattle.th_session.specs.Script.{Answer, Plays, Replied, Script, by_event, run, with_room}
+use Rattle.th_session.specs.Script.{Answer, Plays, Replied, Room, Script, by_event, run, with_room}
 
 -- the hub has room
 pub run-in-room : {B W : Type 0} (m : Machines B W) (ts : Topics B W) (action : Action) (h : Holding) (s : Script) →
@@ -32,21 +31,16 @@ module _ {D : Type 0} (says : D → (q : Query) → Said q → D → Type 0) whe
   plays-in-room Unbind h s old answer after new p = p
   plays-in-room (Subscribe start) h s old answer after new p = inl p
   plays-in-room Unsubscribe h s old answer after new p = p
-  plays-in-room Resubscribe h s old answer after new p = p
-  plays-in-room (BySender verb) h s old answer after new p = p
-  plays-in-room (Ask question) h s old answer after new p = p
-  plays-in-room (ByReceiver verb) h s old answer after new p = p
+  plays-in-room Resubscribe h s old answer after new p = inl p
+  plays-in-room (BySender verb) h s old answer after new p = inl p
+  plays-in-room (Ask question) h s old answer after new p = inl p
+  plays-in-room (ByReceiver verb) h s old answer after new p = inl p
   plays-in-room End h s old answer after new p = p
 
 -- there was no room, and what is held is as before
 module _ {D : Type 0} (says : D → (q : Query) → Said q → D → Type 0) (topic : ℕ) (h after : Holding) (old : D) {judgement : Result Event Code} {event : Event} where
-  pub no-room-to-bind : judgement ≡ Ok event → after ≡ h → Plays says (by_event Bind topic h judgement) old (Replied (Refused Codes.NoMemory)) after old
-  no-room-to-bind j same =
-      let P : Result Event Code → Type 0 = λ k. Plays says (by_event Bind topic h k) old (Replied (Refused Codes.NoMemory)) after old in
-      subst P (sym j) (inr (refl, same, refl))
-
-  pub no-room-to-subscribe : (start : Start) → judgement ≡ Ok event → after ≡ h →
-      Plays says (by_event (Subscribe start) topic h judgement) old (Replied (Refused Codes.NoMemory)) after old
-  no-room-to-subscribe start j same =
-      let P : Result Event Code → Type 0 = λ k. Plays says (by_event (Subscribe start) topic h k) old (Replied (Refused Codes.NoMemory)) after old in
-      subst P (sym j) (inr (refl, same, refl))
+  pub no-room : (action : Action) → ((s : Script) → with_room action h s ≡ Room h s) → judgement ≡ Ok event → after ≡ h →
+      Plays says (by_event action topic h judgement) old (Replied (Refused Codes.NoMemory)) after old
+  no-room action needs j same =
+      let P : Script → Type 0 = λ s. Plays says s old (Replied (Refused Codes.NoMemory)) after old in
+      subst (λ k. P (by_event action topic h k)) (sym j) (subst P (sym (needs _)) (inr (refl, same, refl)))

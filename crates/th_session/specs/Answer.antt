@@ -9,12 +9,13 @@ use Rattle.th_lines.specs.declared.reply.Reply.TheVariants.{Count, Refused}
 use Rattle.th_traces.specs.Spelled.{Bytes, text}
 use Rattle.th_traces.specs.Traces.{broadcast_lines, watch_lines}
 use Rattle.th_registry.specs.declared.channel.Channel.TheVariants.{Broadcast, Watch}
-use Rattle.th_registry.specs.declared.opening.TopicId.{TopicId}
 use Rattle.th_registry.specs.History.{ChannelSegment}
 use Rattle.th_registry.specs.Hub.{Query, Said}
 use Rattle.th_session.specs.declared.session.Answer as session
-use Rattle.th_session.specs.Kept.{Kept, told, with_answer}
-use Rattle.th_session.specs.Script.{Answer, Replied, Traced}
+use Rattle.th_session.specs.Kept.{IsKept, Kept, told}
+use Rattle.th_session.specs.Script.{Answer, Replied, Told, Traced}
+use Rattle.th_session.specs.Table.{replied_channel}
+use Rattle.th_registry.specs.Receipts.{reply_in}
 use Rattle.th_session.specs.Step.{IsStep}
 
 -- the lines of a segment's trace
@@ -29,15 +30,15 @@ trace_told segment = spell (Count (length (trace_lines segment))) ++ text (trace
 -- the text of an answer
 abbrev pub said : Answer → List ℕ
 said (Replied reply) = spell reply
+said (Told n receipt) = spell (replied_channel (reply_in receipt))
 said (Traced n segment) = trace_told segment
 
--- the text of an answer that is told so, and with which these segments are kept, was put behind what waits, or the writer
+-- the text of an answer that is told so, and after which the actor has this, was put behind what waits, or the writer
 -- failed
-abbrev pub PutsTold : {A E : Type 0} →
-    session.Answer → List (TopicId × ChannelSegment) → Output → Output → Result A E → Type 0
-PutsTold tells segments before after result =
-    (answer : Answer) (had : List (TopicId × ChannelSegment)) →
-    tells ≡ told answer → segments ≡ with_answer had answer → AddsOrFails (said answer) before after result
+abbrev pub PutsTold : {A E : Type 0} → session.Answer → Kept → Output → Output → Result A E → Type 0
+PutsTold tells has before after result =
+    (answer : Answer) (had : Kept) → tells ≡ told answer → IsKept had answer has →
+    AddsOrFails (said answer) before after result
 
 module _ {D : Type 0} (says : D → (q : Query) → Said q → D → Type 0) where
   -- by what a line spells: nothing, which is answered 10; or a command, whose step this is, or whose value there was no

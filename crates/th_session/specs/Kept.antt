@@ -1,34 +1,52 @@
--- What an actor has: the handles that it holds, and each segment that it was answered.
+-- What an actor has: the handles that it holds, the receipt of each event that it was told of, and each segment that it
+-- was answered.
 use Rattle.std.specs.Prelude.{◌≡◌, ◌-◌, List, [], ◌∷◌, ◌++◌, length, Option, slice_get}
 use Rattle.std.specs.Option.{option_map}
 use Rattle.th_registry.specs.declared.opening.TopicId.{TopicId}
 use Rattle.th_registry.specs.History.{ChannelSegment}
+use Rattle.th_registry.specs.Receipts.{ChannelReceipt}
 use Rattle.th_session.specs.declared.session.Answer as session
 use Rattle.th_session.specs.declared.session.Answer.TheVariants as answers
 use Rattle.th_session.specs.Held.{Holding}
-use Rattle.th_session.specs.Script.{Answer, Replied, Traced}
+use Rattle.th_session.specs.Script.{Answer, Replied, Told, Traced}
 
 pub record Kept : Type 0 where
   pub handles : Holding
   -- in the order of the answers, each with its topic
+  pub receipts : List (TopicId × ChannelReceipt)
   pub segments : List (TopicId × ChannelSegment)
 
--- the segment of the last one
-abbrev pub last_of : List (TopicId × ChannelSegment) → Option ChannelSegment
-last_of segments = option_map (λ e. e.1) (slice_get segments (length segments - 1))
+-- what the last one is, without its topic
+abbrev pub last_of : {A : Type 0} → List (TopicId × A) → Option A
+last_of es = option_map (λ e. e.1) (slice_get es (length es - 1))
+
+-- with the receipt of an answer that tells of an event, at the end
+abbrev pub with_receipt : List (TopicId × ChannelReceipt) → Answer → List (TopicId × ChannelReceipt)
+with_receipt receipts (Told n receipt) = receipts ++ (record { 0 = n }, receipt) ∷ []
+with_receipt receipts answer = receipts
 
 -- with the segment of an answer that is one, at the end
-abbrev pub with_answer : List (TopicId × ChannelSegment) → Answer → List (TopicId × ChannelSegment)
-with_answer segments (Replied reply) = segments
-with_answer segments (Traced n segment) = segments ++ (record { 0 = n }, segment) ∷ []
+abbrev pub with_segment : List (TopicId × ChannelSegment) → Answer → List (TopicId × ChannelSegment)
+with_segment segments (Traced n segment) = segments ++ (record { 0 = n }, segment) ∷ []
+with_segment segments answer = segments
 
 -- what an actor has after this answer, where it holds these handles then
 abbrev pub having : Kept → Answer → Holding → Kept
-having had answer h = record { handles = h; segments = with_answer had.segments answer }
+having had answer h = record {
+  handles = h;
+  receipts = with_receipt had.receipts answer;
+  segments = with_segment had.segments answer;
+}
 
--- how an answer is told: of a trace, that its segment is the last one kept
+-- of what the actor had, and of this answer, that is kept which is to be kept
+abbrev pub IsKept : Kept → Answer → Kept → Type 0
+IsKept had answer has =
+    (has.receipts ≡ with_receipt had.receipts answer) × (has.segments ≡ with_segment had.segments answer)
+
+-- how an answer is told: of an event that its receipt, and of a trace that its segment, is the last one kept
 abbrev pub told : Answer → session.Answer
 told (Replied reply) = answers.Reply reply
+told (Told n receipt) = answers.Event
 told (Traced n segment) = answers.Trace
 
 -- it is told so of an answer of this kind

@@ -4,6 +4,7 @@ ghost use Rattle.th_session.specs.Answer.{Answers, Puts, PutsTold};
 ghost use Rattle.th_session.specs.Kept.{Tells};
 
 use crate::session::{Answer, Session};
+use crate::told::append_told;
 use crate::trace::append_trace;
 use std::alloc::Global;
 use std::io::Write;
@@ -58,11 +59,15 @@ impl<D: Desk> Session<D> {
         out: &mut WriteBuffer,
         writer: &mut Counted<W>,
     ) -> Result<(), WriteFailed>
-        ensures { PutsTold answer self.now.segments
+        ensures { PutsTold answer self.now
             (output W.contents writer.old out.old) (output W.contents writer.new out.new) result }
     {
         match answer {
             Answer::Reply(reply) => out.append(writer, &reply),
+            Answer::Event => match self.last_receipt() {
+                Some(receipt) => append_told(receipt, out, writer),
+                None => Ok(()),
+            },
             Answer::Trace => match self.last_segment() {
                 Some(segment) => append_trace(segment, out, writer),
                 None => Ok(()),

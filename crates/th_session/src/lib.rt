@@ -4,7 +4,7 @@
 //! let mut desk = LocalDesk::new(alloc);
 //! let mut bob = Session::new(alloc);
 //! step(&mut bob, &mut desk, read_command(alloc, b"OPEN news B 10")?);    // Count(16), the capacity in force
-//! step(&mut bob, &mut desk, read_command(alloc, b"SUB news")?);          // Done
+//! step(&mut bob, &mut desk, read_command(alloc, b"SUB news")?);          // Event: Done, and bob keeps the receipt
 //! step(&mut bob, &mut desk, read_command(alloc, b"NEXT news")?);         // Blocked: nothing is sent yet
 //! step(&mut bob, &mut desk, read_command(alloc, b"TRACE news")?);        // Trace: of the segment that bob keeps last
 //! step(&mut bob, &mut desk, Command::Quit);                              // Bye
@@ -16,11 +16,13 @@ pub mod answer;
 pub mod laws;
 pub mod local;
 mod quit;
+mod receipts;
 pub mod seats;
 pub mod session;
 mod table;
 #[cfg(test)]
 mod tests;
+mod told;
 mod trace;
 
 pub use seats::Seats;

@@ -1,13 +1,14 @@
 //! One actor, and its commands carried out.
-ghost use Rattle.std.specs.Prelude.{◌≡◌, ◌<◌, [], ◌∷◌, ◌++◌, option_copied, vec_capacity, vec_len};
+ghost use Rattle.std.specs.Prelude.{◌≡◌, [], option_copied};
 ghost use Rattle.th_registry.specs.Hub.{Find};
 ghost use Rattle.th_session.specs.Held.{Holding, held};
-ghost use Rattle.th_session.specs.Kept.{Tells, last_of, with_answer};
-ghost use Rattle.th_session.specs.Script.{Ask, Plays, Replied, at_topic, traced};
+ghost use Rattle.th_session.specs.Kept.{Tells, last_of, with_receipt, with_segment};
+ghost use Rattle.th_session.specs.Script.{Ask, Plays, at_topic, traced};
 ghost use Rattle.th_session.specs.Step.{IsStep};
 
 use crate::action::act;
 use crate::quit::quit;
+use crate::receipts::keep;
 use crate::seats::Seats;
 use crate::table::{is_for, replied_list, replied_none, replied_opening};
 use std::alloc::Global;
@@ -15,7 +16,7 @@ use std::collections::BTreeMap;
 use std::marker::Model;
 use th_lines::{Action, Code, Command, Reply};
 use th_model::NameRef;
-use th_registry::channel::TopicSegment;
+use th_registry::channel::{TopicReceipt, TopicSegment};
 use th_registry::{Desk, TopicId};
 
 /// What a command is answered.
@@ -23,18 +24,23 @@ use th_registry::{Desk, TopicId};
 pub enum Answer {
     /// A reply.
     Reply(Reply),
+    /// What a topic replied to an event: as the receipt has it that the session keeps last.
+    Event,
     /// The trace of a topic: of the segment that the session keeps last.
     Trace,
 }
 
-/// One actor's handles, at most one sender and one receiver of each topic, and each segment of a topic's history that
-/// it was answered.
+/// One actor's handles, at most one sender and one receiver of each topic; the receipt of each event that it was told of,
+/// but for the ends of handles; and each segment of a topic's history that it was answered.
 ///
-/// It takes memory for each topic of which it once held a handle, and none for the others; and for each trace.
+/// It takes memory for each topic of which it once held a handle, and none for the others; for each receipt; and for each
+/// trace.
 #[derive(Drop)]
 pub struct Session<D: Desk> {
     // What is held, by the numbers of the topics.
     seats: BTreeMap<u64, Seats<D::Tx, D::Rx>>,
+    // In the order of the answers, of all topics: so a receipt costs no look-up.
+    receipts: Vec<(TopicId, TopicReceipt)>,
     // In the order of the answers.
     segments: Vec<(TopicId, TopicSegment)>,
 }
@@ -47,6 +53,7 @@ impl<D: Desk> Model for Session<D> {
 
     ghost view = { λ s. record {
       handles = held D.tx D.rx s.seats.entries;
+      receipts = s.receipts.items;
       segments = s.segments.items;
     } };
 }
@@ -55,29 +62,23 @@ impl<D: Desk> Model for Session<D> {
 #[inline(always)]
 fn on_topic<D: Desk>(
     seats: &mut BTreeMap<u64, Seats<D::Tx, D::Rx>>,
+    receipts: &mut Vec<(TopicId, TopicReceipt)>,
     desk: &mut D,
     name: &NameRef<'_>,
     action: Action,
-) -> Reply
-    ensures { let h = held D.tx D.rx seats.old.entries in
-        Plays D.says (Ask (Find name.now) (at_topic action h)) desk.old
-        (Replied result) (held D.tx D.rx seats.new.entries) desk.new }
+) -> Answer
+    ensures { Tells result (λ answer.
+        Plays D.says (Ask (Find name.now) (at_topic action (held D.tx D.rx seats.old.entries)))
+        desk.old answer (held D.tx D.rx seats.new.entries) desk.new
+        × (receipts.new.items ≡ with_receipt receipts.old.items answer)) }
 {
     let Some(found) = desk.find(name) else {
-        return Reply::Refused(Code::NoTopic);
+        return Answer::Reply(Reply::Refused(Code::NoTopic));
     };
     if !is_for(found.kind, &action) {
-        return Reply::Refused(Code::WrongKind);
+        return Answer::Reply(Reply::Refused(Code::WrongKind));
     }
-    act(seats, desk, found.topic, action)
-}
-
-// Keeps a segment behind the others, in a list that has room for it.
-fn keep(segments: &mut Vec<(TopicId, TopicSegment)>, topic: TopicId, segment: TopicSegment)
-    requires { vec_len segments.old < vec_capacity segments.old }
-    ensures { segments.new.items ≡ segments.old.items ++ (topic, segment) ∷ [] }
-{
-    let _ = segments.push((topic, segment));
+    act(seats, receipts, desk, found.topic, action)
 }
 
 // The trace of the topic of this name. There is room for its segment before the desk hands it out.
@@ -88,7 +89,7 @@ fn trace<D: Desk>(
 ) -> Answer
     ensures { (h : Holding) → Tells result (λ answer.
         Plays D.says (Ask (Find name.now) (traced h)) desk.old answer h desk.new
-        × (segments.new.items ≡ with_answer segments.old.items answer)) }
+        × (segments.new.items ≡ with_segment segments.old.items answer)) }
 {
     let Some(found) = desk.find(name) else {
         return Answer::Reply(Reply::Refused(Code::NoTopic));
@@ -106,13 +107,32 @@ fn trace<D: Desk>(
 }
 
 impl<D: Desk> Session<D> {
-    /// An actor that holds nothing, and was answered no segment. It takes no memory.
+    /// An actor that holds nothing, and was told nothing. It takes no memory.
     pub fn new(alloc: Global) -> Session<D>
-        ensures { result ≡ record { handles = []; segments = [] } }
+        ensures { result ≡ record { handles = []; receipts = []; segments = [] } }
     {
         Session {
             seats: BTreeMap::new(alloc),
+            receipts: Vec::new(alloc),
             segments: Vec::new(alloc),
+        }
+    }
+
+    /// The receipt of each event that the actor was told of, with its topic, in the order of the answers. The end of a
+    /// handle gives none.
+    pub fn receipts(&self) -> &[(TopicId, TopicReceipt)]
+        ensures { result.now ≡ self.now.receipts }
+    {
+        self.receipts.as_slice()
+    }
+
+    /// The last one.
+    pub fn last_receipt(&self) -> Option<&TopicReceipt>
+        ensures { option_copied result ≡ last_of self.now.receipts }
+    {
+        match self.receipts.last() {
+            Some((_, receipt)) => Some(receipt),
+            None => None,
         }
     }
 
@@ -134,10 +154,10 @@ impl<D: Desk> Session<D> {
     }
 
     /// Carries out a command: of all that the desk said, in its order, the answer is the hub's, and so is what the
-    /// actor holds afterwards. The first refusal that holds is the reply. Where there is no room for a new handle or for a
-    /// segment, the reply is `NoMemory`, the hub is not asked for it and nothing has changed. A handle that is to be
-    /// spent stays where there was no event, but for `Quit`, after which nothing is held. A segment that is answered is
-    /// kept behind the others.
+    /// actor holds afterwards. The first refusal that holds is the reply. Where there is no room for a new handle, a
+    /// receipt or a segment, the reply is `NoMemory`, the hub is not asked for it and nothing has changed. A handle that is
+    /// to be spent stays where there was no event, but for `Quit`, after which nothing is held. A receipt is kept behind the
+    /// others, and so is a segment that is answered.
     ///
     /// It costs one look-up of the topic's name, and a few of what is held on it, each at most the logarithm of the
     /// number of topics of which the actor once held a handle. Only a new handle, a segment, and what the desk does,
@@ -152,7 +172,7 @@ impl<D: Desk> Session<D> {
                 Answer::Reply(replied_opening(desk.open_topic(name, making)))
             }
             Command::On(name, action) => {
-                Answer::Reply(on_topic(&mut self.seats, desk, &name, action))
+                on_topic(&mut self.seats, &mut self.receipts, desk, &name, action)
             }
             Command::Trace(name) => trace(&mut self.segments, desk, &name),
             Command::List => Answer::Reply(replied_list(desk.list())),

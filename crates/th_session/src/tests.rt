@@ -7,13 +7,13 @@ mod ends;
 mod limits;
 mod memory;
 mod order;
+mod receipts;
 mod rows;
 mod segments;
 mod traces;
 
 use crate::local::step;
-use crate::session::{Answer, Session};
-use crate::trace::append_trace;
+use crate::session::Session;
 use std::alloc::{AllocError, Global};
 use std::test::Fail;
 use th_lines::{Code, Command, Counted, LineFault, Reply, WriteBuffer, print_reply, read_command};
@@ -48,22 +48,6 @@ fn hub_with_limit(alloc: Global, limit: u64) -> Result<Hub, Fail> {
     }
 }
 
-// The text of the trace that the session was answered last.
-fn last_trace(alloc: Global, session: &Session<LocalDesk>) -> Result<Vec<u8>, AllocError> {
-    let mut out = WriteBuffer::new(alloc)?;
-    let mut writer = Counted::new(Vec::new(alloc));
-    let Some(segment) = session.last_segment() else {
-        return Ok(Vec::new(alloc));
-    };
-    let Ok(()) = append_trace(segment, &mut out, &mut writer) else {
-        return Err(AllocError);
-    };
-    match out.flush(&mut writer) {
-        Ok(()) => Ok(writer.into_device()),
-        Err(_) => Err(AllocError),
-    }
-}
-
 // The text of what a command is answered.
 fn carry_out(
     alloc: Global,
@@ -71,9 +55,15 @@ fn carry_out(
     desk: &mut LocalDesk,
     command: Command<'_>,
 ) -> Result<Vec<u8>, AllocError> {
-    match step(session, desk, command) {
-        Answer::Reply(reply) => spelled(alloc, &reply),
-        Answer::Trace => last_trace(alloc, session),
+    let answer = step(session, desk, command);
+    let mut out = WriteBuffer::new(alloc)?;
+    let mut writer = Counted::new(Vec::new(alloc));
+    let Ok(()) = session.put_answer(answer, &mut out, &mut writer) else {
+        return Err(AllocError);
+    };
+    match out.flush(&mut writer) {
+        Ok(()) => Ok(writer.into_device()),
+        Err(_) => Err(AllocError),
     }
 }
 

@@ -3,10 +3,10 @@ use crate::channel::{Channel, TopicSegment};
 use crate::desk::Desk;
 use crate::local::LocalDesk;
 use crate::outcome::NoEvent;
-use crate::tests::{TOPIC, broadcast_desk, is_none, makes, name, tells, value, watch_desk};
+use crate::tests::{TOPIC, broadcast_desk, ends, is_none, makes, name, value, watch_desk};
 use std::alloc::Global;
 use std::process::Abort;
-use th_model::{BReply, Making, RxId, SenderVerb, Start, TxId};
+use th_model::{BCall, BReply, Making, Question, RxId, SenderVerb, Start, TxId};
 
 /// The segment has this key, begins at this place and has so many entries.
 fn is_segment(
@@ -52,7 +52,7 @@ fn a_full_log_takes_the_ends_of_live_handles(rt: HostRuntime) {
     let made = desk.subscribe(TOPIC, Start::Tail, &mut None);
     is_none(&rt, "no room for a third handle", made, NoEvent::LogFull);
     let told = desk.spend_sender(TOPIC, TxId(2));
-    tells(&rt, "room was kept for the end", told, BReply::Done);
+    ends(&rt, "room was kept for the end", told);
 }
 
 #[test]
@@ -76,4 +76,22 @@ fn keys_are_the_numbers_of_topics(rt: HostRuntime) {
     makes(&rt, "bind", desk.bind(TOPIC), TxId(2));
     is_segment(&rt, "of a watch topic", desk.cut(TOPIC), 1, 0, 1);
     is_segment(&rt, "nothing since", desk.cut(TOPIC), 1, 1, 0);
+}
+
+#[test]
+fn an_event_has_its_receipt(rt: HostRuntime) {
+    let mut desk = small_desk(&rt, rt.alloc());
+    makes(&rt, "bind", desk.bind(TOPIC), TxId(2));
+    is_segment(&rt, "one entry", desk.cut(TOPIC), 1, 0, 1);
+    let told = desk.ask(TOPIC, &mut None, Question::Readers);
+    let same = match &told {
+        Ok(Channel::Broadcast(receipt)) => {
+            receipt.place() == 1
+                && receipt.key() == 1
+                && *receipt.call() == BCall::Readers(TxId(1))
+                && *receipt.reply() == BReply::Count(0)
+        }
+        _ => false,
+    };
+    assert!(rt; same, "the second event of the topic");
 }

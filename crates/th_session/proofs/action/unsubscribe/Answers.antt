@@ -3,6 +3,7 @@ use Rattle.std.specs.Option.{option_map}
 use Rattle.th_model.specs.declared.handles.RxId.{RxId}
 use Rattle.th_lines.specs.declared.command.Action.TheVariants.{Unsubscribe}
 use Rattle.th_registry.specs.Events.{Event, DropsRx, Replied}
+use Rattle.th_session.specs.Script as answers
 use Rattle.th_session.specs.Held.{held}
 use Rattle.th_session.proofs.Seating.{held-set, receiver-kept, receiver-gone, with_numbers}
 use Rattle.th_session.proofs.Playing.{receiver-out, receiver-lacks, receiver-own, plays-by, plays-not}
@@ -31,8 +32,8 @@ returns-in-Ok g c =
     let at = sym c.in-Some.ensures.value in
     let holds : c.in-Some.seat.now.receiver ≡ Some c.in-Some-take.receiver = sym c.take.ensures.value ∙ c.in-Some-take.is in
     let gone = ap (λ o. with_numbers (option_map g.D.Desk.tx c.in-Some.seat.now.sender) (option_map g.D.Desk.rx o)) c.take.ensures.after in
-    plays-by g.D.Desk.says Unsubscribe c.args.topic.0 _ _ (Ok (Replied c.in-Ok.reply)) _ _
-    (receiver-own g.D.Desk.tx g.D.Desk.rx event c.args.seats.now.entries c.args.topic.0 _ _ at holds) c.in-Ok.ensures.event c.replied_channel.ensures
+    plays-by g.D.Desk.says Unsubscribe c.args.topic.0 _ _ (Ok (Replied c.in-Ok.reply), None) _ _
+    (receiver-own g.D.Desk.tx g.D.Desk.rx event c.args.seats.now.entries c.args.topic.0 _ _ at holds) c.in-Ok.ensures.event (ap (λ reply. answers.Replied reply) c.replied_channel.ensures)
     (receiver-gone g.D.Desk.tx g.D.Desk.rx c.args.seats.now.entries _ c.args.topic.0 c.in-Some.seat.now _ c.get_mut.ensures.ordered at (c.get_mut.follows.holds _).0 gone)
 
 pub returns-in-Err : goal.returns-in-Err
@@ -41,6 +42,6 @@ returns-in-Err g c =
     let at = sym c.in-Some.ensures.value in
     let holds : c.in-Some.seat.now.receiver ≡ Some c.in-Some-take.receiver = sym c.take.ensures.value ∙ c.in-Some-take.is in
     let kept = receiver-kept g.D.Desk.tx g.D.Desk.rx c.in-Some.seat.now _ c.in-Err.unspent.handle holds c.in-Err.ensures.back in
-    plays-by g.D.Desk.says Unsubscribe c.args.topic.0 _ _ (Err c.in-Err.unspent.why) _ _
-    (receiver-own g.D.Desk.tx g.D.Desk.rx event c.args.seats.now.entries c.args.topic.0 _ _ at holds) c.in-Err.ensures.event c.replied_none.ensures
+    plays-by g.D.Desk.says Unsubscribe c.args.topic.0 _ _ (Err c.in-Err.unspent.why, None) _ _
+    (receiver-own g.D.Desk.tx g.D.Desk.rx event c.args.seats.now.entries c.args.topic.0 _ _ at holds) c.in-Err.ensures.event (ap (λ reply. answers.Replied reply) c.replied_none.ensures)
     (held-set g.D.Desk.tx g.D.Desk.rx c.args.seats.now.entries _ c.args.topic.0 c.in-Some.seat.now _ at (c.get_mut.follows.holds (record { sender = c.in-Some.seat.now.sender; receiver = Some c.in-Err.unspent.handle })).0 kept)

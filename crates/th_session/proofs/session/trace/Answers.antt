@@ -2,7 +2,7 @@ use Rattle.std.proofs.Common.{inl, inr, Some, None, Ok, Err, refl, ap, ◌∙◌
 use Rattle.th_lines.specs.declared.reply.Code.TheVariants as Codes
 use Rattle.th_lines.specs.declared.reply.Reply.TheVariants.{Refused}
 use Rattle.th_session.specs.Script.{Replied, Traced}
-use Rattle.th_session.specs.Kept.{with_answer}
+use Rattle.th_session.specs.Kept.{with_segment}
 use Rattle.th_session.proofs.session.trace.Goals as goal
 
 pub returns-in_default : goal.returns-in_default
@@ -19,7 +19,7 @@ returns-in-Ok-cut g c = λ h.
       refl,
       (
         (Some c.in-Some.found, c.args.desk.now, c.in-Some.ensures, inl (Ok c.in-Ok-cut.segment, c.cut.new.self, c.in-Ok-cut.ensures, (refl, refl, refl))),
-        c.keep.ensures ∙ ap (λ segments. with_answer segments answer) c.reserve.ensures.items,
+        c.keep.ensures ∙ ap (λ segments. with_segment segments answer) c.reserve.ensures.items,
       ),
     )
 

@@ -36,7 +36,7 @@ returns-then-is_gone g c =
     let rest = gone a.0 c.args.place has.handles (holdings i.actors.entries) left quit (c.take_out.ensures.actors ∙ ap (λ (all : Actors). remove all c.args.place) (set-held i.actors.entries c.args.place has)) in
     let there = at-held i.actors.entries c.args.place ∙ ap (option_map handles) (sym c.get_index_mut.ensures.value ∙ ap option_copied_mut c.in-Some.is) in
     let end = ends_so had i.desk.topics c.args.command a.0 has c.step-answer.new.desk.topics i.desk.limit c.self.invariant a.2 in
-    let put = c.put_answer-put.ensures a.0 had.segments a.1 (keeps had i.desk.topics c.args.command a.0 has c.step-answer.new.desk.topics i.desk.limit a.2) in
+    let put = c.put_answer-put.ensures a.0 had a.1 (keeps had i.desk.topics c.args.command a.0 has c.step-answer.new.desk.topics i.desk.limit a.2) in
     subst (λ (topics : SeenTopics). P c.args.self.now topics) (sym c.take_out.ensures.topics)
     (subst (λ (hub : Hub SeenTopics). P hub c.step-answer.new.desk.topics) c.self.view_is
     (a.0, goes_on i.desk.topics (holdings i.actors.entries) c.args.place c.args.command had.handles has.handles a.0 c.step-answer.new.desk.topics left there end rest, put))
@@ -54,7 +54,7 @@ returns-else-is_gone g c =
     let rest = set-held i.actors.entries c.args.place has ∙ stays a.0 c.args.place has.handles (holdings i.actors.entries) not_quit in
     let there = at-held i.actors.entries c.args.place ∙ ap (option_map handles) (sym c.get_index_mut.ensures.value ∙ ap option_copied_mut c.in-Some.is) in
     let end = ends_so had i.desk.topics c.args.command a.0 has c.step-answer.new.desk.topics i.desk.limit c.self.invariant a.2 in
-    let put = c.put_answer-put.ensures a.0 had.segments a.1 (keeps had i.desk.topics c.args.command a.0 has c.step-answer.new.desk.topics i.desk.limit a.2) in
+    let put = c.put_answer-put.ensures a.0 had a.1 (keeps had i.desk.topics c.args.command a.0 has c.step-answer.new.desk.topics i.desk.limit a.2) in
     subst P c.self.view_is
     (a.0, goes_on i.desk.topics (holdings i.actors.entries) c.args.place c.args.command had.handles has.handles a.0 c.step-answer.new.desk.topics left there end rest, put)
 

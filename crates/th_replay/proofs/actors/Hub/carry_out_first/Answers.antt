@@ -40,7 +40,7 @@ pub returns-then-is_over : goal.returns-then-is_over
 returns-then-is_over g c =
     let i = c.self.inside in
     let a = c.step-answer.ensures.step in
-    let had : Kept = record { handles = []; segments = [] } in
+    let had : Kept = record { handles = []; receipts = []; segments = [] } in
     let has = c.step-answer.new.session in
     let topics = c.step-answer.new.desk.topics in
     let after : Output = output g.W.Write.contents c.put_answer-put.new.writer c.put_answer-put.new.out in
@@ -49,7 +49,7 @@ returns-then-is_over g c =
     let steps : Steps (pictures i.desk.limit) had i.desk.topics c.args.command a.0 has topics =
     subst (λ (k : Kept). Steps (pictures i.desk.limit) k i.desk.topics c.args.command a.0 has topics) c.new-session.ensures a.2 in
     let end = ends_so had i.desk.topics c.args.command a.0 has topics i.desk.limit c.self.invariant steps in
-    let put = c.put_answer-put.ensures a.0 had.segments a.1 (keeps had i.desk.topics c.args.command a.0 has topics i.desk.limit steps) in
+    let put = c.put_answer-put.ensures a.0 had a.1 (keeps had i.desk.topics c.args.command a.0 has topics i.desk.limit steps) in
     let over : (is_short a.0 || has_quit a.0) ≡ true = sym (c.begins_nobody-is_over.ensures a.0 a.1) ∙ c.if-is_over.true in
     subst (λ (hub : Hub SeenTopics). P hub (holdings c.reserve.new.self.entries)) c.self.view_is
     (subst (P (record { topics = i.desk.topics; actors = holdings i.actors.entries })) (ap holdings (sym c.in-Ok.ensures.entries))
@@ -59,7 +59,7 @@ pub returns : goal.returns
 returns g c =
     let i = c.self.inside in
     let a = c.step-answer.ensures.step in
-    let had : Kept = record { handles = []; segments = [] } in
+    let had : Kept = record { handles = []; receipts = []; segments = [] } in
     let has = c.step-answer.new.session in
     let topics = c.step-answer.new.desk.topics in
     let after : Output = output g.W.Write.contents c.put_answer-put.new.writer c.put_answer-put.new.out in
@@ -68,7 +68,7 @@ returns g c =
     let steps : Steps (pictures i.desk.limit) had i.desk.topics c.args.command a.0 has topics =
     subst (λ (k : Kept). Steps (pictures i.desk.limit) k i.desk.topics c.args.command a.0 has topics) c.new-session.ensures a.2 in
     let end = ends_so had i.desk.topics c.args.command a.0 has topics i.desk.limit c.self.invariant steps in
-    let put = c.put_answer-put.ensures a.0 had.segments a.1 (keeps had i.desk.topics c.args.command a.0 has topics i.desk.limit steps) in
+    let put = c.put_answer-put.ensures a.0 had a.1 (keeps had i.desk.topics c.args.command a.0 has topics i.desk.limit steps) in
     let one : (is_short a.0 || has_quit a.0) ≡ false = sym (c.begins_nobody-is_over.ensures a.0 a.1) ∙ c.if-is_over.false in
     let none : position (pointwise nat_eq c.args.name) (keys_of i.actors.entries) ≡ None =
     ap (λ (names : List (List ℕ)). position (pointwise nat_eq c.args.name) names) (sym (keys-held i.actors.entries))
