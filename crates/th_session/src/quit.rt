@@ -12,7 +12,8 @@ use th_registry::{Desk, TopicId};
 fn leave_sender<D: Desk>(desk: &mut D, topic: TopicId, sender: Option<D::Tx>)
     ensures { (next : Script) (answer : Answer) (after : Holding) (end : D) →
         Plays D.says next desk.new answer after end →
-        Plays D.says (spend_sender topic.0 (option_map D.tx sender) next) desk.old answer after end }
+        let senders = spend_sender topic.0 (option_map D.tx sender) next in
+        Plays D.says senders desk.old answer after end }
 {
     if let Some(sender) = sender {
         let _ = desk.spend_sender(topic, sender);
