@@ -12,6 +12,10 @@ pub record HasLfAt (bytes : List ℕ) (count : ℕ) : Type 0 where
   pub parts : bytes ≡ take count bytes ++ 10 ∷ drop (count + 1) bytes
   pub first : has_no_lf (take count bytes) ≡ true
 
+-- the most bytes that come by one read
+abbrev pub most_read : ℕ
+most_read = 65536
+
 -- the same bytes, or both so many that they are too long for a line
 abbrev pub IsSameLine : List ℕ → List ℕ → Type 0
 IsSameLine kept bytes = (kept ≡ bytes) ⊎ ((4096 < length kept) × (4096 < length bytes))
@@ -71,4 +75,4 @@ pub record IsPlaced (bytes line_from line_to begun ahead_from ahead_to : ℕ) : 
   pub next : begun ≤ ahead_from
   pub ahead : ahead_from ≤ ahead_to
   pub ahead_end : ahead_to ≤ bytes
-  pub room : 4097 < bytes
+  pub size : bytes ≡ 4097 + most_read

@@ -1,7 +1,7 @@
 //! Bytes that a reader gives, and the lines that are found in them.
 ghost use Rattle.std.specs.Prelude.{◌≡◌, [], true, false, ◌<◌, ◌+◌, ◌≤◌, IfOk, drop, length, slice_range, take};
 ghost use Rattle.th_lines.specs.Device.{ReadMoved, bytes_moved, failures_after, one_more};
-ghost use Rattle.th_lines.specs.Intake.{Ends, Fills, Finds, IsSameLine, Reading, line_given, nothing_came, nothing_read};
+ghost use Rattle.th_lines.specs.Intake.{Ends, Fills, Finds, IsSameLine, Reading, line_given, most_read, nothing_came, nothing_read};
 ghost use Rattle.th_lines.specs.Lines.{line_of};
 
 use crate::counted::{Counted, Moved};
@@ -122,12 +122,13 @@ impl Intake {
         self.begun == self.ahead_to
     }
 
-    /// Makes one read, once nothing is ahead. Interrupted, it is to be made again.
+    /// Makes one read of at most 65,536 bytes, once nothing is ahead. Interrupted, it is to be made again.
     pub fn fill<R: Read>(&mut self, reader: &mut Counted<R>) -> Moved
         requires { self.old.came.ahead ≡ [] }
         ensures filled { Fills
             (R.remaining reader.old.device) (R.remaining reader.new.device) result
             self.old.came self.new.came }
+        ensures most { length self.new.came.ahead ≤ most_read }
         ensures calls { reader.new.calls ≡ one_more reader.old.calls }
         ensures failures { reader.new.failures ≡ failures_after reader.old.failures result }
     {

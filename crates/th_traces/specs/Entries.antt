@@ -1,5 +1,6 @@
 -- Entries of either kind, and what the reading of one gave (docs/FORMATS.md, "Traces").
-use Rattle.std.specs.Prelude.{◌≡◌, ◌⊎◌, ℕ, Bool, List, Option, Some, None, Result, Ok, Err}
+use Rattle.std.specs.Prelude.{◌≡◌, ◌⊎◌, ℕ, Bool, List, [], ◌∷◌, codes, Option, Some, None, Result, Ok, Err}
+use Rattle.th_lines.specs.Fields.{number_last}
 use Rattle.th_lines.specs.Reads.{IsAsked}
 use Rattle.th_traces.specs.declared.fault.EntryFault.{EntryFault}
 use Rattle.th_traces.specs.declared.fault.EntryFault.TheVariants.{BadCall, BadReply, Short}
@@ -10,6 +11,7 @@ use Rattle.th_traces.specs.declared.entry.Entry.TheVariants as entry
 use Rattle.th_traces.specs.Broadcast as broadcast_spelled
 use Rattle.th_traces.specs.BroadcastWords as broadcast
 use Rattle.th_traces.specs.Spelled.{Bytes}
+use Rattle.th_traces.specs.Tables.{by_table}
 use Rattle.th_traces.specs.Watch as watch_spelled
 use Rattle.th_traces.specs.WatchWords as watch
 
@@ -40,3 +42,7 @@ Reads (head.Broadcast version) result call reply =
 Reads head.Watch result call reply =
     ReadsEntry watch.gives_value watch.has_value entry.Watch
     result (watch.call_of call) (λ c. watch.reply_of c reply)
+
+-- the number of entries that the last line says
+abbrev pub end_of : List ℕ → Option ℕ
+end_of line = by_table ((codes "END", number_last (λ count. count)) ∷ []) line

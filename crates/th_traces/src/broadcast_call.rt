@@ -13,9 +13,13 @@ use th_lines::LineFault;
 use th_lines::fields::cut;
 use th_model::{BCall, RxId, TxId, Value};
 
-// The call that a line says in a trace of this version. Memory is asked for its value alone.
+/// The call that a line says in a trace of this version, without its line end. Linear in the line.
+///
+/// # Errors
+///
+/// `BadLine` where it says none; `Short` where it does, and memory for the call's value was refused.
 #[tactic(auto, unfolding(crate::specs::BroadcastWords::call_of))]
-pub fn read_call(alloc: Global, version: Version, line: &[u8]) -> Result<BCall<Value>, LineFault>
+pub fn read_broadcast_call(alloc: Global, version: Version, line: &[u8]) -> Result<BCall<Value>, LineFault>
     ensures { Reads gives_value result (call_of version line.now) }
 {
     let (letter, rest) = cut(line);
@@ -44,7 +48,7 @@ fn has_call(version: Version, call: &BCall<Value>) -> bool
 }
 
 // The value that a call gives.
-pub fn value_given(call: &BCall<Value>) -> Option<&Value>
+pub(crate) fn value_given(call: &BCall<Value>) -> Option<&Value>
     ensures { option_map (λ value. value.now) result ≡ value_given call.now }
 {
     match call {

@@ -12,10 +12,14 @@ use th_lines::LineFault;
 use th_lines::fields::cut;
 use th_model::{BCall, BReply, RxId, TxId, Value};
 
-// The reply to the call that a line says. Memory is asked for its value alone; one that is handed
-// back is the call's own.
+/// The reply to the call that a line says, without its line end. A value that is handed back is the
+/// call's own, and shares its bytes. Linear in the line.
+///
+/// # Errors
+///
+/// `BadLine` where it says none; `Short` where it does, and memory for the reply's value was refused.
 #[tactic(auto, unfolding(crate::specs::BroadcastWords::reply_of))]
-pub fn read_reply(
+pub fn read_broadcast_reply(
     alloc: Global,
     call: &BCall<Value>,
     line: &[u8],

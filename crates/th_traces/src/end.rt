@@ -1,10 +1,13 @@
 //! The last line of a trace.
 ghost use Rattle.std.specs.Prelude.{◌≡◌, ◌+◌, ◌≤◌, ◌++◌, IsOk, OnOk, OnErr, vec_len, vec_capacity};
 ghost use Rattle.th_lines.specs.Replies.{ended};
+ghost use Rattle.th_traces.specs.Entries.{end_of};
 ghost use Rattle.th_traces.specs.Spelled.{end_line};
 
+use crate::fields::last_number;
 use crate::put::put_number;
 use std::alloc::AllocError;
+use th_lines::fields::cut;
 
 /// Appends the last line of a trace with so many entries, or leaves the text as it was where there
 /// is no memory for it. There is, where 4,096 bytes are free.
@@ -18,4 +21,16 @@ pub fn print_end(entries: u64, out: &mut Vec<u8>) -> Result<(), AllocError>
     out.reserve(4096)?;
     put_number(b"END ", entries, out);
     Ok(())
+}
+
+/// The number of entries that a line, without its line end, says as the last line of a trace; `None`
+/// where it is no such line.
+pub fn read_end(line: &[u8]) -> Option<u64>
+    ensures { result ≡ end_of line.now }
+{
+    let (word, rest) = cut(line);
+    if word != b"END".as_slice() {
+        return None;
+    }
+    last_number(rest)
 }

@@ -5,11 +5,14 @@ ghost use Rattle.th_traces.specs.BroadcastWords as broadcast;
 ghost use Rattle.th_traces.specs.WatchWords as watch;
 ghost use Rattle.th_traces.specs.Entries.{Reads, ReadsEntry, entry_fields};
 
+use crate::broadcast_call::read_broadcast_call;
+use crate::broadcast_reply::read_broadcast_reply;
 use crate::broadcast_entry::print_broadcast_entry;
 use crate::fault::EntryFault;
 use crate::head::{Head, Version};
 use crate::watch_entry::print_watch_entry;
-use crate::{broadcast_call, broadcast_reply, watch_call, watch_reply};
+use crate::watch_call::read_watch_call;
+use crate::watch_reply::read_watch_reply;
 use std::alloc::{AllocError, Global};
 use th_lines::LineFault;
 use th_model::{BCall, BReply, Value, WCall, WReply};
@@ -72,12 +75,12 @@ fn read_broadcast_entry(
     ensures { ReadsEntry broadcast.gives_value broadcast.has_value (λ call reply. (call, reply))
         result (broadcast.call_of version call.now) (λ c. broadcast.reply_of c reply.now) }
 {
-    let call = match broadcast_call::read_call(alloc, version, call) {
+    let call = match read_broadcast_call(alloc, version, call) {
         Ok(call) => call,
         Err(LineFault::BadLine) => return Err(EntryFault::BadCall),
         Err(LineFault::Short) => return Err(EntryFault::Short),
     };
-    match broadcast_reply::read_reply(alloc, &call, reply) {
+    match read_broadcast_reply(alloc, &call, reply) {
         Ok(reply) => Ok((call, reply)),
         Err(LineFault::BadLine) => Err(EntryFault::BadReply),
         Err(LineFault::Short) => Err(EntryFault::Short),
@@ -93,12 +96,12 @@ fn read_watch_entry(
     ensures { ReadsEntry watch.gives_value watch.has_value (λ call reply. (call, reply))
         result (watch.call_of call.now) (λ c. watch.reply_of c reply.now) }
 {
-    let call = match watch_call::read_call(alloc, call) {
+    let call = match read_watch_call(alloc, call) {
         Ok(call) => call,
         Err(LineFault::BadLine) => return Err(EntryFault::BadCall),
         Err(LineFault::Short) => return Err(EntryFault::Short),
     };
-    match watch_reply::read_reply(alloc, &call, reply) {
+    match read_watch_reply(alloc, &call, reply) {
         Ok(reply) => Ok((call, reply)),
         Err(LineFault::BadLine) => Err(EntryFault::BadReply),
         Err(LineFault::Short) => Err(EntryFault::Short),

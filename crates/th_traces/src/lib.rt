@@ -7,11 +7,11 @@
 //! ```
 #![tactic(auto)]
 
-mod broadcast_call;
+pub mod broadcast_call;
 mod broadcast_draft;
 pub mod broadcast_entry;
 pub mod broadcast_lines;
-mod broadcast_reply;
+pub mod broadcast_reply;
 pub mod broadcast_trace;
 pub mod draft;
 pub mod end;
@@ -27,22 +27,26 @@ mod put;
 pub mod stage;
 #[cfg(test)]
 mod tests;
-mod watch_call;
+pub mod watch_call;
 mod watch_draft;
 pub mod watch_entry;
 pub mod watch_lines;
-mod watch_reply;
+pub mod watch_reply;
 pub mod watch_trace;
 
+pub use broadcast_call::read_broadcast_call;
 pub use broadcast_entry::print_broadcast_entry;
 pub use broadcast_lines::BroadcastLines;
+pub use broadcast_reply::read_broadcast_reply;
 pub use broadcast_trace::BroadcastTrace;
 pub use draft::{Draft, read_picture};
-pub use end::print_end;
+pub use end::{print_end, read_end};
 pub use entry::{Entry, print_entry, read_entry};
 pub use fault::EntryFault;
 pub use head::{Head, Version};
 pub use picture::Picture;
+pub use watch_call::read_watch_call;
 pub use watch_entry::print_watch_entry;
 pub use watch_lines::WatchLines;
+pub use watch_reply::read_watch_reply;
 pub use watch_trace::WatchTrace;

@@ -11,9 +11,13 @@ use th_lines::LineFault;
 use th_lines::fields::cut;
 use th_model::{Edit, RxId, TxId, Value, WCall};
 
-// The call that a line says. Memory is asked for its value alone.
+/// The call that a line says, without its line end. Linear in the line.
+///
+/// # Errors
+///
+/// `BadLine` where it says none; `Short` where it does, and memory for the call's value was refused.
 #[tactic(auto, unfolding(crate::specs::WatchWords::call_of))]
-pub fn read_call(alloc: Global, line: &[u8]) -> Result<WCall<Value>, LineFault>
+pub fn read_watch_call(alloc: Global, line: &[u8]) -> Result<WCall<Value>, LineFault>
     ensures { Reads gives_value result (call_of line.now) }
 {
     let (letter, rest) = cut(line);
@@ -28,7 +32,7 @@ pub fn read_call(alloc: Global, line: &[u8]) -> Result<WCall<Value>, LineFault>
 }
 
 // The value that a call gives.
-pub fn value_given(call: &WCall<Value>) -> Option<&Value>
+pub(crate) fn value_given(call: &WCall<Value>) -> Option<&Value>
     ensures { option_map (λ value. value.now) result ≡ value_given call.now }
 {
     match call {
