@@ -1,21 +1,24 @@
-//! Runs of logged channels, over the plain shelf.
+//! Runs of logged channels, over the plain shelf. The calls of a log stand in short functions that
+//! promise nothing, where they can for any object: each fact that a test's proof knows makes it
+//! longer, needed or not.
 ghost use Rattle.std.specs.Prelude.{◌<◌};
 
 mod audits;
 mod segments;
+mod shares;
 mod story;
 mod stubborn;
 mod watch;
 
-use crate::{Logged, MakeFault, Receipt, Refused, close};
+use crate::{Logged, MakeFault, Object, Receipt, Refused};
 use std::alloc::Global;
 use std::process::Abort;
 use std::test::Fail;
-use th_bcast::Broadcast;
+use th_bcast::{Broadcast, PictureParts};
 use th_model::BCall::{CloneTx, DropRx, DropTx, Readers, Recv, Send, Subscribe, TryRecv};
 use th_model::BReply::{Count, Done, NewRx, NewTx, Sent, Value};
 use th_model::{BCall, BReply, Capacity, RxId, TxId};
-use th_seats::{Share, settle};
+use th_seats::Share;
 use th_shelf::PlainShelf;
 
 type Channel = Broadcast<u64, PlainShelf<u64>>;
@@ -28,10 +31,23 @@ const TX: TxId = TxId(1);
 
 const RX: RxId = RxId(2);
 
+// A log of a channel, or why there is none.
+fn made(alloc: Global, channel: Channel, limit: u64, key: u64) -> Result<(Log, Share), MakeFault> {
+    Logged::new(alloc, channel, limit, key)
+}
+
+// A channel with sender 1 alone.
+fn lone(alloc: Global, capacity: u64) -> Result<Channel, Fail> {
+    Ok(Channel::new(alloc, Capacity::new(capacity)?)?)
+}
+
 // The log of a channel with sender 1 alone, and its share.
 fn opened(alloc: Global, capacity: u64, limit: u64, key: u64) -> Result<(Log, Share), Fail> {
-    let channel = Channel::new(alloc, Capacity::new(capacity)?)?;
-    Ok(Logged::new(alloc, channel, limit, key)?)
+    Ok(made(alloc, lone(alloc, capacity)?, limit, key)?)
+}
+
+fn is_ready<O: Object>(log: &Logged<O>, call: &O::Call) -> bool {
+    log.ready(call)
 }
 
 // One call that is ready; its receipt, where it was an event.
@@ -45,6 +61,14 @@ fn event(
     log.apply(share, call)
 }
 
+fn reply_of<O: Object>(receipt: &Receipt<O>) -> &O::Reply {
+    receipt.reply()
+}
+
+fn place_of<O: Object>(receipt: &Receipt<O>) -> u64 {
+    receipt.place()
+}
+
 // The receipt of a call, which has this reply.
 fn told(
     rt: &impl Abort,
@@ -54,8 +78,21 @@ fn told(
     want: BReply<u64>,
 ) -> Result<Receipt<Channel>, Fail> {
     let receipt = event(rt, log, share, call)?;
-    assert_eq!(rt; receipt.reply(), &want);
+    assert_eq!(rt; reply_of(&receipt), &want);
     Ok(receipt)
+}
+
+// The same, at this place of the history.
+fn told_at(
+    rt: &impl Abort,
+    log: &mut Log,
+    share: &mut Share,
+    row: (BCall<u64>, BReply<u64>),
+    place: u64,
+) -> Result<(), Fail> {
+    let receipt = told(rt, log, share, row.0, row.1)?;
+    agree(rt, "the place", place_of(&receipt), place);
+    Ok(())
 }
 
 // Each call of the rows has the reply beside it.
@@ -73,44 +110,67 @@ fn follow<const N: usize>(
     Ok(())
 }
 
-// A handle can always be spent, also where the limit leaves no room for anything else.
-#[test]
-fn room_is_kept_for_spending(rt: HostRuntime) -> Result<(), Fail> {
-    let (mut log, mut tx) = opened(rt.alloc(), 2, 4, KEY)?;
-    let mut rx = log.split();
-    assert_eq!(rt;
-        told(&rt, &mut log, &mut tx, Subscribe(TX), NewRx(RX))?.place(),
-        0
-    );
-    assert_eq!(rt;
-        told(&rt, &mut log, &mut tx, Send(TX, 5), Sent(1))?.place(),
-        1
-    );
-    let full = event(&rt, &mut log, &mut tx, Send(TX, 6));
-    assert_eq!(rt; full.err(), Some(Refused::LogFull(Send(TX, 6))));
-    let full = event(&rt, &mut log, &mut tx, CloneTx(TX));
-    assert_eq!(rt; full.err(), Some(Refused::LogFull(CloneTx(TX))));
-    told(&rt, &mut log, &mut rx, DropRx(RX), Done)?;
-    told(&rt, &mut log, &mut tx, DropTx(TX), Done)?;
-    assert_eq!(rt;
-        (log.len(), log.total(), log.first(), log.key()),
-        (4, 4, 0, KEY)
-    );
-    assert_eq!(rt; (tx.count(), rx.count()), (3, 1));
-    let closed = close(log, vec![in rt.alloc(); tx, rx]?);
-    assert!(rt; closed.is_ok());
-    Ok(())
+// The call is no event, for this reason.
+fn refuses(
+    rt: &impl Abort,
+    log: &mut Log,
+    share: &mut Share,
+    call: BCall<u64>,
+    want: Refused<BCall<u64>>,
+) {
+    let refused = event(rt, log, share, call).err();
+    assert_eq!(rt; refused, Some(want));
+}
+
+fn agree(rt: &impl Abort, what: &str, is: u64, want: u64) {
+    assert_eq!(rt; is, want, "{what}");
+}
+
+fn expect(rt: &impl Abort, what: &str, is: bool) {
+    assert!(rt; is, "{what}");
+}
+
+// The place of the first entry, the number of entries, and the number of all events.
+fn has_counts<O: Object>(rt: &impl Abort, log: &Logged<O>, want: (u64, u64, u64)) {
+    let counts = (log.first(), log.len(), log.total());
+    assert_eq!(rt; counts, want);
+}
+
+fn has_entry(log: &Log, number: u64, call: &BCall<u64>, reply: &BReply<u64>) -> bool {
+    log.entry(number) == Some((call, reply))
+}
+
+fn has_no_entry(log: &Log, number: u64) -> bool {
+    log.entry(number).is_none()
+}
+
+// Room for so many entries more is got, or refused for this reason.
+fn reserves<O: Object>(
+    rt: &impl Abort,
+    log: &mut Logged<O>,
+    count: u64,
+    want: Option<Refused<()>>,
+) {
+    assert_eq!(rt; log.reserve(count).err(), want);
+}
+
+// The picture at the start has this next number, and this tail.
+fn starts_at(rt: &impl Abort, start: &PictureParts<u64>, next: u64, tail: u64) {
+    assert_eq!(rt; (start.next_number(), start.window().tail()), (next, tail));
+}
+
+// Whether no log is made of a channel, for its limit.
+fn is_bad_limit(alloc: Global, channel: Channel, limit: u64) -> bool {
+    made(alloc, channel, limit, KEY).err() == Some(MakeFault::BadLimit)
 }
 
 #[test]
 fn limits_leave_room_for_the_live_handles(rt: HostRuntime) -> Result<(), Fail> {
     let pair = Channel::channel(rt.alloc(), Capacity::new(1)?)?;
-    let made = Logged::new(rt.alloc(), pair, 1, KEY);
-    assert_eq!(rt; made.err(), Some(MakeFault::BadLimit));
+    expect(&rt, "for two", is_bad_limit(rt.alloc(), pair, 1));
     for limit in [0, 1_000_001] {
-        let one = Channel::new(rt.alloc(), Capacity::new(1)?)?;
-        let made = Logged::new(rt.alloc(), one, limit, KEY);
-        assert_eq!(rt; made.err(), Some(MakeFault::BadLimit));
+        let one = lone(rt.alloc(), 1)?;
+        expect(&rt, "for one", is_bad_limit(rt.alloc(), one, limit));
     }
     opened(rt.alloc(), 1, 1, KEY)?;
     opened(rt.alloc(), 1, 1_000_000, KEY)?;
@@ -126,37 +186,20 @@ fn events_are_entries(rt: HostRuntime) -> Result<(), Fail> {
         (Subscribe(TX), NewRx(RxId(3))),
     ];
     follow(&rt, &mut log, &mut share, rows)?;
-    let next: BCall<u64> = Recv(RxId(3));
-    assert!(rt; !log.ready(&next));
-    assert_eq!(rt; log.len(), 2);
-    assert_eq!(rt; log.entry(0), Some((&CloneTx(TX), &NewTx(TxId(2)))));
-    assert_eq!(rt; log.entry(1), Some((&Subscribe(TX), &NewRx(RxId(3)))));
-    assert_eq!(rt; log.entry(2), None);
-    assert_eq!(rt; log.start().next_number(), 2);
-    assert_eq!(rt; log.start().window().tail(), 0);
-    Ok(())
-}
-
-#[test]
-fn shares_settle_when_all_came_back(rt: HostRuntime) -> Result<(), Fail> {
-    let (mut log, mut tx) = opened(rt.alloc(), 2, 9, KEY)?;
-    let rx = log.split();
-    told(&rt, &mut log, &mut tx, Subscribe(TX), NewRx(RX))?;
-    let (_, mut strange) = opened(rt.alloc(), 2, 9, KEY + 1)?;
-    let foreign = event(&rt, &mut log, &mut strange, Readers(TX));
-    assert_eq!(rt; foreign.err(), Some(Refused::Foreign(Readers(TX))));
-    assert_eq!(rt; strange.count(), 0);
-    let (book, segment) = log.finish();
-    assert_eq!(rt; segment.len(), 1);
-    let withheld = settle(book, vec![in rt.alloc(); tx]?);
-    let Err((book, mut shares)) = withheld else {
-        return Err(Fail::new("settled with a share missing"));
-    };
-    shares.push(rx)?;
-    let Ok(settled) = settle(book, shares) else {
-        return Err(Fail::new("not settled"));
-    };
-    assert_eq!(rt; settled.total, 1);
+    expect(&rt, "nothing to receive", !is_ready(&log, &Recv(RxId(3))));
+    has_counts(&rt, &log, (0, 2, 2));
+    expect(
+        &rt,
+        "the clone",
+        has_entry(&log, 0, &CloneTx(TX), &NewTx(TxId(2))),
+    );
+    expect(
+        &rt,
+        "the receiver",
+        has_entry(&log, 1, &Subscribe(TX), &NewRx(RxId(3))),
+    );
+    expect(&rt, "no third entry", has_no_entry(&log, 2));
+    starts_at(&rt, log.start(), 2, 0);
     Ok(())
 }
 
@@ -164,11 +207,11 @@ fn shares_settle_when_all_came_back(rt: HostRuntime) -> Result<(), Fail> {
 fn reserved_room_is_there(rt: HostRuntime) -> Result<(), Fail> {
     let (mut log, mut tx) = opened(rt.alloc(), 2, 4, KEY)?;
     told(&rt, &mut log, &mut tx, Subscribe(TX), NewRx(RX))?;
-    assert_eq!(rt; log.reserve(2).err(), Some(Refused::LogFull(())));
-    log.reserve(1)?;
+    reserves(&rt, &mut log, 2, Some(Refused::LogFull(())));
+    reserves(&rt, &mut log, 1, None);
     told(&rt, &mut log, &mut tx, Readers(TX), Count(1))?;
-    assert_eq!(rt; log.reserve(1).err(), Some(Refused::LogFull(())));
-    log.reserve(0)?;
+    reserves(&rt, &mut log, 1, Some(Refused::LogFull(())));
+    reserves(&rt, &mut log, 0, None);
     Ok(())
 }
 
@@ -178,14 +221,16 @@ fn a_cut_makes_room(rt: HostRuntime) -> Result<(), Fail> {
     let (mut log, mut tx) = opened(rt.alloc(), 2, 4, KEY)?;
     let rows = [(Subscribe(TX), NewRx(RX)), (Send(TX, 5), Sent(1))];
     follow(&rt, &mut log, &mut tx, rows)?;
-    let full = event(&rt, &mut log, &mut tx, Send(TX, 6));
-    assert_eq!(rt; full.err(), Some(Refused::LogFull(Send(TX, 6))));
-    log.cut()?;
-    assert_eq!(rt;
-        told(&rt, &mut log, &mut tx, Send(TX, 6), Sent(1))?.place(),
-        2
+    refuses(
+        &rt,
+        &mut log,
+        &mut tx,
+        Send(TX, 6),
+        Refused::LogFull(Send(TX, 6)),
     );
-    assert_eq!(rt; (log.first(), log.len(), log.total()), (2, 1, 3));
+    segments::cut(&mut log)?;
+    told_at(&rt, &mut log, &mut tx, (Send(TX, 6), Sent(1)), 2)?;
+    has_counts(&rt, &log, (2, 1, 3));
     told(&rt, &mut log, &mut tx, TryRecv(RX), Value(5))?;
     Ok(())
 }

@@ -1,14 +1,15 @@
 //! The story of docs/HISTORIES.md: what Bob was told, before a cut and after it.
-use crate::tests::audits::noted;
-use crate::tests::segments::joined;
-use crate::tests::{Channel, KEY, Log, RX, TX, follow, opened, told};
-use crate::{AuditFault, Audited, Receipt, Segment, audit};
+use crate::tests::audits::{audits, one_diary};
+use crate::tests::segments::{cut, joined, spans};
+use crate::tests::shares::{finished, settled, split};
+use crate::tests::{Channel, KEY, Log, RX, TX, agree, follow, opened, told};
+use crate::{AuditFault, Audited, Receipt, Segment};
 use std::alloc::Global;
 use std::process::Abort;
 use std::test::Fail;
 use th_model::BCall::{DropRx, Send, Subscribe, TryRecv};
 use th_model::BReply::{Done, Lagged, NewRx, Sent, Value};
-use th_seats::{Share, settle};
+use th_seats::Share;
 
 // Alice sends three values, and Bob, who has missed one, receives the next.
 fn play_first(
@@ -51,12 +52,12 @@ fn judge(
     second: Segment<Channel>,
     receipts: Vec<Receipt<Channel>>,
 ) -> Result<(), Fail> {
-    let diaries = vec![in alloc; noted(alloc, receipts)?]?;
-    let alone = audit(alloc, &second, &diaries);
-    assert_eq!(rt; alone.err(), Some(AuditFault::Stranger { place: 4 }));
+    let diaries = one_diary(alloc, receipts)?;
+    let strange = Err(AuditFault::Stranger { place: 4 });
+    audits(rt, alloc, &second, &diaries, strange);
     let whole = joined(first, second)?;
-    assert_eq!(rt; whole.len(), 9);
-    assert_eq!(rt; audit(alloc, &whole, &diaries), Ok(Audited));
+    spans(rt, &whole, 0, 9);
+    audits(rt, alloc, &whole, &diaries, Ok(Audited));
     Ok(())
 }
 
@@ -64,17 +65,18 @@ fn judge(
 fn bob_shows_what_he_was_told(rt: HostRuntime) -> Result<(), Fail> {
     let (mut log, mut alice) = opened(rt.alloc(), 2, 100, KEY)?;
     told(&rt, &mut log, &mut alice, Subscribe(TX), NewRx(RX))?;
-    let mut bob = log.split();
+    let mut bob = split(&mut log);
     let mut receipts = play_first(&rt, rt.alloc(), &mut log, &mut alice, &mut bob)?;
-    let first = log.cut()?;
+    let first = cut(&mut log)?;
     receipts.push(play_second(&rt, &mut log, &mut alice, &mut bob)?)?;
-    let (book, second) = log.finish();
-    assert_eq!(rt; (first.first(), first.len()), (0, 6));
-    assert_eq!(rt; (second.first(), second.len()), (6, 3));
-    assert_eq!(rt; (alice.count(), bob.count()), (5, 4));
-    let Ok(settled) = settle(book, vec![in rt.alloc(); alice, bob]?) else {
+    let (book, second) = finished(log);
+    spans(&rt, &first, 0, 6);
+    spans(&rt, &second, 6, 3);
+    agree(&rt, "Alice's share", alice.count(), 5);
+    agree(&rt, "Bob's share", bob.count(), 4);
+    let Ok(total) = settled(book, vec![in rt.alloc(); alice, bob]?) else {
         return Err(Fail::new("not settled"));
     };
-    assert_eq!(rt; settled.total, 9);
+    agree(&rt, "all events", total, 9);
     judge(&rt, rt.alloc(), first, second, receipts)
 }

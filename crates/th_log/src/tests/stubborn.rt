@@ -5,6 +5,7 @@ ghost use Rattle.std.specs.Prelude.{◌≡◌};
 use crate::{Logged, Refused};
 use std::alloc::{AllocError, Global};
 use std::clone::Clone;
+use std::process::Abort;
 use std::test::Fail;
 use th_bcast::Broadcast;
 use th_model::BCall::{DropRx, DropTx, Send};
@@ -26,26 +27,51 @@ impl Clone for Stubborn {
 
 type Channel = Broadcast<Stubborn, PlainShelf<Stubborn>>;
 
-fn paired(alloc: Global) -> Result<(Logged<Channel>, Share), Fail> {
+type Log = Logged<Channel>;
+
+fn paired(alloc: Global) -> Result<(Log, Share), Fail> {
     let channel = Channel::channel(alloc, Capacity::new(2)?)?;
     Ok(Logged::new(alloc, channel, 4, 7)?)
+}
+
+// Why a call that is ready was no event.
+fn refused(
+    rt: &impl Abort,
+    log: &mut Log,
+    share: &mut Share,
+    call: BCall<Stubborn>,
+) -> Option<Refused<BCall<Stubborn>>> {
+    assert!(rt; log.ready(&call));
+    log.apply(share, call).err()
+}
+
+// The entries, all events, and those of the share.
+fn has_counts(rt: &impl Abort, log: &Log, share: &Share, want: (u64, u64, u64)) {
+    let counts = (log.len(), log.total(), share.count());
+    assert_eq!(rt; counts, want);
+}
+
+// The call is refused for this reason, or is an event.
+fn answers(
+    rt: &impl Abort,
+    log: &mut Log,
+    share: &mut Share,
+    call: BCall<Stubborn>,
+    want: Option<Refused<BCall<Stubborn>>>,
+) {
+    assert_eq!(rt; refused(rt, log, share, call), want);
 }
 
 #[test]
 fn refused_memory_makes_no_event(rt: HostRuntime) -> Result<(), Fail> {
     let (mut log, mut share) = paired(rt.alloc())?;
-    let call: BCall<Stubborn> = Send(TxId(1), Stubborn(5));
-    assert!(rt; log.ready(&call));
-    let refused = log.apply(&mut share, call);
-    assert_eq!(rt;
-        refused.err(),
-        Some(Refused::Short(Send(TxId(1), Stubborn(5))))
-    );
-    assert_eq!(rt; (log.len(), log.total(), share.count()), (0, 0, 0));
+    let send = Send(TxId(1), Stubborn(5));
+    let short = Refused::Short(Send(TxId(1), Stubborn(5)));
+    answers(&rt, &mut log, &mut share, send, Some(short));
+    has_counts(&rt, &log, &share, (0, 0, 0));
     for call in [DropRx(RxId(2)), DropTx(TxId(1))] {
-        assert!(rt; log.ready(&call));
-        log.apply(&mut share, call)?;
+        answers(&rt, &mut log, &mut share, call, None);
     }
-    assert_eq!(rt; (log.len(), share.count()), (2, 2));
+    has_counts(&rt, &log, &share, (2, 2, 2));
     Ok(())
 }

@@ -1,7 +1,10 @@
 //! A watch channel's log.
 ghost use Rattle.std.specs.Prelude.{◌<◌};
 
-use crate::{Logged, Segment};
+use crate::tests::segments::spans;
+use crate::tests::shares::finished;
+use crate::tests::{expect, is_ready, reply_of};
+use crate::{JoinFault, Logged, Receipt, Segment};
 use std::alloc::Global;
 use std::process::Abort;
 use std::test::Fail;
@@ -11,9 +14,11 @@ use th_model::WCall::{
 use th_model::WReply::{Modified, NewRx, NewTx, NoReceivers, Shown, Was};
 use th_model::{Edit, RxId, TxId, WCall, WReply};
 use th_seats::Share;
-use th_watch::Watch;
+use th_watch::{PictureParts, Watch};
 
-type Log = Logged<Watch<u64>>;
+type Channel = Watch<u64>;
+
+type Log = Logged<Channel>;
 
 const FIRST: TxId = TxId(1);
 
@@ -27,6 +32,17 @@ fn opened(alloc: Global) -> Result<(Log, Share), Fail> {
     Ok(Logged::new(alloc, channel, 20, 7)?)
 }
 
+// One call that is ready.
+fn event(
+    rt: &impl Abort,
+    log: &mut Log,
+    share: &mut Share,
+    call: WCall<u64>,
+) -> Result<Receipt<Channel>, Fail> {
+    assert!(rt; log.ready(&call));
+    Ok(log.apply(share, call)?)
+}
+
 // Each call of the rows has the reply beside it.
 fn follow<const N: usize>(
     rt: &impl Abort,
@@ -37,9 +53,8 @@ fn follow<const N: usize>(
     requires { N < 100 }
 {
     for (call, want) in rows {
-        assert!(rt; log.ready(&call));
-        let receipt = log.apply(share, call)?;
-        assert_eq!(rt; receipt.reply(), &want);
+        let receipt = event(rt, log, share, call)?;
+        assert_eq!(rt; reply_of(&receipt), &want);
     }
     Ok(())
 }
@@ -57,20 +72,54 @@ fn play(rt: &impl Abort, log: &mut Log, share: &mut Share) -> Result<(), Fail> {
     follow(rt, log, share, rows)
 }
 
+fn cut(log: &mut Log) -> Result<Segment<Channel>, Fail> {
+    Ok(log.cut()?)
+}
+
+fn join(
+    a: Segment<Channel>,
+    b: Segment<Channel>,
+) -> Result<Segment<Channel>, JoinFault<Segment<Channel>>> {
+    Segment::join(a, b)
+}
+
+fn joined(a: Segment<Channel>, b: Segment<Channel>) -> Result<Segment<Channel>, Fail> {
+    let Ok(segment) = join(a, b) else {
+        return Err(Fail::new("apart"));
+    };
+    Ok(segment)
+}
+
+fn has_entry(
+    segment: &Segment<Channel>,
+    number: u64,
+    call: &WCall<u64>,
+    reply: &WReply<u64>,
+) -> bool {
+    segment.entry(number) == Some((call, reply))
+}
+
+// The first value, with one sender and no reader.
+fn is_new(rt: &impl Abort, start: &PictureParts<u64>) {
+    assert_eq!(rt; (start.version(), start.value()), (1, &1));
+    assert_eq!(rt; start.senders().len(), 1);
+    assert!(rt; start.readers().is_empty());
+}
+
+// The second version, which reader 3 has seen.
+fn is_seen(rt: &impl Abort, start: &PictureParts<u64>) {
+    assert_eq!(rt; (start.version(), start.next_number()), (2, 4));
+    assert_eq!(rt; start.readers().get(&3), Some(&false));
+}
+
 #[test]
 fn watch_channels_are_logged_too(rt: HostRuntime) -> Result<(), Fail> {
     let (mut log, mut share) = opened(rt.alloc())?;
     play(&rt, &mut log, &mut share)?;
-    let segment = log.cut()?;
-    assert_eq!(rt; segment.len(), 6);
-    assert_eq!(rt;
-        (segment.start().version(), segment.start().value()),
-        (1, &1)
-    );
-    assert_eq!(rt; segment.start().senders().len(), 1);
-    assert!(rt; segment.start().readers().is_empty());
-    assert_eq!(rt; (log.start().version(), log.start().next_number()), (2, 4));
-    assert_eq!(rt; log.start().readers().get(&3), Some(&false));
+    let segment = cut(&mut log)?;
+    spans(&rt, &segment, 0, 6);
+    is_new(&rt, segment.start());
+    is_seen(&rt, log.start());
     Ok(())
 }
 
@@ -78,20 +127,20 @@ fn watch_channels_are_logged_too(rt: HostRuntime) -> Result<(), Fail> {
 fn edits_are_entries(rt: HostRuntime) -> Result<(), Fail> {
     let (mut log, mut share) = opened(rt.alloc())?;
     play(&rt, &mut log, &mut share)?;
-    let one = log.cut()?;
-    let wait: WCall<u64> = Changed(READER);
-    assert!(rt; !log.ready(&wait));
+    let one = cut(&mut log)?;
+    expect(&rt, "nothing is new", !is_ready(&log, &Changed(READER)));
     let rows = [
         (EditBy(SECOND, Edit::Differ(3)), Modified(true)),
         (Take(READER), Shown(3, true)),
     ];
     follow(&rt, &mut log, &mut share, rows)?;
-    let (_, last) = log.finish();
-    let Ok(all) = Segment::join(one, last) else {
-        return Err(Fail::new("apart"));
-    };
-    assert_eq!(rt; all.len(), 8);
+    let all = joined(one, finished(log).1)?;
+    spans(&rt, &all, 0, 8);
     let differ = EditBy(SECOND, Edit::Differ(3));
-    assert_eq!(rt; all.entry(6), Some((&differ, &Modified(true))));
+    expect(
+        &rt,
+        "the edit",
+        has_entry(&all, 6, &differ, &Modified(true)),
+    );
     Ok(())
 }
