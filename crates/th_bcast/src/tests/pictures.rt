@@ -1,14 +1,15 @@
 //! A channel made from its picture, and the parts of it.
 use crate::PictureParts;
-use crate::tests::{Channel, follow, reply_to};
+use crate::tests::{Channel, answers, follow};
 use std::alloc::{AllocError, Global};
 use std::collections::{BTreeMap, BTreeSet, VecDeque};
+use std::process::Abort;
 use std::test::Fail;
 use th_model::BCall::{
     CloneTx, DropRx, DropTx, Left, Queued, Readers, Send, Subscribe, SubscribeOldest, TryRecv,
 };
 use th_model::BReply::{Closed, Count, Done, Empty, Lagged, NewRx, NewTx, NoHandle, Sent, Value};
-use th_model::{Capacity, RxId, TxId};
+use th_model::{BCall, BReply, Capacity, RxId, TxId};
 use th_shelf::WindowParts;
 
 // Four values are kept, 13 to 16 at the positions 1,003 to 1,006. Receiver 2 is two positions behind them, receiver 5
@@ -58,36 +59,84 @@ fn late_channel(alloc: Global) -> Result<Channel, Fail> {
     }
 }
 
+// Capacity in force, tail, low, and the next number.
+fn has_numbers(rt: &impl Abort, channel: &Channel, want: (u64, u64, u64, u64)) {
+    let bounds = (channel.capacity(), channel.tail(), channel.low());
+    assert_eq!(rt; bounds, (want.0, want.1, want.2));
+    assert_eq!(rt; channel.next_number(), want.3);
+}
+
+fn has_counts(rt: &impl Abort, channel: &Channel, receivers: u64, senders: u64) {
+    let counts = (channel.receiver_count(), channel.sender_count());
+    assert_eq!(rt; counts, (receivers, senders));
+}
+
+fn keeps(rt: &impl Abort, channel: &Channel, rows: [(u64, Option<&u64>); 5]) {
+    for (position, want) in rows {
+        assert_eq!(rt; channel.value(position), want, "at {position}");
+    }
+}
+
+fn has_places(rt: &impl Abort, channel: &Channel, rows: [(RxId, Option<u64>); 4]) {
+    for (receiver, want) in rows {
+        assert_eq!(rt; channel.place(receiver), want, "{receiver:?}");
+    }
+}
+
+fn has_receivers(
+    rt: &impl Abort,
+    channel: &Channel,
+    rows: [(Option<RxId>, Option<(RxId, u64)>); 4],
+) {
+    for (after, want) in rows {
+        assert_eq!(rt; channel.next_receiver(after), want, "after {after:?}");
+    }
+}
+
+fn has_senders(rt: &impl Abort, channel: &Channel, rows: [(Option<TxId>, Option<TxId>); 3]) {
+    for (after, want) in rows {
+        assert_eq!(rt; channel.next_sender(after), want, "after {after:?}");
+    }
+}
+
+fn is_live(channel: &Channel, sender: TxId) -> bool {
+    channel.has_sender(sender)
+}
+
 #[test]
 fn each_part_is_told(rt: HostRuntime) -> Result<(), Fail> {
     let channel = late_channel(rt.alloc())?;
-    assert_eq!(rt; channel.capacity(), 4);
-    assert_eq!(rt; channel.tail(), 1_007);
-    assert_eq!(rt; channel.low(), 1_003);
-    for (position, want) in [
+    has_numbers(&rt, &channel, (4, 1_007, 1_003, 11));
+    has_counts(&rt, &channel, 3, 2);
+    let values = [
         (0, None),
         (1_002, None),
         (1_003, Some(&13)),
         (1_006, Some(&16)),
         (1_007, None),
-    ] {
-        assert_eq!(rt; channel.value(position), want, "at {position}");
-    }
-    assert_eq!(rt; channel.receiver_count(), 3);
-    assert_eq!(rt; channel.place(BEHIND), Some(1_001));
-    assert_eq!(rt; channel.place(MIDDLE), Some(1_005));
-    assert_eq!(rt; channel.place(AHEAD), Some(1_007));
-    assert_eq!(rt; channel.place(RxId(OLD.0)), None);
-    assert_eq!(rt; channel.next_receiver(None), Some((BEHIND, 1_001)));
-    assert_eq!(rt; channel.next_receiver(Some(BEHIND)), Some((MIDDLE, 1_005)));
-    assert_eq!(rt; channel.next_receiver(Some(MIDDLE)), Some((AHEAD, 1_007)));
-    assert_eq!(rt; channel.next_receiver(Some(AHEAD)), None);
-    assert_eq!(rt; channel.sender_count(), 2);
-    assert!(rt; channel.has_sender(OLD) && !channel.has_sender(TxId(1)));
-    assert_eq!(rt; channel.next_sender(None), Some(OLD));
-    assert_eq!(rt; channel.next_sender(Some(OLD)), Some(YOUNG));
-    assert_eq!(rt; channel.next_sender(Some(YOUNG)), None);
-    assert_eq!(rt; channel.next_number(), 11);
+    ];
+    keeps(&rt, &channel, values);
+    let places = [
+        (BEHIND, Some(1_001)),
+        (MIDDLE, Some(1_005)),
+        (AHEAD, Some(1_007)),
+        (RxId(OLD.0), None),
+    ];
+    has_places(&rt, &channel, places);
+    let receivers = [
+        (None, Some((BEHIND, 1_001))),
+        (Some(BEHIND), Some((MIDDLE, 1_005))),
+        (Some(MIDDLE), Some((AHEAD, 1_007))),
+        (Some(AHEAD), None),
+    ];
+    has_receivers(&rt, &channel, receivers);
+    let senders = [
+        (None, Some(OLD)),
+        (Some(OLD), Some(YOUNG)),
+        (Some(YOUNG), None),
+    ];
+    has_senders(&rt, &channel, senders);
+    assert!(rt; is_live(&channel, OLD) && !is_live(&channel, TxId(1)));
     Ok(())
 }
 
@@ -143,31 +192,61 @@ fn picture_of(alloc: Global, channel: &Channel) -> Result<PictureParts<u64>, Fai
     }
 }
 
+fn is_same(one: &PictureParts<u64>, other: &PictureParts<u64>) -> bool {
+    one.is_same(other)
+}
+
+// The picture of the channel at first.
+fn is_late(rt: &impl Abort, picture: &PictureParts<u64>) {
+    assert_eq!(rt; (picture.senders().len(), picture.next_number()), (2, 11));
+    is_late_window(rt, picture.window());
+}
+
+fn is_late_window(rt: &impl Abort, window: &WindowParts<u64>) {
+    assert_eq!(rt; (window.capacity(), window.tail()), (4, 1_007));
+    assert_eq!(rt;
+        (window.kept().len(), window.kept().front()),
+        (4, Some(&13))
+    );
+    assert_eq!(rt; window.places().get(&2), Some(&1_001));
+}
+
 #[test]
 fn a_picture_is_taken(rt: HostRuntime) -> Result<(), Fail> {
     let mut channel = late_channel(rt.alloc())?;
     let picture = picture_of(rt.alloc(), &channel)?;
-    let twin = late_channel(rt.alloc())?;
-    assert!(rt; picture.is_same(&picture_of(rt.alloc(), &twin)?));
-    assert_eq!(rt;
-        (picture.window().capacity(), picture.window().tail()),
-        (4, 1_007)
-    );
-    assert_eq!(rt; picture.window().kept().front(), Some(&13));
-    assert_eq!(rt; picture.window().kept().len(), 4);
-    assert_eq!(rt; picture.window().places().get(&2), Some(&1_001));
-    assert_eq!(rt; (picture.senders().len(), picture.next_number()), (2, 11));
-    let lag = [(TryRecv(BEHIND), Lagged(2))];
-    follow(&rt, &mut channel, lag)?;
-    assert!(rt; !picture.is_same(&picture_of(rt.alloc(), &channel)?));
+    let twin = picture_of(rt.alloc(), &late_channel(rt.alloc())?)?;
+    assert!(rt; is_same(&picture, &twin));
+    is_late(&rt, &picture);
+    answers(&rt, &mut channel, TryRecv(BEHIND), Lagged(2))?;
+    assert!(rt; !is_same(&picture, &picture_of(rt.alloc(), &channel)?));
     Ok(())
+}
+
+// A call whose reply is foreseen, and the handles that are live after it.
+fn foresees(
+    rt: &impl Abort,
+    channel: &mut Channel,
+    call: BCall<u64>,
+    want: BReply<u64>,
+    live: u64,
+) -> Result<(), Fail> {
+    assert_eq!(rt; channel.live_after(&call), live);
+    assert_eq!(rt; channel.foresee(&call)?, want);
+    answers(rt, channel, call, want)?;
+    has_live(rt, channel, live);
+    Ok(())
+}
+
+fn has_live(rt: &impl Abort, channel: &Channel, want: u64) {
+    assert_eq!(rt; channel.live(), want);
 }
 
 // Five handles are live at first.
 #[test]
 fn replies_are_foreseen(rt: HostRuntime) -> Result<(), Fail> {
     let mut channel = late_channel(rt.alloc())?;
-    assert_eq!(rt; channel.live(), 5);
+    has_live(&rt, &channel, 5);
     let rows = [
         (Send(TxId(1), 17), NoHandle(Some(17)), 5),
         (TryRecv(BEHIND), Lagged(2), 5),
@@ -179,10 +258,7 @@ fn replies_are_foreseen(rt: HostRuntime) -> Result<(), Fail> {
         (DropRx(RxId(12)), NoHandle(None), 5),
     ];
     for (call, want, live) in rows {
-        assert_eq!(rt; channel.live_after(&call), live);
-        assert_eq!(rt; channel.foresee(&call)?, want);
-        assert_eq!(rt; reply_to(&mut channel, call)?, want);
-        assert_eq!(rt; channel.live(), live);
+        foresees(&rt, &mut channel, call, want, live)?;
     }
     Ok(())
 }
