@@ -19,7 +19,11 @@ use th_model::{BCall, RxId, TxId, Value};
 ///
 /// `BadLine` where it says none; `Short` where it does, and memory for the call's value was refused.
 #[tactic(auto, unfolding(crate::specs::BroadcastWords::call_of))]
-pub fn read_broadcast_call(alloc: Global, version: Version, line: &[u8]) -> Result<BCall<Value>, LineFault>
+pub fn read_broadcast_call(
+    alloc: Global,
+    version: Version,
+    line: &[u8],
+) -> Result<BCall<Value>, LineFault>
     ensures { Reads gives_value result (call_of version line.now) }
 {
     let (letter, rest) = cut(line);

@@ -6,12 +6,12 @@ ghost use Rattle.th_traces.specs.WatchWords as watch;
 ghost use Rattle.th_traces.specs.Entries.{Reads, ReadsEntry, entry_fields};
 
 use crate::broadcast_call::read_broadcast_call;
-use crate::broadcast_reply::read_broadcast_reply;
 use crate::broadcast_entry::print_broadcast_entry;
+use crate::broadcast_reply::read_broadcast_reply;
 use crate::fault::EntryFault;
 use crate::head::{Head, Version};
-use crate::watch_entry::print_watch_entry;
 use crate::watch_call::read_watch_call;
+use crate::watch_entry::print_watch_entry;
 use crate::watch_reply::read_watch_reply;
 use std::alloc::{AllocError, Global};
 use th_lines::LineFault;

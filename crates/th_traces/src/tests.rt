@@ -238,6 +238,14 @@ fn printed_again(alloc: Global, trace: &'static str) -> Result<Vec<u8>, Fail> {
 }
 
 #[test]
+fn the_end_line_is_read(rt: HostRuntime) {
+    assert!(rt; read_end(b"END 12") == Some(12), "12 entries");
+    assert!(rt; read_end(b"END 012").is_none(), "a zero in front");
+    assert!(rt; read_end(b"END 1 2").is_none(), "a field more");
+    assert!(rt; read_end(b"BEGIN").is_none(), "another line");
+}
+
+#[test]
 fn traces_are_read_and_printed(rt: HostRuntime) -> Result<(), Fail> {
     for trace in [LAGS, MIDDLE, WATCH, OLDEST, BROADCAST_WORDS, WATCH_WORDS] {
         let printed = printed_again(rt.alloc(), trace)?;
