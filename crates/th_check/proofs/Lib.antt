@@ -1,0 +1,5 @@
+pub mod Running
+pub mod Turning
+pub mod Holding
+pub mod Taking
+pub mod Reading
