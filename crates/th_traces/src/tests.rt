@@ -255,18 +255,26 @@ fn traces_are_read_and_printed(rt: HostRuntime) -> Result<(), Fail> {
 }
 
 #[test]
-fn entries_are_calls_and_replies(rt: HostRuntime) -> Result<(), Fail> {
-    let alloc = rt.alloc();
+fn an_entry_is_a_call_and_its_reply(rt: HostRuntime) -> Result<(), Fail> {
     let broadcast = Head::Broadcast(Version::One);
     let lagged = Entry::Broadcast(BCall::TryRecv(RxId(3)), BReply::Lagged(1));
-    assert!(rt; entry(alloc, broadcast, b"C try-recv 3", b"R lagged 1")? == lagged);
-    let value = Value::new(alloc, b" z")?;
-    let back = Value::new(alloc, b" z")?;
+    assert!(rt; entry(rt.alloc(), broadcast, b"C try-recv 3", b"R lagged 1")? == lagged);
+    Ok(())
+}
+
+#[test]
+fn a_reply_hands_the_value_back(rt: HostRuntime) -> Result<(), Fail> {
+    let value = Value::new(rt.alloc(), b" z")?;
+    let back = Value::new(rt.alloc(), b" z")?;
     let refused = Entry::Watch(WCall::Send(TxId(2), value), WReply::NoReceivers(back));
-    assert!(rt; entry(alloc, Head::Watch, b"C send 2  z", b"R no-receivers")? == refused);
+    assert!(rt; entry(rt.alloc(), Head::Watch, b"C send 2  z", b"R no-receivers")? == refused);
+    Ok(())
+}
+
+#[test]
+fn one_call_is_of_version_2(rt: HostRuntime) {
     assert!(rt; Version::One.with_call(&BCall::SubscribeOldest(TxId(1))) == Version::Two);
     assert!(rt; Version::One.with_call(&BCall::Subscribe(TxId(1))) == Version::One);
-    Ok(())
 }
 
 #[test]

@@ -1,0 +1,5 @@
+pub mod Handles
+pub mod Locked
+pub mod Numbers
+pub mod Pairs
+pub mod Replies

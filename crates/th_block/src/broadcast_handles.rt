@@ -1,0 +1,277 @@
+//! Senders and receivers of a broadcast channel.
+ghost use Rattle.std.specs.Prelude.{◌≡◌, ◌↔◌, IfErr, IfOk, OnOk};
+ghost use Rattle.th_log.specs.History.{IsLimit};
+ghost use Rattle.th_model.specs.Limits.{ClonesAreEqual};
+ghost use Rattle.th_block.specs.Handles.{Calls, CallsFor, IsNext, Tells, call_of, first_holder};
+ghost use Rattle.th_block.specs.Numbers.{rx, tx};
+ghost use Rattle.th_block.specs.Pairs.{IsReplaced};
+ghost use Rattle.th_block.specs.Replies.{ends, made_by};
+
+use crate::channel::{Channel, Receives, Sends, Side};
+use crate::handle::{Handle, is_limit, open};
+use crate::replaced::Replaced;
+use crate::shared::Shared;
+use std::alloc::Global;
+use std::sync::Wait;
+use th_bcast::Broadcast;
+use th_log::{MakeFault, Receipt, Refused};
+use th_model::{BCall, BReply, Capacity, RxId, TxId};
+use th_ring::RingShelf;
+
+/// The channel under the lock, over the ring.
+pub type RingBroadcast<T> = Broadcast<T, RingShelf<T>>;
+
+/// A sender.
+pub type BSender<T> = Handle<RingBroadcast<T>, Sends>;
+
+/// A receiver.
+pub type BReceiver<T> = Handle<RingBroadcast<T>, Receives>;
+
+/// What became of a receiver that asked to begin anew.
+pub type Resub<T> = Replaced<RingBroadcast<T>, Receives>;
+
+impl<T: Clone + Drop> Channel for Broadcast<T, RingShelf<T>> {
+    ghost use Rattle.th_block.specs.Replies.{ends, made_by};
+
+    ghost made_by = { made_by };
+
+    ghost ends = { ends };
+
+    fn made(reply: &BReply<T>) -> Option<u64> {
+        match reply {
+            BReply::NewRx(rx) => Some(rx.0),
+            BReply::NewTx(tx) => Some(tx.0),
+            _ => None,
+        }
+    }
+
+    fn ends(reply: &BReply<T>) -> bool {
+        matches!(reply, BReply::Closed | BReply::NoHandle(_))
+    }
+
+    // A receiver waits for a value.
+    fn is_news(_call: &BCall<T>, reply: &BReply<T>) -> bool {
+        matches!(reply, BReply::Sent(_))
+    }
+}
+
+impl<T: Clone + Drop> Side<Broadcast<T, RingShelf<T>>> for Sends {
+    ghost use Rattle.th_block.specs.Numbers.{by_sender, last_of_sender};
+
+    ghost caller = { by_sender };
+
+    ghost last = { last_of_sender };
+
+    fn last(number: u64) -> BCall<T> {
+        BCall::DropTx(TxId(number))
+    }
+}
+
+impl<T: Clone + Drop> Side<Broadcast<T, RingShelf<T>>> for Receives {
+    ghost use Rattle.th_block.specs.Numbers.{by_receiver, last_of_receiver};
+
+    ghost caller = { by_receiver };
+
+    ghost last = { last_of_receiver };
+
+    fn last(number: u64) -> BCall<T> {
+        BCall::DropRx(RxId(number))
+    }
+}
+
+/// A channel whose first value stands at `base`, and its first sender; it has no receiver yet. All slots of the ring
+/// are made here.
+///
+/// A segment of its log has at most `limit` entries, 1 to 1,000,000: a channel that nobody cuts (`Shared::cut`) answers
+/// `LogFull` from there on. The key is no other channel's.
+#[tactic(auto, unfolding(th_model::specs::BroadcastPicture::see, th_model::specs::BroadcastMachine::opened))]
+pub fn broadcast_at<T: Clone + Drop>(
+    alloc: Global,
+    capacity: Capacity,
+    base: u64,
+    limit: u64,
+    key: u64,
+) -> Result<BSender<T>, MakeFault>
+    requires { ClonesAreEqual T.is_clone }
+    ensures handle { IfOk result (λ h. h ≡ first_holder key) }
+    ensures limit { OnOk result (IsLimit limit 1) }
+    ensures bad { IfErr result (λ fault. fault ≡ MakeFault.BadLimit ↔ ¬ (IsLimit limit 1)) }
+{
+    if !is_limit(limit) {
+        return Err(MakeFault::BadLimit);
+    }
+    match Broadcast::starting_at(alloc, capacity, base) {
+        Ok(channel) => open(alloc, channel, limit, key),
+        Err(_) => Err(MakeFault::Short),
+    }
+}
+
+/// A channel whose first value stands at 0, as `broadcast_at` makes it.
+pub fn broadcast<T: Clone + Drop>(
+    alloc: Global,
+    capacity: Capacity,
+    limit: u64,
+    key: u64,
+) -> Result<BSender<T>, MakeFault>
+    requires { ClonesAreEqual T.is_clone }
+    ensures handle { IfOk result (λ h. h ≡ first_holder key) }
+    ensures limit { OnOk result (IsLimit limit 1) }
+    ensures bad { IfErr result (λ fault. fault ≡ MakeFault.BadLimit ↔ ¬ (IsLimit limit 1)) }
+{
+    broadcast_at(alloc, capacity, 0, limit, key)
+}
+
+impl<T: Clone + Drop> Handle<Broadcast<T, RingShelf<T>>, Sends> {
+    /// Sends a value to every live receiver, and wakes those that wait. `Sent` with their number; else the value comes
+    /// back in the reply. It costs the same however many receivers there are. The log and the receipt keep a clone of
+    /// the value each.
+    pub fn send<R: Wait>(
+        &mut self,
+        rt: &R,
+        value: T,
+    ) -> Result<Receipt<RingBroadcast<T>>, Refused<BCall<T>>>
+        requires { ClonesAreEqual T.is_clone }
+        ensures { Calls self.old self.new (BCall.Send (tx self.old) value) result }
+    {
+        let number = self.number();
+        self.call(rt, BCall::Send(TxId(number), value))
+    }
+
+    /// A new receiver, of what is sent from now on.
+    pub fn subscribe<R: Wait>(
+        &mut self,
+        rt: &R,
+    ) -> Result<(Receipt<RingBroadcast<T>>, Option<BReceiver<T>>), Refused<BCall<T>>>
+        requires { ClonesAreEqual T.is_clone }
+        ensures { CallsFor made_by self.old self.new (BCall.Subscribe (tx self.old)) result }
+    {
+        let number = self.number();
+        self.making(rt, BCall::Subscribe(TxId(number)))
+    }
+
+    /// A new receiver, of what is still kept, and then of what is sent from now on. Linear in the kept values.
+    pub fn subscribe_oldest<R: Wait>(
+        &mut self,
+        rt: &R,
+    ) -> Result<(Receipt<RingBroadcast<T>>, Option<BReceiver<T>>), Refused<BCall<T>>>
+        requires { ClonesAreEqual T.is_clone }
+        ensures { CallsFor made_by self.old self.new (BCall.SubscribeOldest (tx self.old)) result }
+    {
+        let number = self.number();
+        self.making(rt, BCall::SubscribeOldest(TxId(number)))
+    }
+
+    /// A new sender.
+    pub fn clone_tx<R: Wait>(
+        &mut self,
+        rt: &R,
+    ) -> Result<(Receipt<RingBroadcast<T>>, Option<BSender<T>>), Refused<BCall<T>>>
+        requires { ClonesAreEqual T.is_clone }
+        ensures { CallsFor made_by self.old self.new (BCall.CloneTx (tx self.old)) result }
+    {
+        let number = self.number();
+        self.making(rt, BCall::CloneTx(TxId(number)))
+    }
+
+    /// How many values are kept.
+    pub fn queued<R: Wait>(
+        &mut self,
+        rt: &R,
+    ) -> Result<Receipt<RingBroadcast<T>>, Refused<BCall<T>>>
+        requires { ClonesAreEqual T.is_clone }
+        ensures { Calls self.old self.new (BCall.Queued (tx self.old)) result }
+    {
+        let number = self.number();
+        self.call(rt, BCall::Queued(TxId(number)))
+    }
+
+    /// How many receivers are live.
+    pub fn readers<R: Wait>(
+        &mut self,
+        rt: &R,
+    ) -> Result<Receipt<RingBroadcast<T>>, Refused<BCall<T>>>
+        requires { ClonesAreEqual T.is_clone }
+        ensures { Calls self.old self.new (BCall.Readers (tx self.old)) result }
+    {
+        let number = self.number();
+        self.call(rt, BCall::Readers(TxId(number)))
+    }
+}
+
+impl<T: Clone + Drop> Handle<Broadcast<T, RingShelf<T>>, Receives> {
+    /// The next value; or how many were missed, that there is none yet, or that none will come.
+    pub fn try_recv<R: Wait>(
+        &mut self,
+        rt: &R,
+    ) -> Result<Receipt<RingBroadcast<T>>, Refused<BCall<T>>>
+        requires { ClonesAreEqual T.is_clone }
+        ensures { Calls self.old self.new (BCall.TryRecv (rx self.old)) result }
+    {
+        let number = self.number();
+        self.call(rt, BCall::TryRecv(RxId(number)))
+    }
+
+    /// As `try_recv`, but it waits while there is no value and a sender is left.
+    pub fn recv<R: Wait>(&mut self, rt: &R) -> Result<Receipt<RingBroadcast<T>>, Refused<BCall<T>>>
+        requires { ClonesAreEqual T.is_clone }
+        ensures { Calls self.old self.new (BCall.Recv (rx self.old)) result }
+    {
+        let number = self.number();
+        self.call(rt, BCall::Recv(RxId(number)))
+    }
+
+    /// As `recv`, for a loop: `None` once nothing will come any more, when the receipt of that answer is given up.
+    ///
+    /// A loop over it has no measure, so that it is written `for _ in rt.forever()`, and left at `None`.
+    pub fn next<R: Wait>(
+        &mut self,
+        rt: &R,
+    ) -> Option<Result<Receipt<RingBroadcast<T>>, Refused<BCall<T>>>>
+        requires { ClonesAreEqual T.is_clone }
+        ensures { IsNext ends self.old self.new (BCall.Recv (rx self.old)) result }
+    {
+        let number = self.number();
+        self.next_call(rt, BCall::Recv(RxId(number)))
+    }
+
+    /// A new receiver, of what is sent from now on. This one stays as it is.
+    pub fn resubscribe<R: Wait>(
+        &mut self,
+        rt: &R,
+    ) -> Result<(Receipt<RingBroadcast<T>>, Option<BReceiver<T>>), Refused<BCall<T>>>
+        requires { ClonesAreEqual T.is_clone }
+        ensures { CallsFor made_by self.old self.new (BCall.Resubscribe (rx self.old)) result }
+    {
+        let number = self.number();
+        self.making(rt, BCall::Resubscribe(RxId(number)))
+    }
+
+    /// How many values are still to come for this receiver, those that it missed among them.
+    pub fn left<R: Wait>(&mut self, rt: &R) -> Result<Receipt<RingBroadcast<T>>, Refused<BCall<T>>>
+        requires { ClonesAreEqual T.is_clone }
+        ensures { Calls self.old self.new (BCall.Left (rx self.old)) result }
+    {
+        let number = self.number();
+        self.call(rt, BCall::Left(RxId(number)))
+    }
+}
+
+impl<T: Clone + Drop> Shared<Broadcast<T, RingShelf<T>>> {
+    /// A new receiver in the place of an old one, by two events under one lock: the new one receives what is sent from
+    /// now on, and the old one is spent, so that its share comes back. Where none is made the old one stays. Its share
+    /// counts each of these events.
+    pub fn pair_resub<R: Wait>(
+        &self,
+        rt: &R,
+        old: BReceiver<T>,
+    ) -> Result<(Receipt<RingBroadcast<T>>, Resub<T>), (BReceiver<T>, Refused<BCall<T>>)>
+        requires { ClonesAreEqual T.is_clone }
+        ensures tells { IfOk result (λ r. Tells old.known (BCall.Resubscribe (rx old)) r.0) }
+        ensures replaced { IfOk result (λ r. IsReplaced made_by old r.0 r.1) }
+        ensures back { IfErr result (λ e.
+            (e.0 ≡ old) × (call_of e.1 ≡ BCall.Resubscribe (rx old))) }
+    {
+        let number = old.number();
+        self.replace(rt, old, BCall::Resubscribe(RxId(number)))
+    }
+}

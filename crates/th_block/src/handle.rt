@@ -1,0 +1,312 @@
+//! A caller's handle at a shared channel. One body serves senders and receivers of both channels.
+ghost use Rattle.std.specs.Prelude.{◌≡◌, ◌+◌, ◌↔◌, true, IfErr, IfOk, IsTrue, MatchResult, OnOk, Some};
+ghost use Rattle.th_log.specs.History.{IsLimit};
+ghost use Rattle.th_log.specs.Outcome.{counted};
+ghost use Rattle.th_block.specs.Handles.{Answered, Beside, Calls, CallsFor, IsBack, IsNext, Tells, first_holder};
+ghost use Rattle.th_block.specs.Locked.{Fits};
+
+use crate::account::Account;
+use crate::channel::{Channel, Side};
+use crate::held::Held;
+use crate::shared::Shared;
+use std::alloc::Global;
+use std::marker::{Model, PhantomData};
+use std::sync::Wait;
+use th_log::{Logged, MakeFault, Object, Receipt, Refused};
+use th_model::Short;
+use th_seats::Share;
+
+/// A handle of a channel `O` on its side `S`: one number, and the share that counts its events.
+///
+/// Each call takes the lock once, and holds it for its one event: what the channel's own call costs, a copy of the call
+/// for the log and one for the receipt, and a look at whether anyone is to be woken. Only calls that say so wait for more
+/// than the lock. Memory is asked for before the event; where it is refused, the call comes back as `Refused::Short`.
+///
+/// It is not cloned: a second handle is a call of the channel, and has its own number. One that is let go and not spent
+/// or released keeps its number live and its share out, so that the channel is never closed by it and its shares never
+/// settle. The same is left by a thread that panics or vanishes with its handle. The channel itself is whole in each
+/// case, since a call is under the lock or not at all: there is no poisoning.
+#[derive(Drop)]
+pub struct Handle<O: Object, S> {
+    pub(crate) shared: Shared<O>,
+    // The number under which the channel knows the handle. It never changes.
+    pub(crate) number: u64,
+    pub(crate) account: Account,
+    pub(crate) side: PhantomData<S>,
+}
+
+impl<O: Object, S> Model for Handle<O, S> {
+    ghost use Rattle.th_block.specs.Handles.{Holder};
+
+    ghost Value = { Holder };
+
+    ghost view = { λ h. record { number = h.number; known = h.account } };
+}
+
+impl<O: Object, S> Handle<O, S> {
+    // The handle with these parts.
+    pub(crate) fn made(shared: Shared<O>, number: u64, account: Account) -> Handle<O, S>
+        ensures { result ≡ record { number = number; known = account } }
+    {
+        Handle {
+            shared,
+            number,
+            account,
+            side: PhantomData,
+        }
+    }
+}
+
+/// The most entries of a segment.
+const MOST_ENTRIES: u64 = 1_000_000;
+
+// Whether a log with one live handle may have this limit.
+pub(crate) fn is_limit(limit: u64) -> bool
+    ensures { IsTrue result ↔ IsLimit limit 1 }
+{
+    0 < limit && limit <= MOST_ENTRIES
+}
+
+// The first handle of a channel, which has no other.
+pub(crate) fn open<O: Channel, S: Side<O>>(
+    alloc: Global,
+    object: O,
+    limit: u64,
+    key: u64,
+) -> Result<Handle<O, S>, MakeFault>
+    requires lawful { O.lawful }
+    requires one { O.machine.live (O.shows object) ≡ 1 }
+    ensures handle { IfOk result (λ h. h ≡ first_holder key) }
+    ensures limit { OnOk result (IsLimit limit 1) }
+    ensures bad { IfErr result (λ fault. fault ≡ MakeFault.BadLimit ↔ ¬ (IsLimit limit 1)) }
+{
+    match Logged::new(alloc, object, limit, key) {
+        Ok((log, share)) => match Shared::new(alloc, log) {
+            Ok(shared) => Ok(Handle::made(shared, 1, Account::new(share, 0))),
+            Err(_) => Err(MakeFault::Short),
+        },
+        Err(fault) => Err(fault),
+    }
+}
+
+// The handle that a reply tells of, with a share of its own, on the locked log.
+fn seated<O: Channel, N: Side<O>>(
+    held: &mut Held<O>,
+    shared: Shared<O>,
+    receipt: &Receipt<O>,
+) -> Option<Handle<O, N>>
+    requires key { receipt.now.key ≡ held.old.tally.key }
+    requires place { held.old.tally.total ≡ receipt.now.place + 1 }
+    ensures made { Beside O.made_by receipt.now result }
+    ensures piece { held.new.piece ≡ held.old.piece }
+    ensures key { held.new.tally.key ≡ held.old.tally.key }
+    ensures total { held.new.tally.total ≡ held.old.tally.total }
+{
+    let number = O::made(receipt.reply())?;
+    let account = held.seat();
+    Some(Handle::made(shared, number, account))
+}
+
+// One event of a call that may make a handle, on the locked log.
+pub(crate) fn seated_event<O: Channel, N: Side<O>>(
+    held: &mut Held<O>,
+    theirs: Shared<O>,
+    account: &mut Account,
+    call: O::Call,
+) -> Result<(Receipt<O>, Option<Handle<O, N>>), Refused<O::Call>>
+    requires lawful { O.lawful }
+    requires ready { O.machine.ready held.old.piece.last call ≡ true }
+    ensures told { MatchResult result
+        (λ r. Answered account.old account.new call r.0 × Beside O.made_by r.0 r.1)
+        (IsBack account.old account.new call) }
+    ensures step { IfOk result (λ r.
+        O.machine.answer held.old.piece.last call ≡ (r.0.reply, held.new.piece.last)) }
+    ensures fits { OnOk result (Fits account.new held.new.tally) }
+{
+    match held.event(account, call) {
+        Ok(receipt) => {
+            let made = seated(held, theirs, &receipt);
+            Ok((receipt, made))
+        }
+        Err(refused) => Err(refused),
+    }
+}
+
+impl<O: Channel, S: Side<O>> Handle<O, S> {
+    /// The number under which the channel knows the handle: it stands in the handle's calls.
+    pub fn number(&self) -> u64
+        ensures { result ≡ self.now.number }
+    {
+        self.number
+    }
+
+    /// One more than the place at which the handle was last answered; before its first answer one more than the place
+    /// of its making, and 0 on the first sender.
+    pub fn seen(&self) -> u64
+        ensures { result ≡ self.now.known.seen }
+    {
+        self.account.seen()
+    }
+
+    // One event. It waits until the call is ready.
+    pub(crate) fn call<R: Wait>(
+        &mut self,
+        rt: &R,
+        call: O::Call,
+    ) -> Result<Receipt<O>, Refused<O::Call>>
+        requires { O.lawful }
+        ensures { Calls self.old self.new call result }
+    {
+        let Handle {
+            shared,
+            account,
+            ..
+        } = self;
+        let room = &*shared.room;
+        let locked = room.held.lock(rt);
+        let mut held = room.news.wait_while(rt, locked, |held| held.waits(&call));
+        let answer = held.event(account, call);
+        let wakes = held.wakes_after(&answer);
+        drop(held);
+        room.wake(wakes);
+        answer
+    }
+
+    /// One event of this very handle that wakes nobody, for whoever makes many calls at once: `Shared::wake` then wakes
+    /// once. The calls by their names wake for themselves. It waits until the call is ready.
+    pub fn call_quietly<R: Wait>(
+        &mut self,
+        rt: &R,
+        call: O::Call,
+    ) -> Result<Receipt<O>, Refused<O::Call>>
+        requires lawful { O.lawful }
+        requires own { S.caller call ≡ Some self.old.number }
+        ensures { Calls self.old self.new call result }
+    {
+        let Handle {
+            shared,
+            account,
+            ..
+        } = self;
+        let room = &*shared.room;
+        let locked = room.held.lock(rt);
+        let mut held = room.news.wait_while(rt, locked, |held| held.waits(&call));
+        held.event(account, call)
+    }
+
+    // One event that may be the last of a loop, by a call that waits.
+    pub(crate) fn next_call<R: Wait>(
+        &mut self,
+        rt: &R,
+        call: O::Call,
+    ) -> Option<Result<Receipt<O>, Refused<O::Call>>>
+        requires { O.lawful }
+        ensures { IsNext O.ends self.old self.new call result }
+    {
+        match self.call(rt, call) {
+            Ok(receipt) => {
+                if O::ends(receipt.reply()) {
+                    return None;
+                }
+                Some(Ok(receipt))
+            }
+            Err(refused) => Some(Err(refused)),
+        }
+    }
+
+    // One event of a call that may make a handle, of either side. It comes beside the receipt.
+    pub(crate) fn making<R: Wait, N: Side<O>>(
+        &mut self,
+        rt: &R,
+        call: O::Call,
+    ) -> Result<(Receipt<O>, Option<Handle<O, N>>), Refused<O::Call>>
+        requires { O.lawful }
+        ensures { CallsFor O.made_by self.old self.new call result }
+    {
+        let Ok(theirs) = self.shared.another() else {
+            return Err(Refused::Short(call));
+        };
+        let Handle {
+            shared,
+            account,
+            ..
+        } = self;
+        let room = &*shared.room;
+        let locked = room.held.lock(rt);
+        let mut held = room.news.wait_while(rt, locked, |held| held.waits(&call));
+        seated_event(&mut *held, theirs, account, call)
+    }
+
+    // The last event, with its receipt and the share.
+    fn last_event<R: Wait>(
+        self,
+        rt: &R,
+    ) -> Result<(Share, Receipt<O>), (Handle<O, S>, Refused<O::Call>)>
+        requires { O.lawful }
+        ensures share { IfOk result (λ r. r.0 ≡ counted self.known.share) }
+        ensures tells { IfOk result (λ r. Tells self.known (S.last self.number) r.1) }
+        ensures foreign { IfErr result (λ e.
+            (e.0 ≡ self) × (e.1 ≡ Refused.Foreign (S.last self.number))) }
+    {
+        let Handle {
+            shared,
+            number,
+            mut account,
+            side: _,
+        } = self;
+        match last_call(rt, &shared, &mut account, S::last(number)) {
+            Ok(receipt) => Ok((account.into_share(), receipt)),
+            Err(refused) => Err((Handle::made(shared, number, account), refused)),
+        }
+    }
+
+    /// Spends the handle: its last event, by which its number is no longer live. The share comes back, and the receipt
+    /// is given up. It waits for nothing but the lock, and takes no memory, nor room in the log but what was kept for
+    /// it. It is refused only as `Foreign`: where the number is not live, or the share or what the handle has seen is
+    /// another channel's. Then the handle comes back with the call.
+    pub fn spend<R: Wait>(self, rt: &R) -> Result<Share, (Handle<O, S>, Refused<O::Call>)>
+        requires { O.lawful }
+        ensures share { IfOk result (λ share. share ≡ counted self.known.share) }
+        ensures foreign { IfErr result (λ e.
+            (e.0 ≡ self) × (e.1 ≡ Refused.Foreign (S.last self.number))) }
+    {
+        match self.last_event(rt) {
+            Ok((share, _receipt)) => Ok(share),
+            Err(refused) => Err(refused),
+        }
+    }
+
+    /// An owner of the channel, without a number. It takes no memory, and is refused only past 2^63 owners.
+    pub fn shared(&self) -> Result<Shared<O>, Short<()>> {
+        self.shared.another()
+    }
+
+    /// Gives the share back without an event. The number stays live and unused; it takes no lock.
+    pub fn release(self) -> Share
+        ensures { result ≡ self.known.share }
+    {
+        self.account.into_share()
+    }
+}
+
+// The last event of a handle, under the lock.
+fn last_call<O: Channel, R: Wait>(
+    rt: &R,
+    shared: &Shared<O>,
+    account: &mut Account,
+    call: O::Call,
+) -> Result<Receipt<O>, Refused<O::Call>>
+    requires { O.lawful }
+    ensures told { MatchResult result (Answered account.old account.new call)
+        (IsBack account.old account.new call) }
+    ensures foreign { IfErr result (λ e. e ≡ Refused.Foreign call) }
+{
+    let room = &*shared.room;
+    let locked = room.held.lock(rt);
+    let mut held = room.news.wait_while(rt, locked, |held| held.waits(&call));
+    let answer = held.last_event(account, call);
+    let wakes = held.wakes_after(&answer);
+    drop(held);
+    room.wake(wakes);
+    answer
+}

@@ -1,0 +1,187 @@
+//! What a channel's lock keeps.
+ghost use Rattle.std.specs.Prelude.{◌≡◌, ◌<◌, ◌≤◌, ◌↔◌, not, true, IfOk, IfErr, IsOk, OnOk, OnErr, MatchResult};
+ghost use Rattle.th_log.specs.History.{IsLegal, live_after, next_of};
+ghost use Rattle.th_log.specs.Outcome.{IsSame, added, ticked, with_share};
+ghost use Rattle.th_block.specs.Handles.{Answered, IsBack, fresh};
+ghost use Rattle.th_block.specs.Locked.{Fits, RefusesEvent, Spends};
+
+use crate::account::Account;
+use crate::channel::Channel;
+use std::marker::Model;
+use th_log::{Logged, Object, Receipt, Refused, Segment};
+use th_model::Short;
+
+/// A channel with its log, and whether anyone waits for it. Contracts see it as the log.
+///
+/// Nothing else of this crate touches a log: each of its events is made by `event` or `last_event`.
+#[derive(Drop)]
+pub(crate) struct Held<O: Object> {
+    // The channel with its log.
+    log: Logged<O>,
+    // How many callers looked at the channel in vain since they were last woken. A caller that looks counts himself
+    // before he sleeps, and whoever wakes the sleepers begins to count anew: both under the lock, so that no sleeper is
+    // left out.
+    waiting: u64,
+}
+
+impl<O: Object> Model for Held<O> {
+    ghost use Rattle.th_log.specs.History.{Log};
+
+    ghost Value = { Log O.State O.Call O.Reply };
+
+    ghost view = { λ h. h.log };
+}
+
+impl<O: Channel> Held<O> {
+    /// A log for which nobody waits yet.
+    pub(crate) fn new(log: Logged<O>) -> Held<O>
+        ensures { result ≡ log }
+    {
+        Held { log, waiting: 0 }
+    }
+
+    /// The log, once nobody waits any more.
+    pub(crate) fn into_log(self) -> Logged<O>
+        ensures { result ≡ self }
+    {
+        self.log
+    }
+
+    /// Whether the call has to wait. Then it is one more that does.
+    pub(crate) fn waits(&mut self, call: &O::Call) -> bool
+        ensures waits { result ≡ not (O.machine.ready self.new.piece.last call.now) }
+        ensures same { self.new ≡ self.old }
+    {
+        let waits = !self.log.ready(call);
+        if waits {
+            self.waiting = self.waiting.saturating_add(1);
+        }
+        waits
+    }
+
+    /// Whether there is anyone to wake. They count as woken then.
+    pub(crate) fn wakes(&mut self) -> bool
+        ensures { self.new ≡ self.old }
+    {
+        let wakes = self.waiting > 0;
+        self.waiting = 0;
+        wakes
+    }
+
+    /// Whether there is anyone to wake for what this call has changed.
+    pub(crate) fn wakes_after(&mut self, answer: &Result<Receipt<O>, Refused<O::Call>>) -> bool
+        ensures { self.new ≡ self.old }
+    {
+        let Ok(receipt) = answer else {
+            return false;
+        };
+        if self.log.object().closed() || O::is_news(receipt.call(), receipt.reply()) {
+            self.wakes()
+        } else {
+            false
+        }
+    }
+
+    /// One event of a handle. `Foreign` where the handle is of another channel, as far as its share and what it has
+    /// seen can tell; else what the log says.
+    pub(crate) fn event(
+        &mut self,
+        account: &mut Account,
+        call: O::Call,
+    ) -> Result<Receipt<O>, Refused<O::Call>>
+        requires lawful { O.lawful }
+        requires ready { O.machine.ready self.old.piece.last call ≡ true }
+        ensures told { MatchResult result (Answered account.old account.new call)
+            (IsBack account.old account.new call) }
+        ensures place { IfOk result (λ r. r.place ≡ self.old.tally.total) }
+        ensures step { IfOk result (λ r.
+            O.machine.answer self.old.piece.last call ≡ (r.reply, self.new.piece.last)) }
+        ensures entry { IfOk result (λ r.
+            self.new.piece ≡ added self.old.piece call r.reply self.new.piece.last) }
+        ensures tally { OnOk result (self.new.tally ≡ ticked self.old.tally) }
+        ensures fits { OnOk result (Fits account.old self.old.tally) }
+        ensures refused { IfErr result (λ e. RefusesEvent self.old account.old call
+            (live_after O.machine self.old.piece.last call) e) }
+        ensures spends { Fits account.old self.old.tally
+            → Spends O.machine self.old.piece.last call → IsOk result }
+        ensures same { OnErr result (IsSame self.old self.new) }
+    {
+        if self.log.total() < account.seen() {
+            return Err(Refused::Foreign(call));
+        }
+        match self.log.apply(&mut account.share, call) {
+            Ok(receipt) => {
+                account.see(self.log.total());
+                Ok(receipt)
+            }
+            Err(refused) => Err(refused),
+        }
+    }
+
+    /// The last event of a handle. It is refused only as `Foreign`: where the handle is of another channel, or its
+    /// number is not live.
+    pub(crate) fn last_event(
+        &mut self,
+        account: &mut Account,
+        call: O::Call,
+    ) -> Result<Receipt<O>, Refused<O::Call>>
+        requires lawful { O.lawful }
+        requires ready { O.machine.ready self.old.piece.last call ≡ true }
+        ensures told { MatchResult result (Answered account.old account.new call)
+            (IsBack account.old account.new call) }
+        ensures place { IfOk result (λ r. r.place ≡ self.old.tally.total) }
+        ensures step { IfOk result (λ r.
+            O.machine.answer self.old.piece.last call ≡ (r.reply, self.new.piece.last)) }
+        ensures entry { IfOk result (λ r.
+            self.new.piece ≡ added self.old.piece call r.reply self.new.piece.last) }
+        ensures tally { OnOk result (self.new.tally ≡ ticked self.old.tally) }
+        ensures spends { IsOk result
+            ↔ (Fits account.old self.old.tally × Spends O.machine self.old.piece.last call) }
+        ensures foreign { IfErr result (λ e. e ≡ Refused.Foreign call) }
+        ensures same { OnErr result (IsSame self.old self.new) }
+    {
+        let object = self.log.object();
+        if object.live_after(&call) >= object.live() {
+            return Err(Refused::Foreign(call));
+        }
+        match self.event(account, call) {
+            Ok(receipt) => Ok(receipt),
+            Err(Refused::Foreign(call)) => Err(Refused::Foreign(call)),
+            Err(Refused::Short(_)) => unreachable!(),
+            Err(Refused::LogFull(_)) => unreachable!(),
+        }
+    }
+
+    /// The account of a new handle, which has seen what is there.
+    pub(crate) fn seat(&mut self) -> Account
+        ensures account { result ≡ fresh self.old.tally.key self.old.tally.total }
+        ensures piece { self.new.piece ≡ self.old.piece }
+        ensures tally { self.new.tally ≡ with_share self.old.tally }
+    {
+        let share = self.log.split();
+        Account::new(share, self.log.total())
+    }
+
+    /// What is seen of the channel is sound, as of every log.
+    pub(crate) fn is_sound(&self)
+        ensures { O.is_sound self.now.piece.last }
+    {
+        let _live = self.log.object().live();
+    }
+
+    /// Hands out the entries so far, and begins the next segment. No event is made.
+    pub(crate) fn cut(&mut self) -> Result<Segment<O>, Short<()>>
+        requires { O.lawful }
+        ensures segment { IfOk result (λ s. s ≡ self.old.piece) }
+        ensures legal { IfOk result (λ s. IsLegal O.machine O.is_sound s) }
+        ensures next { OnOk result
+            (self.new.piece ≡ next_of self.old.piece self.old.tally.total) }
+        ensures tally { self.new.tally ≡ self.old.tally }
+        ensures same { OnErr result (self.new ≡ self.old) }
+    {
+        let segment = self.log.cut()?;
+        // What a segment always is.
+        let _entries = segment.len();
+        Ok(segment)
+    }
+}

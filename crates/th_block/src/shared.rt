@@ -1,0 +1,85 @@
+//! A channel that is owned in common by its handles.
+ghost use Rattle.std.specs.Prelude.{IfOk};
+ghost use Rattle.th_log.specs.History.{IsLegal};
+
+use crate::channel::Channel;
+use crate::held::Held;
+use std::alloc::{AllocError, Global};
+use std::sync::{Arc, Condvar, Mutex, Wait};
+use th_log::{Logged, Object, Segment};
+use th_model::Short;
+
+/// The lock, and where callers wait.
+#[derive(Drop)]
+pub(crate) struct Room<O: Object> {
+    pub(crate) held: Mutex<Held<O>>,
+    // Those who wait sleep here, of both sides of a channel. They are woken all at once, after the lock is let go: a
+    // sleeper that is woken wants the lock at once.
+    pub(crate) news: Condvar,
+}
+
+impl<O: Object> Room<O> {
+    /// Wakes all who wait, if there is a need.
+    pub(crate) fn wake(&self, wakes: bool) {
+        if wakes {
+            self.news.notify_all();
+        }
+    }
+}
+
+/// An owner of a channel, without a number. Each handle is one too.
+#[derive(Drop)]
+pub struct Shared<O: Object> {
+    pub(crate) room: Arc<Room<O>>,
+}
+
+impl<O: Channel> Shared<O> {
+    // The first owner of a channel.
+    pub(crate) fn new(alloc: Global, log: Logged<O>) -> Result<Shared<O>, AllocError> {
+        let room = Room {
+            held: Mutex::new(Held::new(log)),
+            news: Condvar::new(),
+        };
+        Ok(Shared {
+            room: Arc::new(alloc, room)?,
+        })
+    }
+
+    /// One more owner. It takes no memory, and is refused only past 2^63 owners.
+    pub fn another(&self) -> Result<Shared<O>, Short<()>> {
+        match Arc::try_clone(&self.room) {
+            Ok(room) => Ok(Shared { room }),
+            Err(AllocError) => Err(Short { call: () }),
+        }
+    }
+
+    /// Hands out the entries so far, and begins the log's next segment: so there is room for as many entries again. It
+    /// is no event, and asks memory for the room of all live handles. It takes the lock, for a time that is linear in
+    /// the kept values and the handles, and not in the entries.
+    pub fn cut<R: Wait>(&self, rt: &R) -> Result<Segment<O>, Short<()>>
+        requires { O.lawful }
+        ensures { IfOk result (λ s. IsLegal O.machine O.is_sound s) }
+    {
+        let mut held = self.room.held.lock(rt);
+        held.cut()
+    }
+
+    /// Wakes who waits, after calls that left it to their caller. It takes the lock for a moment.
+    pub fn wake<R: Wait>(&self, rt: &R) {
+        let mut held = self.room.held.lock(rt);
+        let wakes = held.wakes();
+        drop(held);
+        self.room.wake(wakes);
+    }
+
+    /// The log, for the last owner; any other one comes back. It takes neither memory nor the lock.
+    pub fn finish(self) -> Result<Logged<O>, Shared<O>> {
+        match Arc::try_unwrap(self.room) {
+            Ok(room) => {
+                let Room { held, news: _ } = room;
+                Ok(held.into_inner().into_log())
+            }
+            Err(room) => Err(Shared { room }),
+        }
+    }
+}

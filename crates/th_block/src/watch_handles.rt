@@ -1,0 +1,293 @@
+//! Senders and readers of a watch channel.
+ghost use Rattle.std.specs.Prelude.{◌≡◌, ◌↔◌, IfErr, IfOk, OnOk};
+ghost use Rattle.th_log.specs.History.{IsLimit};
+ghost use Rattle.th_model.specs.Limits.{ClonesAreEqual};
+ghost use Rattle.th_model.specs.WatchMachine.{IsExact};
+ghost use Rattle.th_block.specs.Handles.{Calls, CallsFor, IsNext, first_holder};
+ghost use Rattle.th_block.specs.Numbers.{rx, tx};
+ghost use Rattle.th_block.specs.Replies.{ends_watch, made_by_watch};
+
+use crate::channel::{Channel, Receives, Sends, Side};
+use crate::handle::{Handle, is_limit, open};
+use std::alloc::Global;
+use std::sync::Wait;
+use th_log::{MakeFault, Receipt, Refused};
+use th_model::{Edit, RxId, TxId, WCall, WReply};
+use th_watch::Watch;
+
+/// A sender.
+pub type WSender<T> = Handle<Watch<T>, Sends>;
+
+/// A reader.
+pub type WReader<T> = Handle<Watch<T>, Receives>;
+
+impl<T: Clone + PartialEq + Drop> Channel for Watch<T> {
+    ghost use Rattle.th_block.specs.Replies.{ends_watch, made_by_watch};
+
+    ghost made_by = { made_by_watch };
+
+    ghost ends = { ends_watch };
+
+    fn made(reply: &WReply<T>) -> Option<u64> {
+        match reply {
+            WReply::NewRx(rx) => Some(rx.0),
+            WReply::NewTx(tx) => Some(tx.0),
+            _ => None,
+        }
+    }
+
+    fn ends(reply: &WReply<T>) -> bool {
+        matches!(reply, WReply::Closed | WReply::NoHandle(_))
+    }
+
+    // A reader waits for a publication. What it marks unseen itself it does not wait for.
+    fn is_news(call: &WCall<T>, reply: &WReply<T>) -> bool {
+        match call {
+            WCall::Send(_, _) => matches!(reply, WReply::Done),
+            WCall::Replace(_, _) => matches!(reply, WReply::Was(_)),
+            WCall::EditBy(_, _) => matches!(reply, WReply::Modified(true)),
+            _ => false,
+        }
+    }
+}
+
+impl<T: Clone + PartialEq + Drop> Side<Watch<T>> for Sends {
+    ghost use Rattle.th_block.specs.Numbers.{by_writer, last_of_writer};
+
+    ghost caller = { by_writer };
+
+    ghost last = { last_of_writer };
+
+    fn last(number: u64) -> WCall<T> {
+        WCall::DropTx(TxId(number))
+    }
+}
+
+impl<T: Clone + PartialEq + Drop> Side<Watch<T>> for Receives {
+    ghost use Rattle.th_block.specs.Numbers.{by_reader, last_of_reader};
+
+    ghost caller = { by_reader };
+
+    ghost last = { last_of_reader };
+
+    fn last(number: u64) -> WCall<T> {
+        WCall::DropRx(RxId(number))
+    }
+}
+
+/// A channel with this value, and its first sender; it has no reader yet. A refused value is dropped.
+///
+/// A segment of its log has at most `limit` entries, 1 to 1,000,000: a channel that nobody cuts (`Shared::cut`) answers
+/// `LogFull` from there on. The key is no other channel's.
+#[tactic(auto, unfolding(th_model::specs::WatchPicture::see, th_model::specs::WatchMachine::opened))]
+pub fn watch<T: Clone + PartialEq + Drop>(
+    alloc: Global,
+    value: T,
+    limit: u64,
+    key: u64,
+) -> Result<WSender<T>, MakeFault>
+    requires clones { ClonesAreEqual T.is_clone }
+    requires exact { IsExact T.eq }
+    ensures handle { IfOk result (λ h. h ≡ first_holder key) }
+    ensures limit { OnOk result (IsLimit limit 1) }
+    ensures bad { IfErr result (λ fault. fault ≡ MakeFault.BadLimit ↔ ¬ (IsLimit limit 1)) }
+{
+    if !is_limit(limit) {
+        return Err(MakeFault::BadLimit);
+    }
+    match Watch::new(alloc, value) {
+        Ok(channel) => open(alloc, channel, limit, key),
+        Err(_) => Err(MakeFault::Short),
+    }
+}
+
+impl<T: Clone + PartialEq + Drop> Handle<Watch<T>, Sends> {
+    /// Publishes a value, and wakes the readers that wait. Where there is no reader it comes back in the reply. The log
+    /// and the receipt keep a clone of the value each.
+    pub fn send<R: Wait>(
+        &mut self,
+        rt: &R,
+        value: T,
+    ) -> Result<Receipt<Watch<T>>, Refused<WCall<T>>>
+        requires clones { ClonesAreEqual T.is_clone }
+        requires exact { IsExact T.eq }
+        ensures { Calls self.old self.new (WCall.Send (tx self.old) value) result }
+    {
+        let number = self.number();
+        self.call(rt, WCall::Send(TxId(number), value))
+    }
+
+    /// Publishes a value, readers or not, for the old one, which comes in the reply.
+    pub fn replace<R: Wait>(
+        &mut self,
+        rt: &R,
+        value: T,
+    ) -> Result<Receipt<Watch<T>>, Refused<WCall<T>>>
+        requires clones { ClonesAreEqual T.is_clone }
+        requires exact { IsExact T.eq }
+        ensures { Calls self.old self.new (WCall.Replace (tx self.old) value) result }
+    {
+        let number = self.number();
+        self.call(rt, WCall::Replace(TxId(number), value))
+    }
+
+    /// Changes the newest value, readers or not; whether that was published stands in the reply.
+    pub fn edit<R: Wait>(
+        &mut self,
+        rt: &R,
+        change: Edit<T>,
+    ) -> Result<Receipt<Watch<T>>, Refused<WCall<T>>>
+        requires clones { ClonesAreEqual T.is_clone }
+        requires exact { IsExact T.eq }
+        ensures { Calls self.old self.new (WCall.EditBy (tx self.old) change) result }
+    {
+        let number = self.number();
+        self.call(rt, WCall::EditBy(TxId(number), change))
+    }
+
+    /// A new reader, by which the newest value is seen.
+    pub fn subscribe<R: Wait>(
+        &mut self,
+        rt: &R,
+    ) -> Result<(Receipt<Watch<T>>, Option<WReader<T>>), Refused<WCall<T>>>
+        requires clones { ClonesAreEqual T.is_clone }
+        requires exact { IsExact T.eq }
+        ensures { CallsFor made_by_watch self.old self.new (WCall.Subscribe (tx self.old)) result }
+    {
+        let number = self.number();
+        self.making(rt, WCall::Subscribe(TxId(number)))
+    }
+
+    /// A new sender.
+    pub fn clone_tx<R: Wait>(
+        &mut self,
+        rt: &R,
+    ) -> Result<(Receipt<Watch<T>>, Option<WSender<T>>), Refused<WCall<T>>>
+        requires clones { ClonesAreEqual T.is_clone }
+        requires exact { IsExact T.eq }
+        ensures { CallsFor made_by_watch self.old self.new (WCall.CloneTx (tx self.old)) result }
+    {
+        let number = self.number();
+        self.making(rt, WCall::CloneTx(TxId(number)))
+    }
+
+    /// Whether no reader is left.
+    pub fn is_closed<R: Wait>(&mut self, rt: &R) -> Result<Receipt<Watch<T>>, Refused<WCall<T>>>
+        requires clones { ClonesAreEqual T.is_clone }
+        requires exact { IsExact T.eq }
+        ensures { Calls self.old self.new (WCall.IsClosed (tx self.old)) result }
+    {
+        let number = self.number();
+        self.call(rt, WCall::IsClosed(TxId(number)))
+    }
+
+    /// How many readers are live.
+    pub fn readers<R: Wait>(&mut self, rt: &R) -> Result<Receipt<Watch<T>>, Refused<WCall<T>>>
+        requires clones { ClonesAreEqual T.is_clone }
+        requires exact { IsExact T.eq }
+        ensures { Calls self.old self.new (WCall.Readers (tx self.old)) result }
+    {
+        let number = self.number();
+        self.call(rt, WCall::Readers(TxId(number)))
+    }
+}
+
+impl<T: Clone + PartialEq + Drop> Handle<Watch<T>, Receives> {
+    /// The newest value, and whether it is unseen.
+    pub fn borrow<R: Wait>(&mut self, rt: &R) -> Result<Receipt<Watch<T>>, Refused<WCall<T>>>
+        requires clones { ClonesAreEqual T.is_clone }
+        requires exact { IsExact T.eq }
+        ensures { Calls self.old self.new (WCall.Borrow (rx self.old)) result }
+    {
+        let number = self.number();
+        self.call(rt, WCall::Borrow(RxId(number)))
+    }
+
+    /// The same, and the value is seen then.
+    pub fn take<R: Wait>(&mut self, rt: &R) -> Result<Receipt<Watch<T>>, Refused<WCall<T>>>
+        requires clones { ClonesAreEqual T.is_clone }
+        requires exact { IsExact T.eq }
+        ensures { Calls self.old self.new (WCall.Take (rx self.old)) result }
+    {
+        let number = self.number();
+        self.call(rt, WCall::Take(RxId(number)))
+    }
+
+    /// Whether the newest value is unseen; or that no sender is left.
+    pub fn has_changed<R: Wait>(&mut self, rt: &R) -> Result<Receipt<Watch<T>>, Refused<WCall<T>>>
+        requires clones { ClonesAreEqual T.is_clone }
+        requires exact { IsExact T.eq }
+        ensures { Calls self.old self.new (WCall.HasChanged (rx self.old)) result }
+    {
+        let number = self.number();
+        self.call(rt, WCall::HasChanged(RxId(number)))
+    }
+
+    /// Marks the newest value seen, where it is unseen; or that there is nothing new yet, or that nothing will come.
+    pub fn try_changed<R: Wait>(&mut self, rt: &R) -> Result<Receipt<Watch<T>>, Refused<WCall<T>>>
+        requires clones { ClonesAreEqual T.is_clone }
+        requires exact { IsExact T.eq }
+        ensures { Calls self.old self.new (WCall.TryChanged (rx self.old)) result }
+    {
+        let number = self.number();
+        self.call(rt, WCall::TryChanged(RxId(number)))
+    }
+
+    /// As `try_changed`, but it waits while there is nothing new and a sender is left.
+    pub fn changed<R: Wait>(&mut self, rt: &R) -> Result<Receipt<Watch<T>>, Refused<WCall<T>>>
+        requires clones { ClonesAreEqual T.is_clone }
+        requires exact { IsExact T.eq }
+        ensures { Calls self.old self.new (WCall.Changed (rx self.old)) result }
+    {
+        let number = self.number();
+        self.call(rt, WCall::Changed(RxId(number)))
+    }
+
+    /// As `changed`, for a loop: `None` once nothing will come any more, when the receipt of that answer is given up.
+    ///
+    /// A loop over it has no measure, so that it is written `for _ in rt.forever()`, and left at `None`.
+    pub fn next<R: Wait>(&mut self, rt: &R) -> Option<Result<Receipt<Watch<T>>, Refused<WCall<T>>>>
+        requires clones { ClonesAreEqual T.is_clone }
+        requires exact { IsExact T.eq }
+        ensures { IsNext ends_watch self.old self.new (WCall.Changed (rx self.old)) result }
+    {
+        let number = self.number();
+        self.next_call(rt, WCall::Changed(RxId(number)))
+    }
+
+    /// Makes the newest value unseen.
+    pub fn mark_changed<R: Wait>(&mut self, rt: &R) -> Result<Receipt<Watch<T>>, Refused<WCall<T>>>
+        requires clones { ClonesAreEqual T.is_clone }
+        requires exact { IsExact T.eq }
+        ensures { Calls self.old self.new (WCall.MarkChanged (rx self.old)) result }
+    {
+        let number = self.number();
+        self.call(rt, WCall::MarkChanged(RxId(number)))
+    }
+
+    /// Makes the newest value seen.
+    pub fn mark_unchanged<R: Wait>(
+        &mut self,
+        rt: &R,
+    ) -> Result<Receipt<Watch<T>>, Refused<WCall<T>>>
+        requires clones { ClonesAreEqual T.is_clone }
+        requires exact { IsExact T.eq }
+        ensures { Calls self.old self.new (WCall.MarkUnchanged (rx self.old)) result }
+    {
+        let number = self.number();
+        self.call(rt, WCall::MarkUnchanged(RxId(number)))
+    }
+
+    /// A new reader, with the mark of this one.
+    pub fn clone_rx<R: Wait>(
+        &mut self,
+        rt: &R,
+    ) -> Result<(Receipt<Watch<T>>, Option<WReader<T>>), Refused<WCall<T>>>
+        requires clones { ClonesAreEqual T.is_clone }
+        requires exact { IsExact T.eq }
+        ensures { CallsFor made_by_watch self.old self.new (WCall.CloneRx (rx self.old)) result }
+    {
+        let number = self.number();
+        self.making(rt, WCall::CloneRx(RxId(number)))
+    }
+}

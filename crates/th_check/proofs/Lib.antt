@@ -1,0 +1,8 @@
+pub mod Running
+pub mod Turning
+pub mod Holding
+pub mod Taking
+pub mod Reading
+mod Deciding
+mod Telling
+mod Tracing

@@ -1,0 +1,71 @@
+-- Legal texts, as histories (docs/FORMATS.md, "Checks").
+use Rattle.std.specs.Prelude.{◌≡◌, ℕ, ◌≤◌, List, [], ◌∷◌, ◌++◌, length, map, Some}
+use Rattle.std.specs.List.{AllByRecursion}
+use Rattle.th_model.specs.declared.broadcast.BCall.{BCall}
+use Rattle.th_model.specs.declared.broadcast.BReply.{BReply}
+use Rattle.th_model.specs.declared.watch.WCall.{WCall}
+use Rattle.th_model.specs.declared.watch.WReply.{WReply}
+use Rattle.th_model.specs.BroadcastPicture as broadcast_picture
+use Rattle.th_model.specs.WatchPicture as watch_picture
+use Rattle.th_lines.specs.Lines.{Line, Good}
+use Rattle.th_log.specs.History.{Machine, IsRun}
+use Rattle.th_log.specs.Machines as machines
+use Rattle.th_traces.specs.declared.head.Head.{Head}
+use Rattle.th_traces.specs.declared.head.Head.TheVariants as head
+use Rattle.th_traces.specs.declared.head.Version.{Version}
+use Rattle.th_traces.specs.declared.picture.Picture.{Picture}
+use Rattle.th_traces.specs.declared.picture.Picture.TheVariants as picture
+use Rattle.th_traces.specs.declared.place.Place.TheVariants.{Nothing}
+use Rattle.th_traces.specs.BroadcastWords as broadcast_words
+use Rattle.th_traces.specs.WatchWords as watch_words
+use Rattle.th_traces.specs.Broadcast as broadcast
+use Rattle.th_traces.specs.Watch as watch
+use Rattle.th_traces.specs.Pictures.{Begun, leads}
+use Rattle.th_traces.specs.Spelled.{Bytes, end_line, entry_lines}
+use Rattle.th_check.specs.Points.{watch_machine}
+use Rattle.th_check.specs.Stages.{most_entries}
+
+-- These lines spell so many entries, which are a legal history from the state, and their number.
+pub record IsHistory {E S C R : Type 0} (m : Machine E S C R) (IsEntry : C × R → Type 0)
+    (fields : C × R → List Bytes × List Bytes) (state : E) (lines : List Bytes) (count : ℕ)
+    : Type 0 where
+  pub entries : List (C × R)
+  pub run : IsRun m state entries
+  pub each : AllByRecursion IsEntry entries
+  pub told : lines ≡ entry_lines (map fields entries) ++ end_line count ∷ []
+  pub counted : length entries ≡ count
+  pub most : count ≤ most_entries
+
+-- the call and the reply have spellings, and the reply is one to the call
+abbrev pub IsBroadcastEntry : Version → BCall Bytes × BReply Bytes → Type 0
+IsBroadcastEntry version e =
+    broadcast_words.IsCall version e.0 × broadcast_words.IsReplyTo e.0 e.1
+
+abbrev pub IsWatchEntry : WCall Bytes × WReply Bytes → Type 0
+IsWatchEntry e = watch_words.IsCall e.0 × watch_words.IsReplyTo e.0 e.1
+
+abbrev pub broadcast_fields : BCall Bytes × BReply Bytes → List Bytes × List Bytes
+broadcast_fields e = (broadcast.call_fields e.0, broadcast.reply_fields e.1)
+
+abbrev pub watch_fields : WCall Bytes × WReply Bytes → List Bytes × List Bytes
+watch_fields e = (watch.call_fields e.0, watch.reply_fields e.1)
+
+-- the lines below a picture tell a legal history from it
+abbrev pub HasHistory : Head → Picture → List Bytes → ℕ → Type 0
+HasHistory (head.Broadcast version) (picture.Broadcast p) lines count = IsHistory
+    machines.broadcast (IsBroadcastEntry version) broadcast_fields (broadcast_picture.whole p)
+    lines count
+HasHistory head.Watch (picture.Watch p) lines count =
+    IsHistory watch_machine IsWatchEntry watch_fields (watch_picture.whole p) lines count
+HasHistory h p lines count = ⊥
+
+-- The lines of a text are those of a picture, and below them those of a legal history from it, with
+-- so many entries.
+pub record IsTrace (lines : List Line) (count : ℕ) : Type 0 where
+  pub front : List Bytes
+  pub below : List Bytes
+  pub parts : lines ≡ map Good (front ++ below)
+  pub kind : Head
+  pub shown : Picture
+  pub drawn : leads Nothing front ≡ Some (Begun kind shown)
+  pub history : HasHistory kind shown below count

@@ -1,0 +1,6 @@
+pub mod Stages
+pub mod Points
+pub mod Verdicts
+pub mod Histories
+pub mod Checked
+pub mod Judging

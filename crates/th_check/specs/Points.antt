@@ -1,0 +1,96 @@
+-- A trace, judged line by line (docs/FORMATS.md, "Checks").
+use Rattle.std.specs.Prelude.{◌≡◌, ℕ, nat_eq, Option, Some, None}
+use Rattle.std.specs.Cmp.Lexicographic.{pointwise}
+use Rattle.th_model.specs.declared.broadcast.BCall.{BCall}
+use Rattle.th_model.specs.declared.broadcast.BReply.{BReply}
+use Rattle.th_model.specs.declared.watch.WCall.{WCall}
+use Rattle.th_model.specs.declared.watch.WReply.{WReply}
+use Rattle.th_model.specs.BroadcastMachine as broadcast
+use Rattle.th_model.specs.BroadcastPicture as broadcast_picture
+use Rattle.th_model.specs.WatchMachine as watch
+use Rattle.th_model.specs.WatchPicture as watch_picture
+use Rattle.th_lines.specs.Lines.{Line, Good, Long}
+use Rattle.th_log.specs.History.{Machine}
+use Rattle.th_log.specs.Machines as machines
+use Rattle.th_traces.specs.declared.head.Head.{Head}
+use Rattle.th_traces.specs.declared.head.Head.TheVariants as head
+use Rattle.th_traces.specs.declared.head.Version.{Version}
+use Rattle.th_traces.specs.declared.picture.Picture.{Picture}
+use Rattle.th_traces.specs.declared.picture.Picture.TheVariants as picture
+use Rattle.th_traces.specs.declared.place.Place.{Place}
+use Rattle.th_traces.specs.declared.place.Place.TheVariants.{Nothing}
+use Rattle.th_traces.specs.BroadcastWords as broadcast_words
+use Rattle.th_traces.specs.WatchWords as watch_words
+use Rattle.th_traces.specs.Pictures as pictures
+use Rattle.th_traces.specs.Spelled.{Bytes}
+use Rattle.th_check.specs.Stages.{Stage, CallDue, Ended, Turn, On, Bad, Illegal, Turns, Words}
+
+abbrev pub BroadcastStage : Type 0
+BroadcastStage = Stage (broadcast.Endless Bytes) (BCall Bytes)
+
+abbrev pub WatchStage : Type 0
+WatchStage = Stage (watch.Endless Bytes) (WCall Bytes)
+
+-- how far a trace was judged: within its picture, or below it
+pub data Point : Type 0 where
+  InPicture : (place : Place) → Point
+  InBroadcast : (version : Version) (stage : Stage (broadcast.Endless Bytes) (BCall Bytes)) → Point
+  InWatch : (stage : Stage (watch.Endless Bytes) (WCall Bytes)) → Point
+
+-- no line was judged
+abbrev pub start : Point
+start = InPicture Nothing
+
+-- a watch channel's values are compared byte by byte
+abbrev pub watch_machine : Machine (watch.Endless Bytes) (watch_picture.Picture Bytes) (WCall Bytes) (WReply Bytes)
+watch_machine = machines.watch (pointwise nat_eq)
+
+abbrev pub words_of_broadcast : Version → Words (BCall Bytes) (BReply Bytes)
+words_of_broadcast version = record {
+  call_of = broadcast_words.call_of version;
+  reply_of = broadcast_words.reply_of;
+}
+
+abbrev pub words_of_watch : Words (WCall Bytes) (WReply Bytes)
+words_of_watch = record { call_of = watch_words.call_of; reply_of = watch_words.reply_of }
+
+-- Where the picture is whole the entries begin, from the state that remembers no more than it shows.
+abbrev pub entries_of : Head → Picture → Turn Point
+entries_of (head.Broadcast version) (picture.Broadcast p) =
+    On (InBroadcast version (CallDue (broadcast_picture.whole p) 0))
+entries_of head.Watch (picture.Watch p) = On (InWatch (CallDue (watch_picture.whole p) 0))
+entries_of h p = Bad
+
+-- where a line of a picture leads
+abbrev pub picture_turn : Option pictures.Next → Turn Point
+picture_turn None = Bad
+picture_turn (Some (pictures.On place)) = On (InPicture place)
+picture_turn (Some (pictures.Begun h p)) = entries_of h p
+
+-- where a line leads at a point below, by where it leads at its stage
+abbrev pub lifted : {S : Type 0} → (S → Point) → Turn S → Turn Point
+lifted point (On next) = On (point next)
+lifted point Bad = Bad
+lifted point Illegal = Illegal
+
+-- What a line does at a point. A line of more than 4,096 bytes is bad.
+abbrev pub Does : Point → Line → Turn Point → Type 0
+Does point Long turn = turn ≡ Bad
+Does (InPicture place) (Good line) turn = turn ≡ picture_turn (pictures.step place line)
+Does (InBroadcast version stage) (Good line) turn =
+    (at : Turn BroadcastStage)
+    × Turns machines.broadcast (words_of_broadcast version) stage line at
+    × (turn ≡ lifted (InBroadcast version) at)
+Does (InWatch stage) (Good line) turn =
+    (at : Turn WatchStage) × Turns watch_machine words_of_watch stage line at
+    × (turn ≡ lifted InWatch at)
+
+-- the number of entries of a trace that has ended
+abbrev pub ended_stage : {E C : Type 0} → Stage E C → Option ℕ
+ended_stage (Ended count) = Some count
+ended_stage stage = None
+
+abbrev pub ended_with : Point → Option ℕ
+ended_with (InPicture place) = None
+ended_with (InBroadcast version stage) = ended_stage stage
+ended_with (InWatch stage) = ended_stage stage

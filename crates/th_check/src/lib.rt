@@ -1,0 +1,24 @@
+//! Traces, checked: a text is a legal trace exactly where the channel that it tells of would have given
+//! each of its replies.
+//!
+//! ```text
+//! let mut reader = Counted::new(&b"TRACE 1 B 2\nAT 0 0 NEXT 2\nTX 1\nBEGIN\nEND 0\n"[..]);
+//! let verdict = check(alloc, &mut reader)?;                      // Legal(0)
+//! ```
+#![tactic(auto)]
+
+pub mod broadcast_course;
+mod checker;
+pub mod course;
+pub mod fault;
+pub mod laws;
+pub mod point;
+mod run;
+#[cfg(test)]
+mod tests;
+pub mod verdict;
+pub mod watch_course;
+
+pub use fault::CheckFault;
+pub use run::{check, check_bounded};
+pub use verdict::Verdict;

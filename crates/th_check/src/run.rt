@@ -1,0 +1,64 @@
+//! A trace is read and judged.
+ghost use Rattle.std.specs.Prelude.{◌≡◌, ◌+◌, ◌≤◌, ◌^◌, IfOk, IfErr};
+ghost use Rattle.th_check.specs.Checked.{Checked, Stopped, failures_of, within_most};
+
+use crate::checker::Checker;
+use crate::fault::CheckFault;
+use crate::verdict::Verdict;
+use std::alloc::Global;
+use std::io::Read;
+use th_lines::Counted;
+
+/// The most reads of a check.
+const MOST_READS: u64 = 1 << 32;
+
+/// Checks the trace that the reader tells, by at most so many reads and never more than 2^32, of which
+/// an interrupted one is made again and counts. It stops reading at the first line that is bad or
+/// illegal; that a trace is legal it says once the input has ended.
+///
+/// The channel of the trace is made from its picture, and goes through the entries. A line takes time
+/// with its length and what its call takes. Of the text no more is kept than what one read gave, and
+/// what it tells of the channel: memory does not grow with the number of entries.
+///
+/// # Errors
+///
+/// `Read` exactly where the reader failed, `TooLong` where one more read would be needed, `Short` where
+/// memory was refused.
+pub fn check_bounded<R: Read>(
+    alloc: Global,
+    reader: &mut Counted<R>,
+    reads: u64,
+) -> Result<Verdict, CheckFault>
+    ensures verdict { IfOk result (λ said. Checked
+        (R.remaining reader.old.device) (R.remaining reader.new.device) said) }
+    ensures fault { IfErr result (λ e. Stopped
+        (R.remaining reader.old.device) (R.remaining reader.new.device)
+        reader.old.calls reader.new.calls (within_most reads) e) }
+    ensures reads { reader.new.calls ≤ reader.old.calls + within_most reads }
+    ensures reader { reader.new.failures ≡ failures_of reader.old.failures result }
+{
+    let Ok(mut checker) = Checker::new(alloc) else {
+        return Err(CheckFault::Short);
+    };
+    for made in 0..reads.min(MOST_READS) {
+        match checker.read_on(alloc, reader) {
+            Ok(None) => {}
+            Ok(Some(verdict)) => return Ok(verdict),
+            Err(fault) => return Err(fault),
+        }
+    }
+    Err(CheckFault::TooLong)
+}
+
+/// Checks a trace by at most 2^32 reads, as [`check_bounded`] does.
+pub fn check<R: Read>(alloc: Global, reader: &mut Counted<R>) -> Result<Verdict, CheckFault>
+    ensures verdict { IfOk result (λ said. Checked
+        (R.remaining reader.old.device) (R.remaining reader.new.device) said) }
+    ensures fault { IfErr result (λ e. Stopped
+        (R.remaining reader.old.device) (R.remaining reader.new.device)
+        reader.old.calls reader.new.calls (2 ^ 32) e) }
+    ensures reads { reader.new.calls ≤ reader.old.calls + 2 ^ 32 }
+    ensures reader { reader.new.failures ≡ failures_of reader.old.failures result }
+{
+    check_bounded(alloc, reader, MOST_READS)
+}

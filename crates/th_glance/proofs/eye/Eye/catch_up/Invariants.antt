@@ -1,0 +1,9 @@
+use Rattle.std.proofs.Common.{◌≡◌, ◌≤◌}
+use mathlib.Core.List.{IsPrefix}
+use Rattle.th_glance.specs.Lists.{last_count}
+use Rattle.th_glance.proofs.eye.Eye.catch_up.Given as goal
+
+abbrev pub invariant-loop : goal.invariant-loop
+invariant-loop g l =
+    (l.self.table ≡ l.initial.self.table) × IsPrefix l.initial.self.list l.self.list
+    × (last_count l.initial.self.list ≤ last_count l.self.list)
