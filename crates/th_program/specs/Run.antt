@@ -1,16 +1,23 @@
 -- What a run of the program does with its streams.
-use Rattle.std.specs.Prelude.{◌≡◌, ◌≢◌, ◌⊎◌, ℕ, ◌^◌, List, [], ◌∷◌, ◌++◌, Option, Some, None}
+use Rattle.std.specs.Prelude.{◌≡◌, ◌≢◌, ◌⊎◌, ℕ, ◌^◌, List, [], ◌∷◌, ◌++◌, codes, Option, Some, None}
+use Rattle.std.specs.Fmt.{decimal}
 use Rattle.std.specs.Io.KnownBytes.{Appends}
 use Rattle.clap.specs.Words.{fault_of}
 use Rattle.th_lines.specs.Tally.{Tally}
+use Rattle.th_check.specs.Checked as check
+use Rattle.th_check.specs.Checked.{Checked}
+use Rattle.th_check.specs.declared.fault.CheckFault.{CheckFault}
+use Rattle.th_check.specs.declared.fault.CheckFault.TheVariants as check_fault
+use Rattle.th_check.specs.declared.verdict.Verdict.{Verdict}
+use Rattle.th_check.specs.declared.verdict.Verdict.TheVariants as verdict
 use Rattle.th_replay.specs.Outcome.{Devices, Replayed, Stopped}
 use Rattle.th_replay.specs.Schedule.{machine, start}
 use Rattle.th_replay.specs.declared.fault.ReplayFault.{ReplayFault}
 use Rattle.th_replay.specs.declared.fault.ReplayFault.TheVariants as fault
 use Rattle.th_program.specs.declared.end.End.{End}
-use Rattle.th_program.specs.declared.end.End.TheVariants.{Done, Help, Read, Write, TooLong, Short, Usage}
+use Rattle.th_program.specs.declared.end.End.TheVariants.{Done, Help, Read, Write, TooLong, Short, Usage, Illegal, Bad}
 use Rattle.th_program.specs.Status.{explanation_of}
-use Rattle.th_program.specs.Words.{AreReplay, AreHelp, AreNone, command_line}
+use Rattle.th_program.specs.Words.{AreCheck, AreReplay, AreHelp, AreVersion, AreNone, command_line}
 
 -- what is known of standard error: the bytes written, and how many calls failed
 pub record Errors : Type 0 where
@@ -26,6 +33,20 @@ abbrev pub IsHelpOf : List ℕ → Option (List ℕ) → Option (List ℕ) → E
 IsHelpOf text before after Help = Appends before after text
 IsHelpOf text before after Write = Unit {0}
 IsHelpOf text before after end = ⊥
+
+-- the line that tells a verdict
+abbrev pub word_of : Verdict → List ℕ
+word_of (verdict.Legal count) = codes "legal "
+word_of (verdict.Illegal number) = codes "illegal "
+word_of (verdict.BadTrace number) = codes "bad "
+
+abbrev pub number_of : Verdict → ℕ
+number_of (verdict.Legal count) = count
+number_of (verdict.Illegal number) = number
+number_of (verdict.BadTrace number) = number
+
+abbrev pub verdict_line : Verdict → List ℕ
+verdict_line said = word_of said ++ (decimal (number_of said) ++ 10 ∷ [])
 
 module _ (before after : Devices) where
   -- nothing was read
@@ -49,6 +70,28 @@ module _ (before after : Devices) where
   EndsReplay TooLong = IsStopped fault.TooLong
   EndsReplay Short = IsStopped fault.Short
   EndsReplay end = ⊥
+
+  -- The text that was read has this verdict, and its line is on standard output.
+  pub record IsChecked (said : Verdict) : Type 0 where
+    pub checked : Checked before.remaining after.remaining said
+    pub told : Appends before.contents after.contents (verdict_line said)
+
+  -- the check was stopped by this fault, with nothing on standard output
+  abbrev pub IsUnchecked : CheckFault → Type 0
+  IsUnchecked fault =
+      check.Stopped before.remaining after.remaining before.calls after.calls (2 ^ 32) fault
+      × (after.contents ≡ before.contents)
+
+  -- how a run ends that checks a trace
+  abbrev pub EndsCheck : End → Type 0
+  EndsCheck Done = (count : ℕ) × IsChecked (verdict.Legal count)
+  EndsCheck Illegal = (number : ℕ) × IsChecked (verdict.Illegal number)
+  EndsCheck Bad = (number : ℕ) × IsChecked (verdict.BadTrace number)
+  EndsCheck Read = IsUnchecked check_fault.Read
+  EndsCheck Write = (said : Verdict) × Checked before.remaining after.remaining said
+  EndsCheck TooLong = IsUnchecked check_fault.TooLong
+  EndsCheck Short = IsUnchecked check_fault.Short
+  EndsCheck end = ⊥
 
   -- how a run ends that was asked for help: with a text on standard output, where there was memory
   -- for it and the writer took it
@@ -83,7 +126,9 @@ IsExplained before after end =
 -- how a run by these words ends
 pub record Ends (words : List (List ℕ)) (before after : Devices) (end : End) : Type 0 where
   pub replay : AreReplay words → EndsReplay before after end
+  pub check : AreCheck words → EndsCheck before after end
   pub help : AreHelp words → EndsHelp before after end
+  pub version : AreVersion words → EndsHelp before after end
   pub none : AreNone words → EndsRefused before after end
   pub wrong : fault_of command_line words ≢ []
       → EndsHelp before after end ⊎ EndsRefused before after end

@@ -1,4 +1,7 @@
-//! The texts of `topichub --help` and `topichub replay --help`.
+//! The texts of `topichub --help`, `topichub replay --help` and `topichub check --help`.
+
+/// The version of the program.
+pub const VERSION: &str = "0.1.0";
 
 /// One line on the program.
 pub const ABOUT: &str =
@@ -29,15 +32,23 @@ Each line of the schedule stands here with its reply:
 With the left half in a file, `topichub replay < FILE` prints the right half.
 `topichub replay --help` lists all commands and replies.
 
+The command TRACE of a schedule prints what happened on a topic. `topichub check`
+reads such a trace and says whether a channel would have done so.
+
 Exit status:
-  0  done
+  0  done; of a check, that the trace is legal
   1  stopped, with one line on standard error: `topichub: read fault`,
      `topichub: write fault`, `topichub: too long` or `topichub: no memory`
-  2  wrong words on the command line";
+  2  wrong words on the command line
+  3  the trace that was checked is illegal or bad";
 
 /// One line on the mode `replay`.
 pub const REPLAY_ABOUT: &str =
     "Read a schedule from standard input, print its replies on standard output";
+
+/// What stands below the text on wrong words where they begin with `replay`.
+pub const REPLAY_INPUT: &str =
+    "\nA schedule comes from standard input, as in: topichub replay < FILE\n";
 
 /// What stands below the options of the mode `replay`.
 pub const REPLAY_AFTER: &str = "\
@@ -122,4 +133,40 @@ Refusals:
   22 log-full           the topic's log is full; a TRACE makes room
   23 long-line          more than 4096 bytes
 
+What puzzles at first:
+  OPEN t W v answers OK 1: a watch topic keeps one value, and that is its
+  capacity in force.
+  EDIT t QUIET v answers NO, though the value is the newest one from then on:
+  NO says that nobody was told.
+  16 not-held: PUB, SWAP, EDIT and UNBIND go by the actor's own sender, which
+  BIND gets; what receives, looks or marks, and LEFT, RESUB and UNSUB, go by
+  its own receiver, which SUB gets. Nobody holds anything by opening a topic.
+  18 closed, though there are receivers: it is the sender to go through that
+  is gone. BIND and END go through the hub's own, which END spends; SUB,
+  READERS and QUEUED go through the actor's own, or else the hub's.
+  CLOSED comes when no sender is left, nobody's and not the hub's.
+
 At most 1000000 lines. Exit status as in `topichub --help`.";
+
+/// One line on the mode `check`.
+pub const CHECK_ABOUT: &str =
+    "Read a trace from standard input, print whether it is legal on standard output";
+
+/// What stands below the text on wrong words where they begin with `check`.
+pub const CHECK_INPUT: &str = "\nA trace comes from standard input, as in: topichub check < FILE\n";
+
+/// What stands below the options of the mode `check`.
+pub const CHECK_AFTER: &str = "\
+A trace is what the command TRACE of a schedule prints, without its first line
+`OK n`: the picture of a channel, each call with the reply to it, and how many
+they were. The check makes a channel of that picture and goes through the calls
+again. It prints one line:
+
+  legal n               a trace of n entries, and the channel replies the same
+  illegal l             line l is a reply that the channel would not give there
+  bad l                 line l is none that may stand there, or it is missing
+
+Lines are counted from 1. The first line that is bad or illegal is named, and
+nothing below it is read. At most 1000000 entries.
+
+Exit status as in `topichub --help`.";

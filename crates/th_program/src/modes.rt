@@ -5,6 +5,8 @@
 pub enum Mode {
     /// Carry out a schedule from standard input, and print its replies.
     Replay,
+    /// Check the trace from standard input, and print the verdict.
+    Check,
 }
 
 /// Words that name no mode.
@@ -12,7 +14,7 @@ pub enum Mode {
 pub enum ModeFault {
     /// The words are wrong. The text says how, for standard error.
     Usage(String),
-    /// Help was asked for. This is its text, for standard output.
+    /// Help was asked for, or the version. This is its text, for standard output.
     Help(String),
     /// There was no memory to read the words or to write the text.
     Short,

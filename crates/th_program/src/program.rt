@@ -1,16 +1,18 @@
 //! What the program does with its words, over any reader and writers.
-ghost use Rattle.std.specs.Prelude.{◌≡◌, true, false, map};
+ghost use Rattle.std.specs.Prelude.{◌≡◌, IsTrue, Some, codes, true, false, map};
 ghost use Rattle.std.specs.Io.KnownBytes.{Appends};
 ghost use Rattle.th_lines.specs.Device.{one_more};
 ghost use Rattle.th_replay.specs.Outcome.{devices};
-ghost use Rattle.th_program.specs.Run.{Ends, EndsReplay, IsHelpOf, IsExplained, IsSaid, errors_of, line_of};
+ghost use Rattle.th_program.specs.Run.{Ends, EndsCheck, EndsReplay, IsHelpOf, IsExplained, IsSaid, errors_of, line_of, number_of, verdict_line, word_of};
 ghost use Rattle.th_program.specs.Status.{explanation_of};
 
 use crate::end::{End, explanation};
 use crate::modes::{Mode, ModeFault};
-use crate::words::mode;
+use crate::words::{hint, mode};
+use itoa::Buffer;
 use std::alloc::Global;
 use std::io::{Read, Write};
+use th_check::{CheckFault, Verdict, check};
 use th_lines::{Counted, Moved};
 use th_replay::{ReplayFault, replay};
 
@@ -60,6 +62,17 @@ fn explain<E: Write>(errors: &mut Counted<E>, end: &End)
     }
 }
 
+// Says a line as an error.
+fn say_line<E: Write>(errors: &mut Counted<E>, text: &str)
+    ensures { IsSaid
+        (errors_of E.contents errors.old)
+        (errors_of E.contents errors.new)
+        (line_of (Some text.now)) }
+{
+    say(errors, text.as_bytes());
+    say(errors, b"\n");
+}
+
 // Writes the text of help.
 fn write_help<W: Write>(output: &mut Counted<W>, text: &[u8]) -> End
     ensures { IsHelpOf text.now
@@ -92,6 +105,61 @@ fn carry_out<R: Read, W: Write>(
     }
 }
 
+// The word of a verdict, and its number.
+fn told(verdict: Verdict) -> (&'static [u8], u64)
+    ensures word { result.0.now ≡ word_of verdict }
+    ensures number { result.1 ≡ number_of verdict }
+{
+    match verdict {
+        Verdict::Legal(count) => (b"legal ", count),
+        Verdict::Illegal(number) => (b"illegal ", number),
+        Verdict::BadTrace(number) => (b"bad ", number),
+    }
+}
+
+// Writes the line of a verdict; `false` where the writer failed. It takes no memory.
+fn write_verdict<W: Write>(output: &mut Counted<W>, verdict: Verdict) -> bool
+    ensures { result ≡ true → Appends
+        (W.contents output.old.device) (W.contents output.new.device) (verdict_line verdict) }
+{
+    let (word, number) = told(verdict);
+    let mut digits = Buffer::new();
+    if !write_text(output, word) {
+        return false;
+    }
+    if !write_text(output, digits.format(number).as_bytes()) {
+        return false;
+    }
+    write_text(output, b"\n")
+}
+
+// Checks the trace of the reader, and tells the verdict.
+fn carry_out_check<R: Read, W: Write>(
+    alloc: Global,
+    input: &mut Counted<R>,
+    output: &mut Counted<W>,
+) -> End
+    ensures { EndsCheck
+        (devices R.remaining input.old W.contents output.old)
+        (devices R.remaining input.new W.contents output.new)
+        result }
+{
+    let verdict = match check(alloc, input) {
+        Ok(verdict) => verdict,
+        Err(CheckFault::Read) => return End::Read,
+        Err(CheckFault::TooLong) => return End::TooLong,
+        Err(CheckFault::Short) => return End::Short,
+    };
+    if !write_verdict(output, verdict) {
+        return End::Write;
+    }
+    match verdict {
+        Verdict::Legal(_) => End::Done,
+        Verdict::Illegal(_) => End::Illegal,
+        Verdict::BadTrace(_) => End::Bad,
+    }
+}
+
 /// The end of a run for whose words there was no memory.
 pub fn run_short<E: Write>(errors: &mut Counted<E>) -> End
     ensures end { result ≡ End.Short }
@@ -104,8 +172,37 @@ pub fn run_short<E: Write>(errors: &mut Counted<E>) -> End
     End::Short
 }
 
+/// The end of a run of whose words one is no text.
+pub fn run_not_text<E: Write>(errors: &mut Counted<E>) -> End
+    ensures end { result ≡ End.Usage }
+    ensures said { IsSaid
+        (errors_of E.contents errors.old)
+        (errors_of E.contents errors.new)
+        (line_of (Some (codes "error: a word of the command line is not UTF-8"))) }
+{
+    say_line(errors, "error: a word of the command line is not UTF-8");
+    End::Usage
+}
+
+/// Says at a terminal, as an error, what a replay waits for. Elsewhere nothing is said.
+pub fn greet<E: Write>(errors: &mut Counted<E>, at_terminal: bool)
+    ensures said { IsTrue at_terminal → IsSaid
+        (errors_of E.contents errors.old)
+        (errors_of E.contents errors.new)
+        (line_of (Some (codes "topichub: reading a schedule, line by line; Ctrl-D ends it"))) }
+    ensures silent { at_terminal ≡ false → errors.new ≡ errors.old }
+{
+    if at_terminal {
+        say_line(
+            errors,
+            "topichub: reading a schedule, line by line; Ctrl-D ends it",
+        );
+    }
+}
+
 /// Does what the words ask for, the program's name first. `replay` carries out the schedule of
-/// `input`. A text of help goes to `output`; what is wrong with the words goes to `errors`, and so
+/// `input`, and `check` says whether its trace is legal. A text of help, or the version, goes to `output`; what is wrong
+/// with the words goes to `errors`, and so
 /// does a line that says what stopped the run.
 pub fn run<R: Read, W: Write, E: Write>(
     alloc: Global,
@@ -129,6 +226,11 @@ pub fn run<R: Read, W: Write, E: Write>(
             explain(errors, &end);
             end
         }
+        Ok(Mode::Check) => {
+            let end = carry_out_check(alloc, input, output);
+            explain(errors, &end);
+            end
+        }
         Err(ModeFault::Help(text)) => {
             let end = write_help(output, text.as_bytes());
             explain(errors, &end);
@@ -136,6 +238,7 @@ pub fn run<R: Read, W: Write, E: Write>(
         }
         Err(ModeFault::Usage(text)) => {
             say(errors, text.as_bytes());
+            say(errors, hint(words).as_bytes());
             End::Usage
         }
         Err(ModeFault::Short) => run_short(errors),

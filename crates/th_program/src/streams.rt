@@ -2,18 +2,32 @@
 ghost use Rattle.std.specs.Prelude.{◌≡◌, IfOk, map, string_bytes};
 
 use crate::end::status;
-use crate::program::{run, run_short};
+use crate::program::{greet, run, run_not_text, run_short};
 use std::alloc::{AllocError, Global};
 use std::env;
+use std::io::{ErrorKind, IsTerminal};
 use std::process::ExitCode;
 use th_lines::Counted;
 
+// Why the words of the command line are not known.
+#[derive(Clone, Copy, Drop)]
+enum Unknown {
+    // There was no memory for them.
+    Short,
+    // One of them is not UTF-8.
+    NotText,
+}
+
 // The words of the command line, the program's name first.
-fn given(rt: &HostRuntime) -> Result<Vec<String>, AllocError> {
-    let Ok(words) = env::args(rt) else {
-        return Err(AllocError);
-    };
-    words.collect(rt.alloc())
+fn given(rt: &HostRuntime) -> Result<Vec<String>, Unknown> {
+    match env::args(rt) {
+        Ok(words) => match words.collect(rt.alloc()) {
+            Ok(words) => Ok(words),
+            Err(_) => Err(Unknown::Short),
+        },
+        Err(error) if error.kind() == ErrorKind::InvalidData => Err(Unknown::NotText),
+        Err(_) => Err(Unknown::Short),
+    }
 }
 
 // The texts of the words.
@@ -27,6 +41,11 @@ fn texts<'a>(alloc: Global, words: &'a [String]) -> Result<Vec<&'a str>, AllocEr
     Ok(texts)
 }
 
+// The words are those of a replay.
+fn is_replay(words: &[&str]) -> bool {
+    words.len() == 2 && words[1] == "replay"
+}
+
 /// Does what the words of the command line ask for, as [`run`] does, on the standard streams, and
 /// answers the exit status. The streams are used as they are: what goes through them goes in large
 /// pieces already.
@@ -34,21 +53,30 @@ pub fn run_on_streams(rt: &HostRuntime) -> ExitCode {
     let alloc = rt.alloc();
     let given = given(rt);
     let words = match &given {
-        Ok(given) => texts(alloc, given.as_slice()),
-        Err(_) => Err(AllocError),
+        Ok(given) => match texts(alloc, given.as_slice()) {
+            Ok(words) => Ok(words),
+            Err(_) => Err(Unknown::Short),
+        },
+        Err(why) => Err(*why),
     };
-    let mut input = Counted::new(rt.stdin());
+    let stdin = rt.stdin();
+    let at_terminal = stdin.is_terminal();
+    let mut input = Counted::new(stdin);
     let mut output = Counted::new(rt.stdout());
     let mut errors = Counted::new(rt.stderr());
     let end = match &words {
-        Ok(words) => run(
-            alloc,
-            words.as_slice(),
-            &mut input,
-            &mut output,
-            &mut errors,
-        ),
-        Err(_) => run_short(&mut errors),
+        Ok(words) => {
+            greet(&mut errors, at_terminal && is_replay(words.as_slice()));
+            run(
+                alloc,
+                words.as_slice(),
+                &mut input,
+                &mut output,
+                &mut errors,
+            )
+        }
+        Err(Unknown::Short) => run_short(&mut errors),
+        Err(Unknown::NotText) => run_not_text(&mut errors),
     };
     ExitCode::from(status(&end))
 }

@@ -16,7 +16,9 @@ returns-in-Err-Help-clause-ends g c =
     let mode = rw c.in-Err-Help.field-0-is at c.in-Err-Help.ensures in
     record {
       replay = λ words. let short = mode.replay words in cc;
+      check = λ words. let short = mode.check words in cc;
       help = λ _. ends;
+      version = λ _. ends;
       none = λ words. elim (mode.none words) [ inl never ↦ absurd never | inr short ↦ cc ];
       wrong = λ _. inl ends;
     }

@@ -1,12 +1,13 @@
 use Rattle.std.proofs.Common.{ap, ap₂, sym, subst, inl, inr, ◌≡◌, ◌∙◌, [], ◌∷◌, map}
 use Rattle.clap.specs.Words.{HasKind, Kinds, fault_of, is_simple_and_free}
 use Rattle.clap.specs.declared.error.kind.ErrorKind.TheVariants as kind
-use Rattle.th_program.specs.Words.{command_line}
-use Rattle.th_program.proofs.CommandLine.{is_plain, replay_passes, help_fails, none_fails}
+use Rattle.th_program.specs.Words.{command_line, mode_of}
+use Rattle.th_program.proofs.CommandLine.{check_named, check_passes, help_fails, is_plain, none_fails, replay_named, replay_passes, version_fails}
 use Rattle.th_program.proofs.words.mode.Goals as goal
+use Rattle.th_program.proofs.words.mode.Goals.{After-refused}
 
 -- the error has one of the kinds that the words give
-failed : (c : goal.After-refused) (kinds : Kinds)
+failed : (c : After-refused) (kinds : Kinds)
     → fault_of command_line (map (λ w. w.now) c.args.words.now) ≡ kinds
     → HasKind kinds c.in-Err.error
 failed c kinds is =
@@ -24,36 +25,78 @@ returns-in-Ok-try_get_matches_from-clause-help c =
     let e : [] ≡ kind.DisplayHelp ∷ [] = sym passes ∙ ap₂ fault_of app words ∙ help_fails name in
     cc
 
-pub returns-clause-replay : goal.returns-clause-replay
-returns-clause-replay c =
+pub returns-in-Ok-try_get_matches_from-clause-version : goal.returns-in-Ok-try_get_matches_from-clause-version
+returns-in-Ok-try_get_matches_from-clause-version c =
+    let app = c.in-Ok.ensures in
+    λ (name, words).
+    let passes =
+    c.in-Ok-try_get_matches_from.ensures.kinds (ap is_simple_and_free app ∙ is_plain) in
+    let e : [] ≡ kind.DisplayVersion ∷ [] = sym passes ∙ ap₂ fault_of app words ∙ version_fails name in
+    cc
+
+pub returns-in-Err-clause-replay : goal.returns-in-Err-clause-replay
+returns-in-Err-clause-replay c =
     λ (name, words). elim (failed c [] (ap (fault_of command_line) words ∙ replay_passes name)) [
       | inl short ↦ c.refused.ensures.short short
       | inr none ↦ absurd none
     ]
 
-pub returns-clause-taken : goal.returns-clause-taken
-returns-clause-taken c = λ is. elim (failed c [] is) [
+pub returns-in-Err-clause-taken : goal.returns-in-Err-clause-taken
+returns-in-Err-clause-taken c = λ is. elim (failed c [] is) [
   | inl short ↦ c.refused.ensures.short short
   | inr none ↦ absurd none
 ]
 
-pub returns-clause-help : goal.returns-clause-help
-returns-clause-help c =
+pub returns-in-Err-clause-help : goal.returns-in-Err-clause-help
+returns-in-Err-clause-help c =
     λ (name, words). elim
     (failed c (kind.DisplayHelp ∷ []) (ap (fault_of command_line) words ∙ help_fails name)) [
       | inl short ↦ inr (c.refused.ensures.short short)
       | inr kinds ↦ elim kinds [ inl help ↦ c.refused.ensures.help help | inr none ↦ absurd none ]
     ]
 
-pub returns-clause-none : goal.returns-clause-none
-returns-clause-none c =
+pub returns-in-Err-clause-version : goal.returns-in-Err-clause-version
+returns-in-Err-clause-version c =
+    λ (name, words). elim
+    (failed c (kind.DisplayVersion ∷ [])
+    (ap (fault_of command_line) words ∙ version_fails name)) [
+      | inl short ↦ inr (c.refused.ensures.short short)
+      | inr kinds ↦ elim kinds [
+        | inl version ↦ c.refused.ensures.version version
+        | inr none ↦ absurd none
+      ]
+    ]
+
+pub returns-in-Err-clause-none : goal.returns-in-Err-clause-none
+returns-in-Err-clause-none c =
     λ (name, words). elim
     (failed c (kind.MissingSubcommand ∷ []) (ap (fault_of command_line) words ∙ none_fails name)) [
       | inl short ↦ inr (c.refused.ensures.short short)
       | inr kinds ↦ elim kinds [
         | inl missing ↦ c.refused.ensures.usage
             (λ help. let e : kind.MissingSubcommand ≡ kind.DisplayHelp = sym missing ∙ help in cc)
+            (λ version. let e : kind.MissingSubcommand ≡ kind.DisplayVersion = sym missing ∙ version in cc)
             (λ short. let e : kind.MissingSubcommand ≡ kind.OutOfMemory = sym missing ∙ short in cc)
         | inr none ↦ absurd none
       ]
+    ]
+
+-- the mode of the command that the matches name
+pub returns-in-Ok-try_get_matches_from-clause-replay : goal.returns-in-Ok-try_get_matches_from-clause-replay
+returns-in-Ok-try_get_matches_from-clause-replay c = λ (name, words).
+    c.named.ensures
+    ∙ ap mode_of (c.subcommand_name.ensures
+    ∙ replay_named c.in-Ok-try_get_matches_from.matches _ _ c.in-Ok.ensures c.in-Ok-try_get_matches_from.ensures.matches name words)
+
+pub returns-in-Ok-try_get_matches_from-clause-check : goal.returns-in-Ok-try_get_matches_from-clause-check
+returns-in-Ok-try_get_matches_from-clause-check c = λ (name, words).
+    c.named.ensures
+    ∙ ap mode_of (c.subcommand_name.ensures
+    ∙ check_named c.in-Ok-try_get_matches_from.matches _ _ c.in-Ok.ensures c.in-Ok-try_get_matches_from.ensures.matches name words)
+
+pub returns-in-Err-clause-check : goal.returns-in-Err-clause-check
+returns-in-Err-clause-check c =
+    λ (name, words). elim (failed c [] (ap (fault_of command_line) words ∙ check_passes name)) [
+      | inl short ↦ c.refused.ensures.short short
+      | inr none ↦ absurd none
     ]
