@@ -2,19 +2,23 @@
 //! bench compares with, and stands on the standard library alone.
 //!
 //! A broadcast topic keeps its newest values in a `VecDeque`, each with the number of receivers that have still to read
-//! it. A watch topic keeps its newest value and its version. An actor keeps what it holds on each topic.
+//! it. A watch topic keeps its newest value and its version. Each topic keeps a log of its calls and their replies, and
+//! each actor what it holds on each topic and a receipt of each reply; the schedules of the bench have no `TRACE`, so
+//! nothing prints them here.
 
 #[path = "plain/commands.rs"]
 mod commands;
 #[path = "plain/lines.rs"]
 mod lines;
+#[path = "plain/log.rs"]
+mod log;
 #[path = "plain/names.rs"]
 mod names;
 
 use crate::commands::{Any, Change, Command, Look, Making, Receive, Verb, step};
 use crate::lines::{Line, Lines};
+use crate::log::{Asked, Handle, Log, Receipt, Told, Value};
 use crate::names::Names;
-use std::borrow::Cow;
 use std::collections::VecDeque;
 use std::io::{self, BufWriter, Read, Write};
 use std::mem;
@@ -27,20 +31,11 @@ const TOPICS_LIMIT: usize = 1024;
 const ACTORS_LIMIT: usize = 1024;
 const CAPACITY_LIMIT: u64 = 65_536;
 
+/// What is answered where nothing refuses.
 enum Reply<'a> {
-    Ok,
-    Count(u64),
-    Value(Cow<'a, [u8]>),
-    Lagged(u64),
-    Empty,
-    Closed,
+    Opened(u64),
+    Told(&'a Told),
     Blocked,
-    Was(Vec<u8>),
-    New(&'a [u8]),
-    Same(&'a [u8]),
-    YesOrNo(bool),
-    Changed,
-    NotYet,
     Topics(&'a [Topic]),
     Bye,
 }
@@ -54,10 +49,9 @@ enum Refusal {
     BadCapacity,
     Held,
     NotHeld,
-    NoReceivers,
     Closed,
     TooMany,
-    Exhausted,
+    LogFull,
     LongLine,
 }
 
@@ -71,10 +65,9 @@ impl Refusal {
             Refusal::BadCapacity => b"14 bad-capacity",
             Refusal::Held => b"15 held",
             Refusal::NotHeld => b"16 not-held",
-            Refusal::NoReceivers => b"17 no-receivers",
             Refusal::Closed => b"18 closed",
             Refusal::TooMany => b"19 too-many",
-            Refusal::Exhausted => b"20 exhausted",
+            Refusal::LogFull => b"22 log-full",
             Refusal::LongLine => b"23 long-line",
         }
     }
@@ -90,6 +83,7 @@ struct Topic {
     senders: Senders,
     receivers: u64,
     channel: Channel,
+    log: Log,
 }
 
 enum Channel {
@@ -97,87 +91,66 @@ enum Channel {
     Watch(Watch),
 }
 
-impl Channel {
-    fn broadcast(&mut self) -> Result<&mut Broadcast, Refusal> {
-        match self {
-            Channel::Broadcast(broadcast) => Ok(broadcast),
-            Channel::Watch(_) => Err(Refusal::WrongKind),
-        }
-    }
-
-    fn watch(&mut self) -> Result<&mut Watch, Refusal> {
-        match self {
-            Channel::Watch(watch) => Ok(watch),
-            Channel::Broadcast(_) => Err(Refusal::WrongKind),
-        }
-    }
-}
-
 /// The live senders: the hub's own, and how many the actors have.
 struct Senders {
-    hub: bool,
+    hub: Option<Handle>,
     bound: u64,
 }
 
 impl Senders {
-    fn are_gone(&self) -> bool {
-        !self.hub && self.bound == 0
+    fn live(&self) -> u64 {
+        u64::from(self.hub.is_some()) + self.bound
     }
 
     /// The actor goes through its own sender, or else through the hub's.
-    fn any(&self, seat: &Seat) -> Result<(), Refusal> {
-        (seat.sender || self.hub)
-            .then_some(())
-            .ok_or(Refusal::Closed)
+    fn any<'a>(&'a mut self, own: &'a mut Option<Handle>) -> Result<&'a mut Handle, Refusal> {
+        own.as_mut().or(self.hub.as_mut()).ok_or(Refusal::Closed)
     }
 }
 
 impl Topic {
-    fn open(name: &[u8], channel: Channel) -> Topic {
+    fn open(name: &[u8], key: u64, channel: Channel) -> Topic {
+        let mut log = Log::new(key);
         Topic {
             name: name.into(),
             senders: Senders {
-                hub: true,
+                hub: Some(log.handle()),
                 bound: 0,
             },
             receivers: 0,
             channel,
+            log,
         }
     }
 
-    /// The place of a new receiver.
-    fn subscribe(&mut self) -> u64 {
-        self.receivers += 1;
-        match &self.channel {
-            Channel::Broadcast(broadcast) => broadcast.tail,
-            Channel::Watch(watch) => watch.version,
+    /// There is room for an event that makes so many handles.
+    fn room(&self, made: u64) -> Result<(), Refusal> {
+        match self
+            .log
+            .is_full(self.senders.live() + self.receivers + made)
+        {
+            true => Err(Refusal::LogFull),
+            false => Ok(()),
         }
     }
 
-    fn drop_receiver(&mut self, place: u64) {
+    fn unbind(&mut self, sender: Handle) -> &Told {
+        self.senders.bound -= 1;
+        self.log.spend(sender, Asked::DropSender)
+    }
+
+    fn unsubscribe(&mut self, receiver: Receiver) -> &Told {
         self.receivers -= 1;
         if let Channel::Broadcast(broadcast) = &mut self.channel {
-            broadcast.leave(place);
+            broadcast.leave(receiver.place);
         }
-    }
-
-    fn send(&mut self, value: &[u8]) -> Outcome<'static> {
-        if self.receivers == 0 {
-            return Err(Refusal::NoReceivers);
-        }
-        match &mut self.channel {
-            Channel::Broadcast(broadcast) => broadcast.send(value, self.receivers),
-            Channel::Watch(watch) => {
-                watch.publish(value);
-                Ok(Reply::Ok)
-            }
-        }
+        self.log.spend(receiver.handle, Asked::DropReceiver)
     }
 }
 
 /// A value that somebody has still to read.
 struct Slot {
-    value: Vec<u8>,
+    value: Value,
     to_come: u64,
 }
 
@@ -198,51 +171,43 @@ impl Broadcast {
         }
     }
 
-    fn send(&mut self, value: &[u8], receivers: u64) -> Outcome<'static> {
-        self.tail = self.tail.checked_add(1).ok_or(Refusal::Exhausted)?;
+    fn send(&mut self, value: Value, receivers: u64) -> Told {
+        if self.tail == u64::MAX {
+            return Told::Exhausted(value);
+        }
+        self.tail += 1;
         if self.window.len() as u64 == self.capacity {
             self.window.pop_front();
         }
         self.window.push_back(Slot {
-            value: value.into(),
+            value,
             to_come: receivers,
         });
-        Ok(Reply::Count(receivers))
+        Told::Count(receivers)
     }
 
-    fn by_receiver(&mut self, place: &mut u64, is_closed: bool, receive: Receive) -> Reply<'_> {
-        match receive {
-            Receive::Left => Reply::Count(self.tail - *place),
-            Receive::Resub => {
-                self.leave(mem::replace(place, self.tail));
-                Reply::Ok
-            }
-            Receive::Try | Receive::Next if *place < self.tail => self.receive(place),
-            Receive::Try | Receive::Next if is_closed => Reply::Closed,
-            Receive::Try => Reply::Empty,
-            Receive::Next => Reply::Blocked,
+    /// What a receiver with this place is told.
+    fn receive(&mut self, place: &mut u64, is_closed: bool) -> Told {
+        if *place == self.tail {
+            return if is_closed { Told::Closed } else { Told::Empty };
         }
-    }
-
-    /// What a receiver is told for which something is there.
-    fn receive(&mut self, place: &mut u64) -> Reply<'_> {
         let oldest = self.tail.saturating_sub(self.capacity);
         if *place < oldest {
             let missed = oldest - *place;
             *place = oldest;
-            return Reply::Lagged(missed);
+            return Told::Lagged(missed);
         }
         let behind = (self.tail - *place) as usize;
         *place += 1;
-        Reply::Value(self.read(self.window.len() - behind))
+        Told::Value(self.read(self.window.len() - behind))
     }
 
     /// The value of this slot, which one receiver more has read. The oldest one goes with its last receiver.
-    fn read(&mut self, at: usize) -> Cow<'_, [u8]> {
+    fn read(&mut self, at: usize) -> Value {
         self.window[at].to_come -= 1;
         match self.window.pop_front_if(|slot| slot.to_come == 0) {
-            Some(slot) => Cow::Owned(slot.value),
-            None => Cow::Borrowed(&self.window[at].value),
+            Some(slot) => slot.value,
+            None => self.window[at].value.clone(),
         }
     }
 
@@ -266,105 +231,120 @@ impl Broadcast {
 }
 
 struct Watch {
-    value: Vec<u8>,
+    value: Value,
     version: u64,
 }
 
 impl Watch {
-    fn publish(&mut self, value: &[u8]) {
+    fn publish(&mut self, value: Value) {
         self.version += 1;
-        self.put(value);
+        self.value = value;
     }
 
-    /// Puts the value into the old one's place, in the memory that is there.
-    fn put(&mut self, value: &[u8]) {
-        self.value.clear();
-        self.value.extend_from_slice(value);
-    }
-
-    fn write(&mut self, change: Change, value: &[u8]) -> Reply<'static> {
+    fn write(&mut self, change: Change, value: Value) -> (Asked, Told) {
         match change {
             Change::Swap => {
                 self.version += 1;
-                Reply::Was(mem::replace(&mut self.value, value.into()))
+                (
+                    Asked::Replace,
+                    Told::Was(mem::replace(&mut self.value, value)),
+                )
             }
             Change::Set => {
                 self.publish(value);
-                Reply::YesOrNo(true)
+                (Asked::EditSet, Told::YesOrNo(true))
             }
             Change::Differ => {
                 let differs = self.value != value;
                 if differs {
                     self.publish(value);
                 }
-                Reply::YesOrNo(differs)
+                (Asked::EditDiffer, Told::YesOrNo(differs))
             }
             Change::Quiet => {
-                self.put(value);
-                Reply::YesOrNo(false)
+                self.value = value;
+                (Asked::EditQuiet, Told::YesOrNo(false))
             }
         }
     }
 
-    fn look(&self, mark: &mut u64, is_closed: bool, look: Look) -> Reply<'_> {
+    fn look(&self, mark: &mut u64, is_closed: bool, look: Look) -> (Asked, Told) {
         let is_unseen = *mark < self.version;
         match look {
-            Look::Get => self.show(is_unseen),
+            Look::Get => (Asked::Borrow, self.show(is_unseen)),
             Look::Take => {
                 *mark = self.version;
-                self.show(is_unseen)
+                (Asked::BorrowAndUpdate, self.show(is_unseen))
             }
-            Look::Has if is_closed => Reply::Closed,
-            Look::Has => Reply::YesOrNo(is_unseen),
-            Look::TryChanged | Look::Changed if is_unseen => {
-                *mark = self.version;
-                Reply::Changed
-            }
-            Look::TryChanged | Look::Changed if is_closed => Reply::Closed,
-            Look::TryChanged => Reply::NotYet,
-            Look::Changed => Reply::Blocked,
+            Look::Has if is_closed => (Asked::HasChanged, Told::Closed),
+            Look::Has => (Asked::HasChanged, Told::YesOrNo(is_unseen)),
+            Look::TryChanged => (Asked::TryChanged, self.changed(mark, is_closed)),
+            Look::Changed => (Asked::Changed, self.changed(mark, is_closed)),
             Look::Mark => {
                 *mark = 0;
-                Reply::Ok
+                (Asked::MarkChanged, Told::Done)
             }
             Look::Unmark => {
                 *mark = self.version;
-                Reply::Ok
+                (Asked::MarkUnchanged, Told::Done)
             }
         }
     }
 
-    fn show(&self, is_unseen: bool) -> Reply<'_> {
-        if is_unseen {
-            Reply::New(&self.value)
+    fn changed(&self, mark: &mut u64, is_closed: bool) -> Told {
+        if *mark < self.version {
+            *mark = self.version;
+            Told::Changed
+        } else if is_closed {
+            Told::Closed
         } else {
-            Reply::Same(&self.value)
+            Told::NotYet
+        }
+    }
+
+    fn show(&self, is_unseen: bool) -> Told {
+        if is_unseen {
+            Told::New(self.value.clone())
+        } else {
+            Told::Same(self.value.clone())
         }
     }
 }
 
 // ---- the hub
 
-/// What an actor holds on a topic.
-#[derive(Clone, Default)]
-struct Seat {
-    sender: bool,
-    /// On a broadcast topic the position that the receiver reads next, on a watch topic the version that it has seen.
-    receiver: Option<u64>,
+struct Receiver {
+    handle: Handle,
+    /// On a broadcast topic the position that it reads next, on a watch topic the version that it has seen.
+    place: u64,
 }
 
-/// What an actor holds, by the topics' numbers.
+/// What an actor holds on a topic, and what it was told there.
+#[derive(Default)]
+struct Seat {
+    sender: Option<Handle>,
+    receiver: Option<Receiver>,
+    diary: Vec<Receipt>,
+}
+
+/// Where an actor is or was, in the order in which it came.
 #[derive(Default)]
 struct Actor {
-    seats: Vec<Seat>,
+    /// By the topics' numbers, one more than the seat's index; 0 where it never was.
+    at: Vec<u32>,
+    seats: Vec<(usize, Seat)>,
 }
 
 impl Actor {
     fn seat(&mut self, topic: usize) -> &mut Seat {
-        if self.seats.len() <= topic {
-            self.seats.resize(topic + 1, Seat::default());
+        if self.at.len() <= topic {
+            self.at.resize(topic + 1, 0);
         }
-        &mut self.seats[topic]
+        if self.at[topic] == 0 {
+            self.seats.push((topic, Seat::default()));
+            self.at[topic] = self.seats.len() as u32;
+        }
+        &mut self.seats[self.at[topic] as usize - 1].1
     }
 }
 
@@ -441,17 +421,21 @@ impl Topics {
         if self.list.len() == TOPICS_LIMIT {
             return Err(Refusal::TooMany);
         }
-        self.numbers.insert(name.into(), self.list.len());
-        self.list.push(Topic::open(name, channel));
-        Ok(Reply::Count(told))
+        let number = self.list.len();
+        self.numbers.insert(name.into(), number);
+        self.list.push(Topic::open(name, number as u64, channel));
+        Ok(Reply::Opened(told))
     }
 
     /// Everything that the actor holds is spent.
     fn spend(&mut self, actor: Actor) {
-        for (topic, seat) in self.list.iter_mut().zip(actor.seats) {
-            topic.senders.bound -= u64::from(seat.sender);
-            if let Some(place) = seat.receiver {
-                topic.drop_receiver(place);
+        for (number, seat) in actor.seats {
+            let topic = &mut self.list[number];
+            if let Some(sender) = seat.sender {
+                topic.unbind(sender);
+            }
+            if let Some(receiver) = seat.receiver {
+                topic.unsubscribe(receiver);
             }
         }
     }
@@ -461,70 +445,207 @@ impl Topics {
 fn on_topic<'a>(topic: &'a mut Topic, seat: &mut Seat, verb: Verb<'_>) -> Outcome<'a> {
     match verb {
         Verb::Any(any) => on_any(topic, seat, any),
-        Verb::Receive(receive) => {
-            let broadcast = topic.channel.broadcast()?;
-            let place = seat.receiver.as_mut().ok_or(Refusal::NotHeld)?;
-            Ok(broadcast.by_receiver(place, topic.senders.are_gone(), receive))
+        Verb::Receive(receive) => on_receive(topic, seat, receive),
+        Verb::SubOldest if !matches!(topic.channel, Channel::Broadcast(_)) => {
+            Err(Refusal::WrongKind)
         }
-        Verb::SubOldest => {
-            let broadcast = topic.channel.broadcast()?;
-            if seat.receiver.is_some() {
-                return Err(Refusal::Held);
-            }
-            topic.senders.any(seat)?;
-            seat.receiver = Some(broadcast.join_oldest());
-            topic.receivers += 1;
-            Ok(Reply::Ok)
-        }
+        Verb::SubOldest => subscribe(topic, seat, Asked::SubscribeOldest),
         Verb::Queued => {
-            let broadcast = topic.channel.broadcast()?;
-            topic.senders.any(seat)?;
-            Ok(Reply::Count(broadcast.window.len() as u64))
+            let Channel::Broadcast(broadcast) = &topic.channel else {
+                return Err(Refusal::WrongKind);
+            };
+            let queued = broadcast.window.len() as u64;
+            count(topic, seat, Asked::Queued, queued)
         }
-        Verb::Look(look) => {
-            let watch = topic.channel.watch()?;
-            let mark = seat.receiver.as_mut().ok_or(Refusal::NotHeld)?;
-            Ok(watch.look(mark, topic.senders.are_gone(), look))
-        }
+        Verb::Look(look) => on_look(topic, seat, look),
         Verb::Write(change, value) => {
-            let watch = topic.channel.watch()?;
-            if !seat.sender {
-                return Err(Refusal::NotHeld);
-            }
-            Ok(watch.write(change, value))
+            let Channel::Watch(_) = topic.channel else {
+                return Err(Refusal::WrongKind);
+            };
+            let sender = seat.sender.as_mut().ok_or(Refusal::NotHeld)?;
+            topic.room(0)?;
+            let Channel::Watch(watch) = &mut topic.channel else {
+                unreachable!("it is a watch topic")
+            };
+            let value: Value = value.into();
+            let (asked, told) = watch.write(change, value.clone());
+            Ok(Reply::Told(topic.log.event(
+                sender,
+                &mut seat.diary,
+                asked,
+                Some(value),
+                told,
+            )))
         }
     }
 }
 
-fn on_any(topic: &mut Topic, seat: &mut Seat, any: Any<'_>) -> Outcome<'static> {
-    match any {
-        Any::Bind if seat.sender => return Err(Refusal::Held),
-        Any::Bind if !topic.senders.hub => return Err(Refusal::Closed),
-        Any::Bind => {
-            seat.sender = true;
-            topic.senders.bound += 1;
-        }
-        Any::Unbind if !seat.sender => return Err(Refusal::NotHeld),
-        Any::Unbind => {
-            seat.sender = false;
-            topic.senders.bound -= 1;
-        }
-        Any::Sub if seat.receiver.is_some() => return Err(Refusal::Held),
-        Any::Sub => {
-            topic.senders.any(seat)?;
-            seat.receiver = Some(topic.subscribe());
-        }
-        Any::Unsub => topic.drop_receiver(seat.receiver.take().ok_or(Refusal::NotHeld)?),
-        Any::Pub { .. } if !seat.sender => return Err(Refusal::NotHeld),
-        Any::Pub { value } => return topic.send(value),
-        Any::Readers => {
-            topic.senders.any(seat)?;
-            return Ok(Reply::Count(topic.receivers));
-        }
-        Any::End if !topic.senders.hub => return Err(Refusal::Closed),
-        Any::End => topic.senders.hub = false,
+fn on_receive<'a>(topic: &'a mut Topic, seat: &mut Seat, receive: Receive) -> Outcome<'a> {
+    let Channel::Broadcast(broadcast) = &topic.channel else {
+        return Err(Refusal::WrongKind);
+    };
+    let receiver = seat.receiver.as_mut().ok_or(Refusal::NotHeld)?;
+    let is_closed = topic.senders.live() == 0;
+    if let Receive::Next = receive
+        && receiver.place == broadcast.tail
+        && !is_closed
+    {
+        return Ok(Reply::Blocked);
     }
-    Ok(Reply::Ok)
+    topic.room(match receive {
+        Receive::Resub => 1,
+        _ => 0,
+    })?;
+    let Channel::Broadcast(broadcast) = &mut topic.channel else {
+        unreachable!("it is a broadcast topic")
+    };
+    let place = &mut receiver.place;
+    let (asked, told) = match receive {
+        Receive::Try => (Asked::TryReceive, broadcast.receive(place, is_closed)),
+        Receive::Next => (Asked::Receive, broadcast.receive(place, is_closed)),
+        Receive::Left => (Asked::Left, Told::Count(broadcast.tail - *place)),
+        Receive::Resub => (Asked::Resubscribe, Told::NewReceiver(topic.log.next())),
+    };
+    if let Receive::Resub = receive {
+        let old = mem::replace(place, broadcast.tail);
+        broadcast.leave(old);
+        let new = topic.log.handle();
+        let mut old = mem::replace(&mut receiver.handle, new);
+        topic
+            .log
+            .event(&mut old, &mut seat.diary, asked, None, told);
+        return Ok(Reply::Told(topic.log.spend(old, Asked::DropReceiver)));
+    }
+    let handle = &mut receiver.handle;
+    let diary = &mut seat.diary;
+    Ok(Reply::Told(
+        topic.log.event(handle, diary, asked, None, told),
+    ))
+}
+
+fn on_look<'a>(topic: &'a mut Topic, seat: &mut Seat, look: Look) -> Outcome<'a> {
+    let Channel::Watch(watch) = &topic.channel else {
+        return Err(Refusal::WrongKind);
+    };
+    let receiver = seat.receiver.as_mut().ok_or(Refusal::NotHeld)?;
+    let is_closed = topic.senders.live() == 0;
+    if let Look::Changed = look
+        && receiver.place == watch.version
+        && !is_closed
+    {
+        return Ok(Reply::Blocked);
+    }
+    topic.room(0)?;
+    let (asked, told) = watch.look(&mut receiver.place, is_closed, look);
+    let handle = &mut receiver.handle;
+    let diary = &mut seat.diary;
+    Ok(Reply::Told(
+        topic.log.event(handle, diary, asked, None, told),
+    ))
+}
+
+/// A new receiver, made through any sender.
+fn subscribe<'a>(topic: &'a mut Topic, seat: &mut Seat, asked: Asked) -> Outcome<'a> {
+    if seat.receiver.is_some() {
+        return Err(Refusal::Held);
+    }
+    topic.senders.any(&mut seat.sender)?;
+    topic.room(1)?;
+    let place = match (&mut topic.channel, asked) {
+        (Channel::Broadcast(broadcast), Asked::SubscribeOldest) => broadcast.join_oldest(),
+        (Channel::Broadcast(broadcast), _) => broadcast.tail,
+        (Channel::Watch(watch), _) => watch.version,
+    };
+    let handle = topic.log.handle();
+    let told = Told::NewReceiver(handle.number);
+    seat.receiver = Some(Receiver { handle, place });
+    topic.receivers += 1;
+    let sender = topic.senders.any(&mut seat.sender)?;
+    let diary = &mut seat.diary;
+    Ok(Reply::Told(
+        topic.log.event(sender, diary, asked, None, told),
+    ))
+}
+
+/// How many there are, asked through any sender.
+fn count<'a>(topic: &'a mut Topic, seat: &mut Seat, asked: Asked, count: u64) -> Outcome<'a> {
+    topic.senders.any(&mut seat.sender)?;
+    topic.room(0)?;
+    let sender = topic.senders.any(&mut seat.sender)?;
+    let diary = &mut seat.diary;
+    Ok(Reply::Told(topic.log.event(
+        sender,
+        diary,
+        asked,
+        None,
+        Told::Count(count),
+    )))
+}
+
+fn publish<'a>(topic: &'a mut Topic, seat: &mut Seat, value: &[u8]) -> Outcome<'a> {
+    let sender = seat.sender.as_mut().ok_or(Refusal::NotHeld)?;
+    topic.room(0)?;
+    let value: Value = value.into();
+    let sent = value.clone();
+    let told = match &mut topic.channel {
+        _ if topic.receivers == 0 => Told::NoReceivers(sent),
+        Channel::Broadcast(broadcast) => broadcast.send(sent, topic.receivers),
+        Channel::Watch(watch) => {
+            watch.publish(sent);
+            Told::Done
+        }
+    };
+    let diary = &mut seat.diary;
+    let log = &mut topic.log;
+    Ok(Reply::Told(log.event(
+        sender,
+        diary,
+        Asked::Send,
+        Some(value),
+        told,
+    )))
+}
+
+fn on_any<'a>(topic: &'a mut Topic, seat: &mut Seat, any: Any<'_>) -> Outcome<'a> {
+    match any {
+        Any::Bind if seat.sender.is_some() => Err(Refusal::Held),
+        Any::Bind if topic.senders.hub.is_none() => Err(Refusal::Closed),
+        Any::Bind => {
+            topic.room(1)?;
+            let sender = topic.log.handle();
+            let told = Told::NewSender(sender.number);
+            seat.sender = Some(sender);
+            topic.senders.bound += 1;
+            let hub = topic.senders.hub.as_mut().ok_or(Refusal::Closed)?;
+            let diary = &mut seat.diary;
+            let log = &mut topic.log;
+            Ok(Reply::Told(log.event(
+                hub,
+                diary,
+                Asked::CloneSender,
+                None,
+                told,
+            )))
+        }
+        Any::Unbind => {
+            let sender = seat.sender.take().ok_or(Refusal::NotHeld)?;
+            Ok(Reply::Told(topic.unbind(sender)))
+        }
+        Any::Sub => subscribe(topic, seat, Asked::Subscribe),
+        Any::Unsub => {
+            let receiver = seat.receiver.take().ok_or(Refusal::NotHeld)?;
+            Ok(Reply::Told(topic.unsubscribe(receiver)))
+        }
+        Any::Pub { value } => publish(topic, seat, value),
+        Any::Readers => {
+            let receivers = topic.receivers;
+            count(topic, seat, Asked::Receivers, receivers)
+        }
+        Any::End => {
+            let hub = topic.senders.hub.take().ok_or(Refusal::Closed)?;
+            Ok(Reply::Told(topic.log.spend(hub, Asked::DropSender)))
+        }
+    }
 }
 
 // ---- the run
@@ -562,28 +683,34 @@ fn print_topics(topics: &[Topic], output: &mut impl Write) -> io::Result<()> {
     Ok(())
 }
 
+fn print_told(told: &Told, output: &mut impl Write) -> io::Result<()> {
+    match told {
+        Told::NewSender(_) | Told::NewReceiver(_) | Told::Done => output.write_all(b"OK\n"),
+        Told::Count(n) => print_count(b"OK ", *n, output),
+        Told::NoReceivers(_) => output.write_all(b"ERR 17 no-receivers\n"),
+        Told::Exhausted(_) => output.write_all(b"ERR 20 exhausted\n"),
+        Told::Value(value) => print_bytes(b"VAL ", value, output),
+        Told::Lagged(n) => print_count(b"LAG ", *n, output),
+        Told::Empty => output.write_all(b"EMPTY\n"),
+        Told::Closed => output.write_all(b"CLOSED\n"),
+        Told::Was(value) => print_bytes(b"WAS ", value, output),
+        Told::New(value) => print_bytes(b"NEW ", value, output),
+        Told::Same(value) => print_bytes(b"SAME ", value, output),
+        Told::YesOrNo(true) => output.write_all(b"YES\n"),
+        Told::YesOrNo(false) => output.write_all(b"NO\n"),
+        Told::Changed => output.write_all(b"CHANGED\n"),
+        Told::NotYet => output.write_all(b"NOTYET\n"),
+    }
+}
+
 fn print(outcome: &Outcome, output: &mut impl Write) -> io::Result<()> {
-    let reply = match outcome {
-        Ok(reply) => reply,
-        Err(refusal) => return print_bytes(b"ERR ", refusal.text(), output),
-    };
-    match reply {
-        Reply::Ok => output.write_all(b"OK\n"),
-        Reply::Count(n) => print_count(b"OK ", *n, output),
-        Reply::Value(value) => print_bytes(b"VAL ", value, output),
-        Reply::Lagged(n) => print_count(b"LAG ", *n, output),
-        Reply::Empty => output.write_all(b"EMPTY\n"),
-        Reply::Closed => output.write_all(b"CLOSED\n"),
-        Reply::Blocked => output.write_all(b"BLOCKED\n"),
-        Reply::Was(value) => print_bytes(b"WAS ", value, output),
-        Reply::New(value) => print_bytes(b"NEW ", value, output),
-        Reply::Same(value) => print_bytes(b"SAME ", value, output),
-        Reply::YesOrNo(true) => output.write_all(b"YES\n"),
-        Reply::YesOrNo(false) => output.write_all(b"NO\n"),
-        Reply::Changed => output.write_all(b"CHANGED\n"),
-        Reply::NotYet => output.write_all(b"NOTYET\n"),
-        Reply::Topics(topics) => print_topics(topics, output),
-        Reply::Bye => output.write_all(b"BYE\n"),
+    match outcome {
+        Ok(Reply::Opened(n)) => print_count(b"OK ", *n, output),
+        Ok(Reply::Told(told)) => print_told(told, output),
+        Ok(Reply::Blocked) => output.write_all(b"BLOCKED\n"),
+        Ok(Reply::Topics(topics)) => print_topics(topics, output),
+        Ok(Reply::Bye) => output.write_all(b"BYE\n"),
+        Err(refusal) => print_bytes(b"ERR ", refusal.text(), output),
     }
 }
 

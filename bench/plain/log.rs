@@ -1,0 +1,162 @@
+//! What was asked of a topic and what it answered, in order; and what each actor was told.
+
+// The schedules of the bench have no `TRACE`, so nothing reads a log.
+#![allow(dead_code)]
+
+use std::rc::Rc;
+
+/// The most entries of a log.
+const ENTRIES_LIMIT: u64 = 1_000_000;
+
+/// The bytes of a value stand in memory once, for the channel, the log, the receipts and the reply.
+pub type Value = Rc<[u8]>;
+
+/// What was asked by the handle with this number.
+#[derive(Clone)]
+pub struct Call {
+    pub by: u32,
+    pub asked: Asked,
+    pub value: Option<Value>,
+}
+
+#[derive(Clone, Copy)]
+pub enum Asked {
+    CloneSender,
+    DropSender,
+    Send,
+    Receivers,
+    Subscribe,
+    SubscribeOldest,
+    Queued,
+    Resubscribe,
+    DropReceiver,
+    TryReceive,
+    Receive,
+    Left,
+    Replace,
+    EditSet,
+    EditDiffer,
+    EditQuiet,
+    Borrow,
+    BorrowAndUpdate,
+    HasChanged,
+    TryChanged,
+    Changed,
+    MarkChanged,
+    MarkUnchanged,
+}
+
+/// What was told.
+#[derive(Clone)]
+pub enum Told {
+    NewSender(u32),
+    NewReceiver(u32),
+    Done,
+    Count(u64),
+    NoReceivers(Value),
+    Exhausted(Value),
+    Value(Value),
+    Lagged(u64),
+    Empty,
+    Closed,
+    Was(Value),
+    New(Value),
+    Same(Value),
+    YesOrNo(bool),
+    Changed,
+    NotYet,
+}
+
+struct Entry {
+    call: Call,
+    told: Told,
+}
+
+/// What an actor was told of one event of its own.
+pub struct Receipt {
+    key: u64,
+    place: u64,
+    call: Call,
+    told: Told,
+}
+
+/// A handle with the number of its events.
+pub struct Handle {
+    pub number: u32,
+    events: u64,
+}
+
+/// The events of a topic.
+pub struct Log {
+    key: u64,
+    entries: Vec<Entry>,
+    next: u32,
+}
+
+impl Log {
+    pub fn new(key: u64) -> Log {
+        Log {
+            key,
+            entries: Vec::new(),
+            next: 1,
+        }
+    }
+
+    /// A new handle.
+    pub fn handle(&mut self) -> Handle {
+        self.next += 1;
+        Handle {
+            number: self.next - 1,
+            events: 0,
+        }
+    }
+
+    /// The number of the next handle.
+    pub fn next(&self) -> u32 {
+        self.next
+    }
+
+    /// Whether there is no room for an event, with so many handles live after it.
+    pub fn is_full(&self, live: u64) -> bool {
+        self.entries.len() as u64 + 1 + live > ENTRIES_LIMIT
+    }
+
+    /// An event that its actor gets no receipt of.
+    pub fn spend(&mut self, handle: Handle, asked: Asked) -> &Told {
+        let call = Call {
+            by: handle.number,
+            asked,
+            value: None,
+        };
+        self.enter(call, Told::Done)
+    }
+
+    /// An event, and what was told.
+    pub fn event(
+        &mut self,
+        handle: &mut Handle,
+        diary: &mut Vec<Receipt>,
+        asked: Asked,
+        value: Option<Value>,
+        told: Told,
+    ) -> &Told {
+        handle.events += 1;
+        let call = Call {
+            by: handle.number,
+            asked,
+            value,
+        };
+        diary.push(Receipt {
+            key: self.key,
+            place: self.entries.len() as u64,
+            call: call.clone(),
+            told: told.clone(),
+        });
+        self.enter(call, told)
+    }
+
+    fn enter(&mut self, call: Call, told: Told) -> &Told {
+        self.entries.push(Entry { call, told });
+        &self.entries[self.entries.len() - 1].told
+    }
+}
