@@ -14,8 +14,6 @@ pub mod foresee;
 pub mod live;
 pub mod parts;
 pub mod picture;
-#[cfg(test)]
-mod tests;
 mod told;
 
 pub use broadcast::Broadcast;

@@ -14,8 +14,6 @@ pub mod fault;
 pub mod laws;
 pub mod point;
 mod run;
-#[cfg(test)]
-mod tests;
 pub mod verdict;
 pub mod watch_course;
 

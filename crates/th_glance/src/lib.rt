@@ -24,8 +24,6 @@ pub mod glance;
 pub mod pen;
 mod rule;
 mod sight;
-#[cfg(test)]
-mod tests;
 
 pub use eye::Eye;
 pub use glance::Glance;

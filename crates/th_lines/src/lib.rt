@@ -10,8 +10,6 @@
 pub mod command;
 pub mod counted;
 mod cut;
-#[cfg(test)]
-mod device_tests;
 pub mod fault;
 pub mod fields;
 pub mod intake;
@@ -20,8 +18,6 @@ pub mod lines;
 mod print;
 mod read;
 pub mod reply;
-#[cfg(test)]
-mod tests;
 pub mod write_buffer;
 
 pub use command::{Action, Actor, Command};

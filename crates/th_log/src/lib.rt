@@ -17,8 +17,6 @@ pub mod logged;
 pub mod object;
 pub mod receipt;
 pub mod segment;
-#[cfg(test)]
-mod tests;
 pub mod watch;
 
 pub use audits::{AuditFault, Audited, audit};

@@ -14,8 +14,6 @@ mod help;
 mod modes;
 mod program;
 mod streams;
-#[cfg(test)]
-mod tests;
 mod words;
 
 pub use end::{End, explanation, status};

@@ -17,8 +17,6 @@ pub mod local;
 pub mod opening;
 pub mod outcome;
 pub mod recorded;
-#[cfg(test)]
-mod tests;
 mod topics;
 
 pub use channel::Channel;

@@ -13,7 +13,5 @@
 
 pub mod ring;
 pub mod slot;
-#[cfg(test)]
-mod tests;
 
 pub use ring::RingShelf;

@@ -10,8 +10,6 @@
 
 pub mod book;
 pub mod settlement;
-#[cfg(test)]
-mod tests;
 
 pub use book::{Book, Share, join, open_book, split, tick};
 pub use settlement::{Settled, settle};

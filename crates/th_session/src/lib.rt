@@ -20,8 +20,6 @@ mod receipts;
 pub mod seats;
 pub mod session;
 mod table;
-#[cfg(test)]
-mod tests;
 mod told;
 mod trace;
 

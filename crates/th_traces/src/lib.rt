@@ -25,8 +25,6 @@ pub mod picture;
 pub mod place;
 mod put;
 pub mod stage;
-#[cfg(test)]
-mod tests;
 pub mod watch_call;
 mod watch_draft;
 pub mod watch_entry;

@@ -10,8 +10,6 @@
 
 pub mod parts;
 pub mod refused;
-#[cfg(test)]
-mod tests;
 pub mod watch;
 
 pub use parts::PictureParts;

@@ -1,0 +1,16 @@
+//! Tests of the channels: what no contract says, and each call once at a concrete type. A module is named for the crate
+//! that it tests.
+#![tactic(auto)]
+
+#[cfg(test)]
+mod bcast;
+#[cfg(test)]
+mod glance;
+#[cfg(test)]
+mod log;
+#[cfg(test)]
+mod ring;
+#[cfg(test)]
+mod seats;
+#[cfg(test)]
+mod watch;

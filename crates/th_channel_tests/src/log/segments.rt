@@ -1,0 +1,165 @@
+//! Segments that are cut and joined.
+use crate::log::shares::finished;
+use crate::log::{Channel, KEY, Log, RX, TX, agree, expect, follow, opened, told, told_at};
+use std::alloc::Global;
+use std::process::Abort;
+use std::test::Fail;
+use th_bcast::PictureParts;
+use th_log::{JoinFault, Object, Segment};
+use th_model::BCall::{CloneTx, Send, Subscribe, TryRecv};
+use th_model::BReply::{Lagged, NewRx, NewTx, Sent};
+use th_model::{BCall, BReply, RxId, TxId};
+use th_seats::Share;
+
+pub(crate) fn cut(log: &mut Log) -> Result<Segment<Channel>, Fail> {
+    Ok(log.cut()?)
+}
+
+fn join(
+    a: Segment<Channel>,
+    b: Segment<Channel>,
+) -> Result<Segment<Channel>, JoinFault<Segment<Channel>>> {
+    Segment::join(a, b)
+}
+
+fn tells_apart<G>(fault: &JoinFault<G>) -> bool {
+    matches!(fault, JoinFault::Apart(_, _))
+}
+
+fn is_apart(a: Segment<Channel>, b: Segment<Channel>) -> bool {
+    let Err(fault) = join(a, b) else {
+        return false;
+    };
+    tells_apart(&fault)
+}
+
+pub(crate) fn joined(a: Segment<Channel>, b: Segment<Channel>) -> Result<Segment<Channel>, Fail> {
+    let Ok(segment) = join(a, b) else {
+        return Err(Fail::new("not joined"));
+    };
+    Ok(segment)
+}
+
+// The segment begins at this place, and has so many entries.
+pub(crate) fn spans<O: Object>(rt: &impl Abort, segment: &Segment<O>, first: u64, len: u64) {
+    assert_eq!(rt; (segment.first(), segment.len()), (first, len));
+}
+
+fn has_entry(
+    segment: &Segment<Channel>,
+    number: u64,
+    call: &BCall<u64>,
+    reply: &BReply<u64>,
+) -> bool {
+    segment.entry(number) == Some((call, reply))
+}
+
+fn ends_with(segment: &Segment<Channel>, entry: &(BCall<u64>, BReply<u64>)) -> bool {
+    segment.entries().last() == Some(entry)
+}
+
+// The segment that ends with this call.
+fn cut_after(
+    rt: &impl Abort,
+    log: &mut Log,
+    share: &mut Share,
+    call: BCall<u64>,
+    want: BReply<u64>,
+) -> Result<Segment<Channel>, Fail> {
+    told(rt, log, share, call, want)?;
+    cut(log)
+}
+
+// Two cuts: with one entry, and with none.
+fn cut_twice(
+    rt: &impl Abort,
+    log: &mut Log,
+    tx: &mut Share,
+) -> Result<(Segment<Channel>, Segment<Channel>), Fail> {
+    let a = cut_after(rt, log, tx, Subscribe(TX), NewRx(RX))?;
+    Ok((a, cut(log)?))
+}
+
+// Three cuts: with one entry, none, and one; and the rest of the channel.
+fn cuts(
+    rt: &impl Abort,
+    alloc: Global,
+) -> Result<(Segment<Channel>, Segment<Channel>, Segment<Channel>, Log), Fail> {
+    let (mut log, mut tx) = opened(alloc, 2, 4, KEY)?;
+    let (a, b) = cut_twice(rt, &mut log, &mut tx)?;
+    let d = cut_after(rt, &mut log, &mut tx, Send(TX, 5), Sent(1))?;
+    Ok((a, b, d, log))
+}
+
+#[test]
+fn segments_that_do_not_meet_stay_apart(rt: HostRuntime) -> Result<(), Fail> {
+    let (a, b, d, _) = cuts(&rt, rt.alloc())?;
+    spans(&rt, &a, 0, 1);
+    spans(&rt, &b, 1, 0);
+    spans(&rt, &d, 1, 1);
+    expect(&rt, "the third and the first", is_apart(d, a));
+    let (a, b, _, _) = cuts(&rt, rt.alloc())?;
+    expect(&rt, "the second and the first", is_apart(b, a));
+    Ok(())
+}
+
+// The whole history of the cuts.
+fn is_whole(rt: &impl Abort, all: &Segment<Channel>) {
+    spans(rt, all, 0, 2);
+    agree(rt, "the key", all.key(), KEY);
+    expect(rt, "the second", has_entry(all, 1, &Send(TX, 5), &Sent(1)));
+    expect(rt, "the last", ends_with(all, &(Send(TX, 5), Sent(1))));
+}
+
+#[test]
+fn segments_that_meet_join(rt: HostRuntime) -> Result<(), Fail> {
+    let (a, b, d, log) = cuts(&rt, rt.alloc())?;
+    let (book, last) = finished(log);
+    agree(&rt, "all events", book.total(), 2);
+    spans(&rt, &last, 2, 0);
+    let two = joined(a, b)?;
+    spans(&rt, &two, 0, 1);
+    let all = joined(joined(two, d)?, last)?;
+    is_whole(&rt, &all);
+    Ok(())
+}
+
+// The second is empty, so the third begins where the first ends.
+#[test]
+fn an_empty_segment_may_be_left_out(rt: HostRuntime) -> Result<(), Fail> {
+    let (a, _, d, _) = cuts(&rt, rt.alloc())?;
+    spans(&rt, &joined(a, d)?, 0, 2);
+    Ok(())
+}
+
+// The values 4 and 5 are kept, at positions below 5, and receiver 3 reads at position 1 next.
+fn is_in_the_middle(rt: &impl Abort, start: &PictureParts<u64>) {
+    let window = start.window();
+    assert_eq!(rt; (window.tail(), start.next_number()), (5, 4));
+    assert_eq!(rt; (window.kept().len(), start.senders().len()), (2, 2));
+    assert_eq!(rt; window.kept().front(), Some(&4));
+    assert_eq!(rt; window.kept().back(), Some(&5));
+    assert_eq!(rt; window.places().get(&3), Some(&1));
+}
+
+// After eight events the two newest values, 4 and 5, are kept at the positions 3 and 4, and
+// receiver 3, which reads at position 1 next, has missed two more.
+#[test]
+fn the_next_segment_begins_in_the_middle(rt: HostRuntime) -> Result<(), Fail> {
+    let (mut log, mut share) = opened(rt.alloc(), 2, 20, KEY)?;
+    let (tx, rx) = (TxId(2), RxId(3));
+    let rows = [
+        (CloneTx(TX), NewTx(tx)),
+        (Subscribe(TX), NewRx(rx)),
+        (Send(tx, 1), Sent(1)),
+        (Send(tx, 2), Sent(1)),
+        (Send(tx, 3), Sent(1)),
+        (TryRecv(rx), Lagged(1)),
+        (Send(tx, 4), Sent(1)),
+        (Send(tx, 5), Sent(1)),
+    ];
+    follow(&rt, &mut log, &mut share, rows)?;
+    spans(&rt, &cut(&mut log)?, 0, 8);
+    is_in_the_middle(&rt, log.start());
+    told_at(&rt, &mut log, &mut share, (TryRecv(rx), Lagged(2)), 8)
+}

@@ -1,0 +1,207 @@
+//! Runs of the program over a slice of bytes and vectors.
+use std::io;
+use std::io::{ErrorKind, Read, Write};
+use std::test::Fail;
+use th_lines::Counted;
+use th_program::{End, greet, run, run_not_text, status};
+
+// A reader, and a writer, that always fails.
+#[derive(Drop)]
+struct Broken;
+
+impl Read for Broken {
+    fn read(&mut self, _buf: &mut [u8]) -> io::Result<usize> {
+        Err(ErrorKind::Other.into())
+    }
+}
+
+impl Write for Broken {
+    fn write(&mut self, _buf: &[u8]) -> io::Result<usize> {
+        Err(ErrorKind::Other.into())
+    }
+
+    fn flush(&mut self) -> io::Result<()> {
+        Err(ErrorKind::Other.into())
+    }
+}
+
+const SCHEDULE: &[u8] = b"a OPEN t B 2\na BIND t\nb SUB t\na PUB t x\nb TRY t\n";
+
+const REPLIES: &[u8] = b"OK 2\nOK\nOK\nOK 1\nVAL x\n";
+
+#[test]
+fn replay_carries_out_its_input(rt: HostRuntime) -> Result<(), Fail> {
+    let alloc = rt.alloc();
+    let mut input = Counted::new(SCHEDULE);
+    let mut output = Counted::new(Vec::new(alloc));
+    let mut errors = Counted::new(Vec::new(alloc));
+    let words = ["topichub", "replay"];
+    let end = run(alloc, &words, &mut input, &mut output, &mut errors);
+    assert_eq!(rt; end, End::Done);
+    assert_eq!(rt; output.device().as_slice(), REPLIES);
+    assert_eq!(rt; errors.device().len(), 0);
+    Ok(())
+}
+
+const TRACE: &[u8] = b"TRACE 1 B 2\nAT 0 0 NEXT 2\nTX 1\nBEGIN\nC queued 1\nR count 0\nEND 1\n";
+
+const CHEAT: &[u8] = b"TRACE 1 B 2\nAT 0 0 NEXT 2\nTX 1\nBEGIN\nC queued 1\nR count 1\nEND 1\n";
+
+#[test]
+fn check_tells_its_verdict(rt: HostRuntime) -> Result<(), Fail> {
+    let alloc = rt.alloc();
+    for (trace, line, want) in [
+        (TRACE, b"legal 1\n".as_slice(), End::Done),
+        (CHEAT, b"illegal 6\n".as_slice(), End::Illegal),
+        (SCHEDULE, b"bad 1\n".as_slice(), End::Bad),
+    ] {
+        let mut input = Counted::new(trace);
+        let mut output = Counted::new(Vec::new(alloc));
+        let mut errors = Counted::new(Vec::new(alloc));
+        let words = ["topichub", "check"];
+        let end = run(alloc, &words, &mut input, &mut output, &mut errors);
+        assert_eq!(rt; end, want);
+        assert_eq!(rt; output.device().as_slice(), line);
+        assert_eq!(rt; errors.device().len(), 0);
+    }
+    Ok(())
+}
+
+#[test]
+fn what_stops_a_check_is_said(rt: HostRuntime) -> Result<(), Fail> {
+    let alloc = rt.alloc();
+    let words = ["topichub", "check"];
+    let mut output = Counted::new(Vec::new(alloc));
+    let mut errors = Counted::new(Vec::new(alloc));
+    let mut input = Counted::new(Broken);
+    let end = run(alloc, &words, &mut input, &mut output, &mut errors);
+    assert_eq!(rt; end, End::Read);
+    assert_eq!(rt; output.device().len(), 0);
+    assert_eq!(rt;
+        errors.device().as_slice(),
+        b"topichub: read fault\n".as_slice()
+    );
+    Ok(())
+}
+
+#[test]
+fn what_stops_a_replay_is_said(rt: HostRuntime) -> Result<(), Fail> {
+    let alloc = rt.alloc();
+    let words = ["topichub", "replay"];
+    let mut output = Counted::new(Vec::new(alloc));
+    let mut errors = Counted::new(Vec::new(alloc));
+    let end = run(
+        alloc,
+        &words,
+        &mut Counted::new(Broken),
+        &mut output,
+        &mut errors,
+    );
+    assert_eq!(rt; end, End::Read);
+    assert_eq!(rt; status(&end), 1);
+    assert_eq!(rt; output.device().len(), 0);
+    assert_eq!(rt;
+        errors.device().as_slice(),
+        b"topichub: read fault\n".as_slice()
+    );
+    let mut input = Counted::new(SCHEDULE);
+    let mut errors = Counted::new(Vec::new(alloc));
+    let end = run(
+        alloc,
+        &words,
+        &mut input,
+        &mut Counted::new(Broken),
+        &mut errors,
+    );
+    assert_eq!(rt; end, End::Write);
+    assert_eq!(rt;
+        errors.device().as_slice(),
+        b"topichub: write fault\n".as_slice()
+    );
+    Ok(())
+}
+
+#[test]
+fn help_goes_to_the_output(rt: HostRuntime) -> Result<(), Fail> {
+    let alloc = rt.alloc();
+    let mut input = Counted::new(SCHEDULE);
+    let mut output = Counted::new(Vec::new(alloc));
+    let mut errors = Counted::new(Vec::new(alloc));
+    let words = ["topichub", "--help"];
+    let end = run(alloc, &words, &mut input, &mut output, &mut errors);
+    assert_eq!(rt; end, End::Help);
+    assert_eq!(rt; input.calls(), 0);
+    assert!(rt;
+        output
+            .device()
+            .as_slice()
+            .starts_with(b"Broadcast and watch channels by name")
+    );
+    assert_eq!(rt; errors.device().len(), 0);
+    Ok(())
+}
+
+#[test]
+fn wrong_words_are_told_as_errors(rt: HostRuntime) -> Result<(), Fail> {
+    let alloc = rt.alloc();
+    let mut input = Counted::new(SCHEDULE);
+    let mut output = Counted::new(Vec::new(alloc));
+    let mut errors = Counted::new(Vec::new(alloc));
+    let words = ["topichub", "play"];
+    let end = run(alloc, &words, &mut input, &mut output, &mut errors);
+    assert_eq!(rt; end, End::Usage);
+    assert_eq!(rt; status(&end), 2);
+    assert_eq!(rt; input.calls(), 0);
+    assert_eq!(rt; output.device().len(), 0);
+    assert!(rt;
+        errors
+            .device()
+            .as_slice()
+            .starts_with(b"error: unrecognized subcommand 'play'\n")
+    );
+    Ok(())
+}
+
+#[test]
+fn a_schedule_is_no_word(rt: HostRuntime) -> Result<(), Fail> {
+    let alloc = rt.alloc();
+    let mut input = Counted::new(SCHEDULE);
+    let mut output = Counted::new(Vec::new(alloc));
+    let mut errors = Counted::new(Vec::new(alloc));
+    let words = ["topichub", "replay", "x"];
+    let end = run(alloc, &words, &mut input, &mut output, &mut errors);
+    assert_eq!(rt; end, End::Usage);
+    assert!(rt;
+        errors.device().as_slice().ends_with(
+            b"comes from standard input, as in: topichub replay < FILE\n"
+        )
+    );
+    Ok(())
+}
+
+#[test]
+fn who_types_is_greeted(rt: HostRuntime) -> Result<(), Fail> {
+    let alloc = rt.alloc();
+    let mut errors = Counted::new(Vec::new(alloc));
+    greet(&mut errors, false);
+    assert_eq!(rt; errors.device().len(), 0);
+    greet(&mut errors, true);
+    assert_eq!(rt;
+        errors.device().as_slice(),
+        b"topichub: reading a schedule, line by line; Ctrl-D ends it\n".as_slice()
+    );
+    Ok(())
+}
+
+#[test]
+fn a_word_that_is_no_text_is_a_usage_fault(rt: HostRuntime) -> Result<(), Fail> {
+    let alloc = rt.alloc();
+    let mut errors = Counted::new(Vec::new(alloc));
+    let end = run_not_text(&mut errors);
+    assert_eq!(rt; status(&end), 2);
+    assert_eq!(rt;
+        errors.device().as_slice(),
+        b"error: a word of the command line is not UTF-8\n".as_slice()
+    );
+    Ok(())
+}
