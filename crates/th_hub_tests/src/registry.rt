@@ -146,23 +146,81 @@ fn comes_back<H: PartialEq + Drop>(
     assert!(rt; back, "{what}");
 }
 
+// The calls of a desk on its topic. Each stands in a function that promises nothing: what a test's proof knows of a desk
+// makes it longer, and no test needs it.
+
+fn open(desk: &mut LocalDesk, name: NameRef, making: Making) -> Result<u64, Refusal> {
+    desk.open_topic(name, making)
+}
+
+fn bind(desk: &mut LocalDesk) -> Result<Made<TxId>, NoEvent> {
+    desk.bind(TOPIC)
+}
+
+/// By the asker's sender, or by the hub's.
+fn subscribe(desk: &mut LocalDesk, by: Option<u64>) -> Result<Made<RxId>, NoEvent> {
+    subscribe_from(desk, Start::Tail, by)
+}
+
+fn subscribe_from(
+    desk: &mut LocalDesk,
+    start: Start,
+    by: Option<u64>,
+) -> Result<Made<RxId>, NoEvent> {
+    let mut own = by.map(TxId);
+    desk.subscribe(TOPIC, start, &mut own)
+}
+
+fn ask(desk: &mut LocalDesk, by: Option<u64>, question: Question) -> Result<TopicReceipt, NoEvent> {
+    let mut own = by.map(TxId);
+    desk.ask(TOPIC, &mut own, question)
+}
+
+fn by_sender(desk: &mut LocalDesk, number: u64, verb: SenderVerb) -> Result<TopicReceipt, NoEvent> {
+    desk.by_sender(TOPIC, &mut TxId(number), verb)
+}
+
+fn by_receiver(
+    desk: &mut LocalDesk,
+    number: u64,
+    verb: ReceiverVerb,
+) -> Result<TopicReceipt, NoEvent> {
+    desk.by_receiver(TOPIC, &mut RxId(number), verb)
+}
+
+fn resubscribe(desk: &mut LocalDesk, number: u64) -> Result<Made<RxId>, NoEvent> {
+    desk.resubscribe(TOPIC, &mut RxId(number))
+}
+
+fn spend_sender(desk: &mut LocalDesk, number: u64) -> Result<ChannelReply, Unspent<TxId>> {
+    desk.spend_sender(TOPIC, TxId(number))
+}
+
+fn spend_receiver(desk: &mut LocalDesk, number: u64) -> Result<ChannelReply, Unspent<RxId>> {
+    desk.spend_receiver(TOPIC, RxId(number))
+}
+
+fn end(desk: &mut LocalDesk) -> Result<ChannelReply, NoEvent> {
+    desk.end(TOPIC)
+}
+
 #[test]
 fn topics_are_opened_and_found(rt: HostRuntime) {
     let mut desk = LocalDesk::new(rt.alloc());
     assert!(rt; desk.find(&name(&rt, b"t")).is_none(), "no topic yet");
-    let opened = desk.open_topic(name(&rt, b"t"), Making::Broadcast(10));
+    let opened = open(&mut desk, name(&rt, b"t"), Making::Broadcast(10));
     assert!(rt; opened == Ok(16), "10 asked for");
     let first = Making::Watch(value(&rt, rt.alloc(), b"x"));
-    let opened = desk.open_topic(name(&rt, b"u"), first);
+    let opened = open(&mut desk, name(&rt, b"u"), first);
     assert!(rt; opened == Ok(1), "a watch topic");
-    let again = desk.open_topic(name(&rt, b"u"), Making::Broadcast(0));
+    let again = open(&mut desk, name(&rt, b"u"), Making::Broadcast(0));
     assert!(rt;
         again == Err(Refusal::Exists),
         "a name that is there, before its capacity"
     );
-    let none = desk.open_topic(name(&rt, b"v"), Making::Broadcast(0));
+    let none = open(&mut desk, name(&rt, b"v"), Making::Broadcast(0));
     assert!(rt; none == Err(Refusal::BadCapacity), "capacity 0");
-    let more = desk.open_topic(name(&rt, b"v"), Making::BroadcastAt(65_537, 0));
+    let more = open(&mut desk, name(&rt, b"v"), Making::BroadcastAt(65_537, 0));
     assert!(rt; more == Err(Refusal::BadCapacity), "capacity 65,537");
     assert!(rt; desk.find(&name(&rt, b"v")).is_none(), "a refused topic");
     let t = Found {
@@ -180,10 +238,10 @@ fn topics_are_opened_and_found(rt: HostRuntime) {
 #[test]
 fn topics_are_listed(rt: HostRuntime) -> Result<(), Fail> {
     let mut desk = LocalDesk::new(rt.alloc());
-    let opened = desk.open_topic(name(&rt, b"z"), Making::Broadcast(1));
+    let opened = open(&mut desk, name(&rt, b"z"), Making::Broadcast(1));
     assert!(rt; opened == Ok(1), "topic z");
     let first = Making::Watch(value(&rt, rt.alloc(), b"x"));
-    let opened = desk.open_topic(name(&rt, b"a"), first);
+    let opened = open(&mut desk, name(&rt, b"a"), first);
     assert!(rt; opened == Ok(1), "topic a");
     let Ok(listing) = desk.list() else {
         return Err(Fail::new("no listing"));
@@ -205,17 +263,17 @@ fn as_many_topics_are_opened_as_there_may_be(rt: HostRuntime) -> Result<(), Fail
     let mut desk = LocalDesk::new(rt.alloc());
     for k in 0..1024u32 {
         let text = format!(in rt.alloc(); "t{k}")?;
-        let opened = desk.open_topic(name(&rt, text.as_bytes()), Making::Broadcast(1));
+        let opened = open(&mut desk, name(&rt, text.as_bytes()), Making::Broadcast(1));
         assert!(rt; opened == Ok(1), "topic {k}");
     }
-    let exists = desk.open_topic(name(&rt, b"t9"), Making::Broadcast(0));
+    let exists = open(&mut desk, name(&rt, b"t9"), Making::Broadcast(0));
     assert!(rt; exists == Err(Refusal::Exists), "the name first");
-    let bad = desk.open_topic(name(&rt, b"u"), Making::Broadcast(0));
+    let bad = open(&mut desk, name(&rt, b"u"), Making::Broadcast(0));
     assert!(rt; bad == Err(Refusal::BadCapacity), "the capacity next");
-    let more = desk.open_topic(name(&rt, b"u"), Making::Broadcast(1));
+    let more = open(&mut desk, name(&rt, b"u"), Making::Broadcast(1));
     assert!(rt; more == Err(Refusal::TooManyTopics), "the 1,025th topic");
     let first = Making::Watch(value(&rt, rt.alloc(), b"x"));
-    let more = desk.open_topic(name(&rt, b"u"), first);
+    let more = open(&mut desk, name(&rt, b"u"), first);
     assert!(rt;
         more == Err(Refusal::TooManyTopics),
         "the 1,025th, a watch topic"
@@ -231,140 +289,143 @@ fn as_many_topics_are_opened_as_there_may_be(rt: HostRuntime) -> Result<(), Fail
 fn a_desk_serves_broadcast_topics(rt: HostRuntime) {
     let alloc = rt.alloc();
     let mut desk = broadcast_desk(&rt, alloc);
-    let mut sender = TxId(2);
-    let mut receiver = RxId(3);
     assert!(rt; matches!(desk.find(&name(&rt, b"t")), Some(found) if found.topic == TOPIC));
-    makes(&rt, "bind", desk.bind(TOPIC), TxId(2));
-    let made = desk.subscribe(TOPIC, Start::Tail, &mut Some(TxId(2)));
+    makes(&rt, "bind", bind(&mut desk), TxId(2));
+    let made = subscribe(&mut desk, Some(2));
     makes(&rt, "subscribe by the asker's sender", made, RxId(3));
-    let told = desk.by_receiver(TOPIC, &mut receiver, ReceiverVerb::TryRecv);
+    let told = by_receiver(&mut desk, 3, ReceiverVerb::TryRecv);
     tells(&rt, "TryRecv of nothing", told, BReply::Empty);
-    let told = desk.by_receiver(TOPIC, &mut receiver, ReceiverVerb::Recv);
+    let told = by_receiver(&mut desk, 3, ReceiverVerb::Recv);
     is_none(&rt, "Recv of nothing", told, NoEvent::Blocked);
     let verb = SenderVerb::Send(value(&rt, alloc, b"x"));
-    let told = desk.by_sender(TOPIC, &mut sender, verb);
+    let told = by_sender(&mut desk, 2, verb);
     tells(&rt, "Send", told, BReply::Sent(1));
+    let told = by_receiver(&mut desk, 3, ReceiverVerb::Left);
+    tells(&rt, "Left", told, BReply::Count(1));
+    let told = by_receiver(&mut desk, 3, ReceiverVerb::Recv);
+    tells(&rt, "Recv", told, BReply::Value(value(&rt, alloc, b"x")));
+}
+
+#[test]
+fn handles_keep_their_numbers(rt: HostRuntime) {
+    let mut desk = broadcast_desk(&rt, rt.alloc());
+    let mut own = Some(TxId(1));
+    let mut sender = TxId(1);
+    let mut receiver = RxId(2);
+    makes(
+        &rt,
+        "subscribe",
+        desk.subscribe(TOPIC, Start::Tail, &mut own),
+        RxId(2),
+    );
+    let verb = SenderVerb::Send(value(&rt, rt.alloc(), b"x"));
+    tells(
+        &rt,
+        "Send",
+        desk.by_sender(TOPIC, &mut sender, verb),
+        BReply::Sent(1),
+    );
     let told = desk.by_receiver(TOPIC, &mut receiver, ReceiverVerb::Left);
     tells(&rt, "Left", told, BReply::Count(1));
-    let told = desk.by_receiver(TOPIC, &mut receiver, ReceiverVerb::Recv);
-    tells(&rt, "Recv", told, BReply::Value(value(&rt, alloc, b"x")));
-    assert!(rt; sender == TxId(2), "the sender keeps its number");
-    assert!(rt; receiver == RxId(3), "the receiver keeps its number");
+    makes(
+        &rt,
+        "resubscribe",
+        desk.resubscribe(TOPIC, &mut receiver),
+        RxId(3),
+    );
+    assert!(rt; own == Some(TxId(1)), "the asker's sender");
+    assert!(rt; sender == TxId(1), "the sender");
+    assert!(rt; receiver == RxId(2), "the receiver");
 }
 
 #[test]
 fn a_receiver_starts_at_the_oldest_value(rt: HostRuntime) {
     let alloc = rt.alloc();
     let mut desk = broadcast_desk(&rt, alloc);
-    let mut first = RxId(2);
-    let made = desk.subscribe(TOPIC, Start::Oldest, &mut None);
+    let made = subscribe_from(&mut desk, Start::Oldest, None);
     makes(&rt, "subscribe before any value", made, RxId(2));
     for sent in [b"x", b"y", b"z"] {
         let verb = SenderVerb::Send(value(&rt, alloc, sent));
-        let told = desk.by_sender(TOPIC, &mut TxId(1), verb);
+        let told = by_sender(&mut desk, 1, verb);
         tells(&rt, "Send", told, BReply::Sent(1));
     }
-    let mut late = RxId(3);
-    let made = desk.subscribe(TOPIC, Start::Oldest, &mut None);
+    let made = subscribe_from(&mut desk, Start::Oldest, None);
     makes(&rt, "subscribe at the oldest value kept", made, RxId(3));
-    let told = desk.by_receiver(TOPIC, &mut late, ReceiverVerb::TryRecv);
+    let told = by_receiver(&mut desk, 3, ReceiverVerb::TryRecv);
     tells(
         &rt,
         "it has no lag",
         told,
         BReply::Value(value(&rt, alloc, b"y")),
     );
-    let told = desk.by_receiver(TOPIC, &mut late, ReceiverVerb::Left);
+    let told = by_receiver(&mut desk, 3, ReceiverVerb::Left);
     tells(&rt, "one value is left", told, BReply::Count(1));
-    let told = desk.by_receiver(TOPIC, &mut first, ReceiverVerb::TryRecv);
+    let told = by_receiver(&mut desk, 2, ReceiverVerb::TryRecv);
     tells(&rt, "the first lost a value", told, BReply::Lagged(1));
 }
 
 #[test]
 fn a_receiver_is_renewed(rt: HostRuntime) {
     let mut desk = broadcast_desk(&rt, rt.alloc());
-    let mut old = RxId(2);
-    let made = desk.subscribe(TOPIC, Start::Tail, &mut None);
+    let made = subscribe(&mut desk, None);
     makes(&rt, "subscribe by the hub's sender", made, RxId(2));
-    makes(
-        &rt,
-        "resubscribe",
-        desk.resubscribe(TOPIC, &mut old),
-        RxId(3),
-    );
-    assert!(rt; old == RxId(2), "the old receiver keeps its number");
-    let told = desk.ask(TOPIC, &mut None, Question::Readers);
+    makes(&rt, "resubscribe", resubscribe(&mut desk, 2), RxId(3));
+    let told = ask(&mut desk, None, Question::Readers);
     tells(&rt, "one receiver is left", told, BReply::Count(1));
-    let told = desk.by_receiver(TOPIC, &mut old, ReceiverVerb::TryRecv);
+    let told = by_receiver(&mut desk, 2, ReceiverVerb::TryRecv);
     tells(
         &rt,
         "the old receiver is spent",
         told,
         BReply::NoHandle(None),
     );
-    has_no_handle(
-        &rt,
-        "a spent one is not renewed",
-        desk.resubscribe(TOPIC, &mut old),
-    );
+    has_no_handle(&rt, "a spent one is not renewed", resubscribe(&mut desk, 2));
 }
 
 #[test]
 fn questions_are_asked_through_either_sender(rt: HostRuntime) {
     let alloc = rt.alloc();
     let mut desk = broadcast_desk(&rt, alloc);
-    let mut own = Some(TxId(2));
-    makes(&rt, "bind", desk.bind(TOPIC), TxId(2));
-    makes(
-        &rt,
-        "subscribe",
-        desk.subscribe(TOPIC, Start::Tail, &mut None),
-        RxId(3),
-    );
+    makes(&rt, "bind", bind(&mut desk), TxId(2));
+    makes(&rt, "subscribe", subscribe(&mut desk, None), RxId(3));
     let verb = SenderVerb::Send(value(&rt, alloc, b"x"));
-    tells(
-        &rt,
-        "Send",
-        desk.by_sender(TOPIC, &mut TxId(2), verb),
-        BReply::Sent(1),
-    );
-    let told = desk.ask(TOPIC, &mut None, Question::Queued);
+    tells(&rt, "Send", by_sender(&mut desk, 2, verb), BReply::Sent(1));
+    let told = ask(&mut desk, None, Question::Queued);
     tells(
         &rt,
         "Queued through the hub's sender",
         told,
         BReply::Count(1),
     );
-    let told = desk.ask(TOPIC, &mut own, Question::Queued);
+    let told = ask(&mut desk, Some(2), Question::Queued);
     tells(
         &rt,
         "Queued through the asker's sender",
         told,
         BReply::Count(1),
     );
-    let told = desk.ask(TOPIC, &mut None, Question::Readers);
+    let told = ask(&mut desk, None, Question::Readers);
     tells(
         &rt,
         "Readers through the hub's sender",
         told,
         BReply::Count(1),
     );
-    let told = desk.ask(TOPIC, &mut own, Question::Readers);
+    let told = ask(&mut desk, Some(2), Question::Readers);
     tells(
         &rt,
         "Readers through the asker's sender",
         told,
         BReply::Count(1),
     );
-    assert!(rt; own == Some(TxId(2)), "the asker's sender keeps its number");
-    let told = desk.ask(TOPIC, &mut Some(TxId(9)), Question::Readers);
+    let told = ask(&mut desk, Some(9), Question::Readers);
     tells(
         &rt,
         "Readers through no live sender",
         told,
         BReply::NoHandle(None),
     );
-    let made = desk.subscribe(TOPIC, Start::Tail, &mut Some(TxId(9)));
+    let made = subscribe(&mut desk, Some(9));
     has_no_handle(&rt, "subscribe by no live sender", made);
 }
 
@@ -372,26 +433,21 @@ fn questions_are_asked_through_either_sender(rt: HostRuntime) {
 fn handles_are_spent(rt: HostRuntime) {
     let alloc = rt.alloc();
     let mut desk = broadcast_desk(&rt, alloc);
-    makes(&rt, "bind", desk.bind(TOPIC), TxId(2));
-    makes(
-        &rt,
-        "subscribe",
-        desk.subscribe(TOPIC, Start::Tail, &mut None),
-        RxId(3),
-    );
-    let told = desk.spend_receiver(TOPIC, RxId(3));
+    makes(&rt, "bind", bind(&mut desk), TxId(2));
+    makes(&rt, "subscribe", subscribe(&mut desk, None), RxId(3));
+    let told = spend_receiver(&mut desk, 3);
     ends(&rt, "the receiver is spent", told);
-    let told = desk.ask(TOPIC, &mut None, Question::Readers);
+    let told = ask(&mut desk, None, Question::Readers);
     tells(&rt, "no receiver is left", told, BReply::Count(0));
-    let told = desk.spend_sender(TOPIC, TxId(2));
+    let told = spend_sender(&mut desk, 2);
     ends(&rt, "the sender is spent", told);
     let verb = SenderVerb::Send(value(&rt, alloc, b"x"));
-    let told = desk.by_sender(TOPIC, &mut TxId(2), verb);
+    let told = by_sender(&mut desk, 2, verb);
     let back = BReply::NoHandle(Some(value(&rt, alloc, b"x")));
     tells(&rt, "a spent sender sends nothing", told, back);
-    let told = desk.spend_sender(TOPIC, TxId(2));
+    let told = spend_sender(&mut desk, 2);
     comes_back(&rt, "a sender spent twice", told, TxId(2), NoEvent::NotLive);
-    let told = desk.spend_receiver(TOPIC, RxId(3));
+    let told = spend_receiver(&mut desk, 3);
     comes_back(
         &rt,
         "a receiver spent twice",
@@ -399,32 +455,27 @@ fn handles_are_spent(rt: HostRuntime) {
         RxId(3),
         NoEvent::NotLive,
     );
-    makes(&rt, "the hub's own sender lives", desk.bind(TOPIC), TxId(4));
+    makes(&rt, "the hub's own sender lives", bind(&mut desk), TxId(4));
 }
 
 /// The end of the hub's own sender, on a desk of one topic of either kind.
 fn has_no_sender_after_its_end(rt: &impl Abort, desk: &mut LocalDesk) {
-    makes(rt, "bind", desk.bind(TOPIC), TxId(2));
-    assert!(rt; desk.end(TOPIC).is_ok(), "end");
-    is_none(rt, "end twice", desk.end(TOPIC), NoEvent::NoSender);
-    is_none(
-        rt,
-        "bind after the end",
-        desk.bind(TOPIC),
-        NoEvent::NoSender,
-    );
-    let made = desk.subscribe(TOPIC, Start::Tail, &mut None);
+    makes(rt, "bind", bind(desk), TxId(2));
+    assert!(rt; end(desk).is_ok(), "end");
+    is_none(rt, "end twice", end(desk), NoEvent::NoSender);
+    is_none(rt, "bind after the end", bind(desk), NoEvent::NoSender);
+    let made = subscribe(desk, None);
     is_none(rt, "subscribe by the hub's sender", made, NoEvent::NoSender);
-    let told = desk.ask(TOPIC, &mut None, Question::Readers);
+    let told = ask(desk, None, Question::Readers);
     is_none(
         rt,
         "a question through the hub's sender",
         told,
         NoEvent::NoSender,
     );
-    let made = desk.subscribe(TOPIC, Start::Tail, &mut Some(TxId(2)));
+    let made = subscribe(desk, Some(2));
     makes(rt, "subscribe by the asker's sender", made, RxId(3));
-    let told = desk.ask(TOPIC, &mut Some(TxId(2)), Question::Readers);
+    let told = ask(desk, Some(2), Question::Readers);
     assert!(rt; told.is_ok(), "a question through the asker's sender");
 }
 
@@ -443,24 +494,19 @@ fn an_ended_watch_topic_has_no_sender_to_go_through(rt: HostRuntime) {
 #[test]
 fn receivers_of_an_ended_topic_do_not_wait(rt: HostRuntime) {
     let mut desk = broadcast_desk(&rt, rt.alloc());
-    makes(
-        &rt,
-        "subscribe",
-        desk.subscribe(TOPIC, Start::Tail, &mut None),
-        RxId(2),
-    );
-    ends(&rt, "end", desk.end(TOPIC));
-    let told = desk.by_receiver(TOPIC, &mut RxId(2), ReceiverVerb::Recv);
+    makes(&rt, "subscribe", subscribe(&mut desk, None), RxId(2));
+    ends(&rt, "end", end(&mut desk));
+    let told = by_receiver(&mut desk, 2, ReceiverVerb::Recv);
     tells(&rt, "Recv of a closed topic", told, BReply::Closed);
     let mut desk = watch_desk(&rt, rt.alloc());
     makes(
         &rt,
         "subscribe to a watch topic",
-        desk.subscribe(TOPIC, Start::Tail, &mut None),
+        subscribe(&mut desk, None),
         RxId(2),
     );
-    watch_ends(&rt, "end of a watch topic", desk.end(TOPIC));
-    let told = desk.by_receiver(TOPIC, &mut RxId(2), ReceiverVerb::Changed);
+    watch_ends(&rt, "end of a watch topic", end(&mut desk));
+    let told = by_receiver(&mut desk, 2, ReceiverVerb::Changed);
     shows(&rt, "Changed of a closed topic", told, WReply::Closed);
 }
 
@@ -468,40 +514,34 @@ fn receivers_of_an_ended_topic_do_not_wait(rt: HostRuntime) {
 fn a_desk_serves_readers_of_watch_topics(rt: HostRuntime) {
     let alloc = rt.alloc();
     let mut desk = watch_desk(&rt, alloc);
-    let mut reader = RxId(2);
-    makes(
-        &rt,
-        "subscribe",
-        desk.subscribe(TOPIC, Start::Tail, &mut None),
-        RxId(2),
-    );
-    let told = desk.by_receiver(TOPIC, &mut reader, ReceiverVerb::Take);
+    makes(&rt, "subscribe", subscribe(&mut desk, None), RxId(2));
+    let told = by_receiver(&mut desk, 2, ReceiverVerb::Take);
     shows(
         &rt,
         "Take",
         told,
         WReply::Shown(value(&rt, alloc, b"a"), false),
     );
-    let told = desk.by_receiver(TOPIC, &mut reader, ReceiverVerb::Changed);
+    let told = by_receiver(&mut desk, 2, ReceiverVerb::Changed);
     is_none(&rt, "Changed of nothing new", told, NoEvent::Blocked);
-    let told = desk.by_receiver(TOPIC, &mut reader, ReceiverVerb::TryChanged);
+    let told = by_receiver(&mut desk, 2, ReceiverVerb::TryChanged);
     shows(&rt, "TryChanged of nothing new", told, WReply::NotYet);
-    let told = desk.by_receiver(TOPIC, &mut reader, ReceiverVerb::MarkChanged);
+    let told = by_receiver(&mut desk, 2, ReceiverVerb::MarkChanged);
     shows(&rt, "MarkChanged", told, WReply::Done);
-    let told = desk.by_receiver(TOPIC, &mut reader, ReceiverVerb::Borrow);
+    let told = by_receiver(&mut desk, 2, ReceiverVerb::Borrow);
     shows(
         &rt,
         "Borrow",
         told,
         WReply::Shown(value(&rt, alloc, b"a"), true),
     );
-    let told = desk.by_receiver(TOPIC, &mut reader, ReceiverVerb::Changed);
+    let told = by_receiver(&mut desk, 2, ReceiverVerb::Changed);
     shows(&rt, "Changed of an unseen value", told, WReply::Marked);
-    let told = desk.by_receiver(TOPIC, &mut reader, ReceiverVerb::MarkUnchanged);
+    let told = by_receiver(&mut desk, 2, ReceiverVerb::MarkUnchanged);
     shows(&rt, "MarkUnchanged", told, WReply::Done);
-    let told = desk.by_receiver(TOPIC, &mut reader, ReceiverVerb::HasChanged);
+    let told = by_receiver(&mut desk, 2, ReceiverVerb::HasChanged);
     shows(&rt, "HasChanged", told, WReply::Changed(false));
-    let told = desk.spend_receiver(TOPIC, reader);
+    let told = spend_receiver(&mut desk, 2);
     watch_ends(&rt, "the reader is spent", told);
 }
 
@@ -509,16 +549,10 @@ fn a_desk_serves_readers_of_watch_topics(rt: HostRuntime) {
 fn a_desk_serves_senders_of_watch_topics(rt: HostRuntime) {
     let alloc = rt.alloc();
     let mut desk = watch_desk(&rt, alloc);
-    let mut sender = TxId(2);
-    makes(&rt, "bind", desk.bind(TOPIC), TxId(2));
-    makes(
-        &rt,
-        "subscribe",
-        desk.subscribe(TOPIC, Start::Tail, &mut None),
-        RxId(3),
-    );
+    makes(&rt, "bind", bind(&mut desk), TxId(2));
+    makes(&rt, "subscribe", subscribe(&mut desk, None), RxId(3));
     let verb = SenderVerb::Differ(value(&rt, alloc, b"a"));
-    let told = desk.by_sender(TOPIC, &mut sender, verb);
+    let told = by_sender(&mut desk, 2, verb);
     shows(
         &rt,
         "Differ by the same value",
@@ -526,23 +560,23 @@ fn a_desk_serves_senders_of_watch_topics(rt: HostRuntime) {
         WReply::Modified(false),
     );
     let verb = SenderVerb::Differ(value(&rt, alloc, b"b"));
-    let told = desk.by_sender(TOPIC, &mut sender, verb);
+    let told = by_sender(&mut desk, 2, verb);
     shows(&rt, "Differ by another value", told, WReply::Modified(true));
     let verb = SenderVerb::Set(value(&rt, alloc, b"b"));
-    let told = desk.by_sender(TOPIC, &mut sender, verb);
+    let told = by_sender(&mut desk, 2, verb);
     shows(&rt, "Set", told, WReply::Modified(true));
     let verb = SenderVerb::Quiet(value(&rt, alloc, b"c"));
-    let told = desk.by_sender(TOPIC, &mut sender, verb);
+    let told = by_sender(&mut desk, 2, verb);
     shows(&rt, "Quiet", told, WReply::Modified(false));
     let verb = SenderVerb::Replace(value(&rt, alloc, b"d"));
-    let told = desk.by_sender(TOPIC, &mut sender, verb);
+    let told = by_sender(&mut desk, 2, verb);
     shows(&rt, "Replace", told, WReply::Was(value(&rt, alloc, b"c")));
     let verb = SenderVerb::Send(value(&rt, alloc, b"e"));
-    let told = desk.by_sender(TOPIC, &mut sender, verb);
+    let told = by_sender(&mut desk, 2, verb);
     shows(&rt, "Send", told, WReply::Done);
-    let told = desk.ask(TOPIC, &mut None, Question::Readers);
+    let told = ask(&mut desk, None, Question::Readers);
     shows(&rt, "Readers", told, WReply::Count(1));
-    let told = desk.spend_sender(TOPIC, sender);
+    let told = spend_sender(&mut desk, 2);
     watch_ends(&rt, "the sender is spent", told);
 }
 
@@ -568,7 +602,7 @@ fn senders_have_the_verbs_of_their_kind(rt: HostRuntime) {
         );
         assert!(rt; sends(Kind::Watch, &verb), "{what}, watch");
         if !is_broadcast {
-            let told = desk.by_sender(TOPIC, &mut TxId(1), verb);
+            let told = by_sender(&mut desk, 1, verb);
             is_none(&rt, what, told, NoEvent::WrongKind);
         }
     }
@@ -587,14 +621,14 @@ fn questions_are_for_kinds(rt: HostRuntime) {
     );
     assert!(rt; !answers(Kind::Watch, Question::Queued), "Queued, watch");
     assert!(rt; answers(Kind::Watch, Question::Readers), "Readers, watch");
-    let told = desk.ask(TOPIC, &mut None, Question::Queued);
+    let told = ask(&mut desk, None, Question::Queued);
     is_none(
         &rt,
         "Queued through the hub's sender",
         told,
         NoEvent::WrongKind,
     );
-    let told = desk.ask(TOPIC, &mut Some(TxId(1)), Question::Queued);
+    let told = ask(&mut desk, Some(1), Question::Queued);
     is_none(
         &rt,
         "Queued through the asker's sender",
@@ -628,13 +662,13 @@ fn receivers_have_the_verbs_of_their_kind(rt: HostRuntime) {
             "{what}, watch"
         );
         let told = if is_broadcast {
-            watch.by_receiver(TOPIC, &mut RxId(2), verb)
+            by_receiver(&mut watch, 2, verb)
         } else {
-            broadcast.by_receiver(TOPIC, &mut RxId(2), verb)
+            by_receiver(&mut broadcast, 2, verb)
         };
         is_none(&rt, what, told, NoEvent::WrongKind);
     }
-    let told = watch.resubscribe(TOPIC, &mut RxId(2));
+    let told = resubscribe(&mut watch, 2);
     is_none(&rt, "resubscribe", told, NoEvent::WrongKind);
 }
 
