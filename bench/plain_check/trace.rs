@@ -128,14 +128,13 @@ impl<C: Channel> Course<C> {
 
     /// A line where a call is due, or the end line.
     fn call(&self, line: &[u8]) -> Option<Due<C::Call>> {
-        match split_field(line)? {
-            (b"C", rest) if self.entries < ENTRIES_LIMIT => {
-                let (word, rest) = split_field(rest)?;
-                Some(Due::Reply(self.channel.call(word, rest)?))
-            }
-            (b"END", rest) if number(rest)? == self.entries => Some(Due::Nothing),
-            _ => None,
+        if let Some(rest) = line.strip_prefix(b"C ") {
+            let (word, rest) = split_field(rest)?;
+            let call = self.channel.call(word, rest)?;
+            return (self.entries < ENTRIES_LIMIT).then_some(Due::Reply(call));
         }
+        let told = number(line.strip_prefix(b"END ")?)?;
+        (told == self.entries).then_some(Due::Nothing)
     }
 
     /// A line of the picture below the second.
