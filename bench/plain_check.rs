@@ -2,8 +2,8 @@
 //! `bench/check` compares with, and stands on the standard library alone.
 //!
 //! A channel is made from the picture of the trace, and makes each call; its reply has to be the one that is told. A
-//! broadcast channel keeps its newest values in a `VecDeque`, each with the number of receivers that have still to read it.
-//! Handles stand in ordered maps. Of the text no more is kept than what one read gave.
+//! broadcast channel keeps its newest values in a `VecDeque`, each with the number of receivers that have still to read
+//! it. Handles stand in ordered maps. Of the text no more is kept than what one read gave.
 
 #[path = "plain_check/broadcast.rs"]
 mod broadcast;
