@@ -8,6 +8,8 @@
 
 #[path = "plain/commands.rs"]
 mod commands;
+#[path = "plain/fields.rs"]
+mod fields;
 #[path = "plain/lines.rs"]
 mod lines;
 #[path = "plain/log.rs"]

@@ -1,7 +1,8 @@
 //! Lines are read as commands.
 
+use crate::fields::{number, split_field, value};
+
 const NAME_LIMIT: usize = 32;
-const VALUE_LIMIT: usize = 1024;
 
 /// What an actor asks for.
 pub enum Command<'a> {
@@ -74,12 +75,6 @@ pub enum Change {
     Quiet,
 }
 
-/// The bytes up to the next space, and those after it.
-fn split_field(bytes: &[u8]) -> Option<(&[u8], &[u8])> {
-    let at = bytes.iter().position(|&b| b == b' ')?;
-    Some((&bytes[..at], &bytes[at + 1..]))
-}
-
 /// Whether a name may have the byte.
 const NAME_BYTES: [bool; 256] = {
     let mut table = [false; 256];
@@ -110,21 +105,6 @@ fn name_field(bytes: &[u8]) -> Option<(&[u8], &[u8])> {
 fn name(bytes: &[u8]) -> Option<&[u8]> {
     let (name, rest) = split_name(bytes)?;
     rest.is_empty().then_some(name)
-}
-
-/// A number without a sign and without leading zeros.
-fn number(bytes: &[u8]) -> Option<u64> {
-    if bytes.is_empty() || (bytes[0] == b'0' && bytes.len() > 1) {
-        return None;
-    }
-    bytes.iter().try_fold(0u64, |n, &b| {
-        let digit = b.is_ascii_digit().then(|| u64::from(b - b'0'))?;
-        n.checked_mul(10)?.checked_add(digit)
-    })
-}
-
-fn value(bytes: &[u8]) -> Option<&[u8]> {
-    ((1..=VALUE_LIMIT).contains(&bytes.len()) && !bytes.contains(&b'\r')).then_some(bytes)
 }
 
 /// What follows `OPEN`.
