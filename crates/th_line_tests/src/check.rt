@@ -1,5 +1,5 @@
 //! Checks of whole texts.
-use std::alloc::Global;
+use std::alloc::{AllocError, Global};
 use std::io;
 use std::io::{ErrorKind, Read};
 use std::test::Fail;
@@ -69,6 +69,51 @@ R shown same b
 END 6
 ";
 
+// Below the first line of a trace of version 2: receivers that begin at the oldest value kept, one of them behind a
+// receiver that lags, and one where nothing is left.
+const FROM_OLDEST: &str = "\
+AT 0 0 NEXT 2
+TX 1
+BEGIN
+C clone-tx 1
+R new-tx 2
+C subscribe 1
+R new-rx 3
+C send 2 1
+R sent 1
+C send 2 2
+R sent 1
+C send 2 3
+R sent 1
+C subscribe-oldest 1
+R new-rx 4
+C left 4
+R count 2
+C try-recv 4
+R value 2
+C try-recv 3
+R lagged 1
+C try-recv 3
+R value 2
+C try-recv 3
+R value 3
+C queued 2
+R count 1
+C drop-rx 3
+R done
+C queued 2
+R count 1
+C try-recv 4
+R value 3
+C queued 2
+R count 0
+C subscribe-oldest 1
+R new-rx 5
+C try-recv 5
+R empty
+END 18
+";
+
 // What a check says of a text that begins so and goes on so.
 fn verdict(alloc: Global, front: &str, rest: &str) -> Result<Verdict, CheckFault> {
     let mut text = Vec::new(alloc);
@@ -109,6 +154,8 @@ fn whole_texts(rt: HostRuntime) {
         ),
         (MIDDLE, "C subscribe-oldest 1\n", Verdict::BadTrace(9)),
         (WATCH, "", Verdict::Legal(6)),
+        ("TRACE 2 B 2\n", FROM_OLDEST, Verdict::Legal(18)),
+        ("TRACE 1 B 2\n", FROM_OLDEST, Verdict::BadTrace(15)),
         ("", "", Verdict::BadTrace(1)),
         ("", "\n", Verdict::BadTrace(1)),
     ] {
@@ -280,6 +327,60 @@ fn lines_that_are_too_long(rt: HostRuntime) -> Result<(), Fail> {
             Ok(want),
             "{bytes}"
         );
+    }
+    Ok(())
+}
+
+// A picture with the senders 1 to this one, and what stands below them.
+fn crowd(alloc: Global, head: &str, senders: u64, rest: &str) -> Result<Vec<u8>, AllocError> {
+    let mut text = Vec::new(alloc);
+    text.extend_from_slice(head.as_bytes())?;
+    for before in 0..senders {
+        let id = before.saturating_add(1);
+        let line = format!(in alloc; "TX {id}\n")?;
+        text.extend_from_slice(line.as_bytes())?;
+    }
+    text.extend_from_slice(rest.as_bytes())?;
+    Ok(text)
+}
+
+// With 65,535 live senders no further one is made, though numbers are left; but a receiver is. A picture with one more
+// is none.
+#[test]
+fn as_many_senders_as_there_may_be(rt: HostRuntime) -> Result<(), Fail> {
+    let alloc = rt.alloc();
+    let broadcast = "TRACE 1 B 1\nAT 0 0 NEXT 65537\n";
+    let watch = "TRACE 1 W\nAT 1 NEXT 65537\nKEEP a\n";
+    for (head, senders, rest, want) in [
+        (
+            broadcast,
+            65_535,
+            "BEGIN\nC clone-tx 1\nR too-many\nC subscribe 1\nR new-rx 65537\nEND 2\n",
+            Verdict::Legal(2),
+        ),
+        (
+            broadcast,
+            65_535,
+            "BEGIN\nC clone-tx 1\nR new-tx 65537\n",
+            Verdict::Illegal(65_540),
+        ),
+        (
+            broadcast,
+            65_534,
+            "BEGIN\nC clone-tx 1\nR new-tx 65537\nEND 1\n",
+            Verdict::Legal(1),
+        ),
+        (broadcast, 65_536, "BEGIN\n", Verdict::BadTrace(65_538)),
+        (
+            watch,
+            65_535,
+            "BEGIN\nC clone-tx 1\nR too-many\nC subscribe 1\nR new-rx 65537\nEND 2\n",
+            Verdict::Legal(2),
+        ),
+    ] {
+        let text = crowd(alloc, head, senders, rest)?;
+        let said = check(alloc, &mut Counted::new(text.as_slice()));
+        assert_eq!(rt; said, Ok(want), "{head}{rest}");
     }
     Ok(())
 }
