@@ -6,3 +6,8 @@ pub mod Reading
 mod Deciding
 mod Telling
 mod Tracing
+mod PrintedLines
+mod PrintedBroadcast
+mod PrintedWatch
+mod Handing
+mod Walking

@@ -4,3 +4,4 @@ pub mod Verdicts
 pub mod Histories
 pub mod Checked
 pub mod Judging
+pub mod Printed

@@ -1,13 +1,20 @@
-//! Laws of the definitions. Each function does nothing: its contract is the law.
-ghost use Rattle.std.specs.Prelude.{◌≡◌, ◌↔◌, ℕ, List};
+//! Laws of the definitions. The contract of each function is the law: what the body does is of no use but to its proof.
+ghost use Rattle.std.specs.Prelude.{◌≡◌, ◌↔◌, ◌≤◌, ℕ, List, length};
 ghost use Rattle.th_lines.specs.Lines.{Line, lines_of};
+ghost use Rattle.th_traces.specs.Traces.{broadcast_trace, watch_trace};
 ghost use Rattle.th_check.specs.Histories.{IsTrace};
+ghost use Rattle.th_check.specs.Stages.{most_entries};
 ghost use Rattle.th_check.specs.Verdicts.{IsLegalText, IsSo};
 
 use crate::broadcast_course::RingBroadcast;
+use crate::printed::{are_broadcast_entries, are_kept_values, are_watch_entries, is_value};
 use crate::verdict::Verdict;
 use crate::watch_course::ValueWatch;
-use th_log::Compared;
+use th_bcast::Broadcast;
+use th_log::{Compared, Segment};
+use th_model::Value;
+use th_shelf::Shelf;
+use th_watch::Watch;
 
 /// Of every text exactly one verdict is so.
 pub fn one_verdict()
@@ -24,3 +31,27 @@ pub fn one_verdict()
 pub fn legal_texts()
     ensures { (lines : List Line) (count : ℕ) → IsLegalText lines count ↔ IsTrace lines count }
 {}
+
+/// What a segment of a broadcast channel's history is printed as is a legal text, with as many entries:
+/// whatever calls were made and replies given, they are read again, and judged legal. A segment that was
+/// joined of others can have more entries than a text may. Linear in the entries and the kept values.
+pub fn printed_broadcast_traces_are_legal<S: Shelf<Value> + Drop>(
+    segment: &Segment<Broadcast<Value, S>>,
+)
+    ensures { let s = segment.now in length s.entries ≤ most_entries
+        → IsLegalText (lines_of (broadcast_trace s.start s.entries)) (length s.entries) }
+{
+    let _ = segment.len();
+    are_kept_values(segment.start());
+    are_broadcast_entries(segment.entries());
+}
+
+/// The same of a watch channel's. Linear in the entries.
+pub fn printed_watch_traces_are_legal(segment: &Segment<Watch<Value>>)
+    ensures { let s = segment.now in length s.entries ≤ most_entries
+        → IsLegalText (lines_of (watch_trace s.start s.entries)) (length s.entries) }
+{
+    let _ = segment.len();
+    is_value(segment.start().value());
+    are_watch_entries(segment.entries());
+}

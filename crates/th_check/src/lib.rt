@@ -13,6 +13,7 @@ pub mod course;
 pub mod fault;
 pub mod laws;
 pub mod point;
+mod printed;
 mod run;
 pub mod verdict;
 pub mod watch_course;

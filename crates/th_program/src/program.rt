@@ -12,9 +12,8 @@ use crate::words::{hint, mode};
 use itoa::Buffer;
 use std::alloc::Global;
 use std::io::{Read, Write};
-use th_check::{CheckFault, Verdict, check};
 use th_lines::{Counted, Moved};
-use th_replay::{ReplayFault, replay};
+use th_replay::{CheckFault, ReplayFault, Verdict, check, replay};
 
 // How many interrupted writes of a text are made again.
 const RETRIES: u32 = 1000;
