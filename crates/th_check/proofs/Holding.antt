@@ -51,7 +51,7 @@ in_broadcast : (version : Version) (stage : BroadcastStage) (line : List ℕ) (r
     → Takes (InBroadcast version stage) (Good line) (broadcast_made version result)
 in_broadcast version stage line (Ok held) h = (InBroadcast version h.0, (On h.0, h.1, refl), (refl, h.2))
 in_broadcast version stage line (Err stop.Bad) h = (Bad, h, refl)
-in_broadcast version stage line (Err stop.Illegal) h = (Illegal, h, refl)
+in_broadcast version stage line (Err (stop.Illegal told)) h = record { illegal = (Illegal, h.0, refl); own = h.1 }
 in_broadcast version stage line (Err stop.Short) h = tt
 
 in_watch : (stage : WatchStage) (line : List ℕ) (result : Result WatchCourse Stop)
@@ -59,7 +59,7 @@ in_watch : (stage : WatchStage) (line : List ℕ) (result : Result WatchCourse S
     → Takes (InWatch stage) (Good line) (watch_made result)
 in_watch stage line (Ok held) h = (InWatch h.0, (On h.0, h.1, refl), h.2)
 in_watch stage line (Err stop.Bad) h = (Bad, h, refl)
-in_watch stage line (Err stop.Illegal) h = (Illegal, h, refl)
+in_watch stage line (Err (stop.Illegal told)) h = record { illegal = (Illegal, h.0, refl); own = h.1 }
 in_watch stage line (Err stop.Short) h = tt
 
 -- by what the code holds

@@ -61,7 +61,7 @@ reads_lines r r' a b u h = (passed r r' a b h.0 u h.1 h.2, h.3)
 -- a check that was stopped at a line ends with no other fault than want of memory
 pub stopped_short : (told : Result Verdict CheckFault) (why : Stop) (number : ℕ) → told ≡ stopped why number → IfErr told (λ e. e ≡ fault.Short)
 stopped_short told stop.Bad number e = subst (λ (t : Result Verdict CheckFault). IfErr t (λ f. f ≡ fault.Short)) (sym e) tt
-stopped_short told stop.Illegal number e = subst (λ (t : Result Verdict CheckFault). IfErr t (λ f. f ≡ fault.Short)) (sym e) tt
+stopped_short told (stop.Illegal own) number e = subst (λ (t : Result Verdict CheckFault). IfErr t (λ f. f ≡ fault.Short)) (sym e) tt
 stopped_short told stop.Short number e = subst (λ (t : Result Verdict CheckFault). IfErr t (λ f. f ≡ fault.Short)) (sym e) refl
 
 -- and no failure of the reader

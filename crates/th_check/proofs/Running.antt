@@ -183,7 +183,7 @@ module _ (r r' : Option (List ℕ)) (a b : Checker) (u : Underway r r' a) (xs : 
         };
         whole = λ n e. no_legal (verdict.BadTrace b.judged) n refl e;
       }
-  halted stop.Illegal h =
+  halted (stop.Illegal told) h =
       let there = h.led u.here u.held in
       record {
         input = u.input;
@@ -195,8 +195,8 @@ module _ (r r' : Option (List ℕ)) (a b : Checker) (u : Underway r r' a) (xs : 
           parts = (later more end).1;
           here = there.0;
           led = leads-append start u.here there.0 u.done xs u.led there.1;
-          illegal = there.2;
-          counted = number stop.Illegal h;
+          illegal = there.2.illegal;
+          counted = number (stop.Illegal told) h;
         };
         whole = λ n e. no_legal (verdict.Illegal b.judged) n refl e;
       }

@@ -12,7 +12,7 @@ use Rattle.th_check.specs.declared.course.Course.TheVariants as course
 use Rattle.th_check.specs.declared.fault.Stop.{Stop}
 use Rattle.th_check.specs.declared.fault.Stop.TheVariants as stop
 use Rattle.th_check.specs.Judging.{EndsAt, IsShown, Shows, TurnsTo}
-use Rattle.th_check.specs.Stages.{Stage, CallDue, ReplyDue, Ended, Words, begins}
+use Rattle.th_check.specs.Stages.{Stage, CallDue, ReplyDue, Ended, Words, begins, reply_at}
 
 -- a line that says nothing
 pub reads_bad : {A : Type 0} (asks : A → Bool) (fault : LineFault) (said : Option A) → fault ≡ BadLine → Reads asks (Err fault) said → said ≡ None
@@ -54,7 +54,7 @@ module _ {E S C R : Type 0} (m : Machine E S C R) (IsProper : E → Type 0) (wor
         ap (λ (o : Option C). begins m words state count o (end_of line)) e
         ∙ ap (λ (o : Option ℕ). begins m words state count None o) t
         ∙ ap (λ (b : Bool). cond b (Some (Ended count)) None) (ne_eqb told count (λ k. h (ap Some k)))
-    end_turns told (Err stop.Illegal) t e h = absurd h
+    end_turns told (Err (stop.Illegal own)) t e h = absurd h
     end_turns told (Err stop.Short) t e h = absurd h
 
     pub says_no_call : (result : Result (Course S C) Stop) → words.call_of line ≡ None → EndsAt count (end_of line) result
@@ -68,9 +68,14 @@ module _ {E S C R : Type 0} (m : Machine E S C R) (IsProper : E → Type 0) (wor
     ready : m.ready (m.see state) call ≡ m.ready object call
     ready = ap (λ (p : S). m.ready p call) shown.shown
 
+    -- whether it is decides which reply is expected
+    expects : (is : Bool) → m.ready object call ≡ is
+        → words.told (cond is (Some (m.step state call).0) None) ≡ words.told (reply_at m words state call)
+    expects is e = ap (λ (b : Bool). words.told (cond b (Some (m.step state call).0) None)) (sym e ∙ sym ready)
+
     pub says_too_early : (said : R) → words.reply_of call line ≡ Some said → m.ready object call ≡ false
-        → TurnsTo m IsProper words (ReplyDue state count call) line (Err stop.Illegal)
-    says_too_early said e early = (said, e, λ late same. false≢true (sym early ∙ sym ready ∙ late))
+        → TurnsTo m IsProper words (ReplyDue state count call) line (Err (stop.Illegal (words.told None)))
+    says_too_early said e early = ((said, e, λ late same. false≢true (sym early ∙ sym ready ∙ late)), expects false early)
 
     module _ (new : S) (reply : R) (step : m.answer object call ≡ (reply, new)) where
       answered : ◌≡◌ {A = R × S} (reply, new) ((m.step state call).0, m.see (m.step state call).1)
@@ -84,9 +89,12 @@ module _ {E S C R : Type 0} (m : Machine E S C R) (IsProper : E → Type 0) (wor
         (record { proper = step_ok state call shown.proper; shown = ap (λ (a : R × S). a.1) (sym answered) }, n),
       )
 
-      pub says_another : (said : R) → words.reply_of call line ≡ Some said → (reply ≡ said → ⊥)
-          → TurnsTo m IsProper words (ReplyDue state count call) line (Err stop.Illegal)
-      says_another said e apart = (said, e, λ late same. apart (ap (λ (a : R × S). a.0) answered ∙ sym same))
+      pub says_another : (said : R) → words.reply_of call line ≡ Some said → m.ready object call ≡ true → (reply ≡ said → ⊥)
+          → TurnsTo m IsProper words (ReplyDue state count call) line (Err (stop.Illegal (words.told (Some reply))))
+      says_another said e late apart = (
+        (said, e, λ now same. apart (ap (λ (a : R × S). a.0) answered ∙ sym same)),
+        ap (λ (a : R × S). words.told (Some a.0)) answered ∙ expects true late,
+      )
 
   -- by what the code holds
   pub at_call : (object : S) (count : ℕ) (line : List ℕ) (result : Result (Course S C) Stop)

@@ -12,6 +12,7 @@ use Rattle.th_traces.specs.declared.picture.Picture.{Picture}
 use Rattle.th_check.specs.declared.checker.Checker.{Checker}
 use Rattle.th_check.specs.declared.course.Course.{Course}
 use Rattle.th_check.specs.declared.course.Course.TheVariants as course
+use Rattle.th_check.specs.declared.fault.Expected.{Expected}
 use Rattle.th_check.specs.declared.fault.Stop.{Stop}
 use Rattle.th_check.specs.declared.fault.Stop.TheVariants as stop
 use Rattle.th_check.specs.declared.point.Spot.{Spot}
@@ -21,8 +22,8 @@ use Rattle.th_check.specs.declared.fault.CheckFault.TheVariants as fault
 use Rattle.th_check.specs.declared.verdict.Verdict.{Verdict}
 use Rattle.th_check.specs.declared.verdict.Verdict.TheVariants as verdict
 use Rattle.th_check.specs.Checked.{Checked, IsGoodSoFar}
-use Rattle.th_check.specs.Points.{Point, InPicture, InBroadcast, InWatch, Does, start, ended_with, entries_of, watch_machine}
-use Rattle.th_check.specs.Stages.{Stage, CallDue, ReplyDue, Ended, On, Bad, Illegal, Turns, Words}
+use Rattle.th_check.specs.Points.{Point, InPicture, InBroadcast, InWatch, Does, ExpectsAt, start, ended_with, entries_of, watch_machine}
+use Rattle.th_check.specs.Stages.{Stage, CallDue, ReplyDue, Ended, On, Bad, Illegal, Expects, Turns, Words}
 use Rattle.th_check.specs.Verdicts.{Leads}
 
 module _ {E S C R : Type 0} (m : Machine E S C R) (IsProper : E → Type 0) where
@@ -45,14 +46,15 @@ module _ {E S C R : Type 0} (m : Machine E S C R) (IsProper : E → Type 0) wher
   TurnsTo words stage line (Ok held) =
       (next : Stage E C) × Turns m words stage line (On next) × Shows next held
   TurnsTo words stage line (Err stop.Bad) = Turns m words stage line Bad
-  TurnsTo words stage line (Err stop.Illegal) = Turns m words stage line Illegal
+  TurnsTo words stage line (Err (stop.Illegal expected)) =
+      Turns m words stage line Illegal × Expects m words stage expected
   TurnsTo words stage line (Err stop.Short) = Unit {0}
 
 -- the number of entries was told, or another line is bad
 abbrev pub EndsAt : {O C : Type 0} → ℕ → Option ℕ → Result (Course O C) Stop → Type 0
 EndsAt count told (Ok held) = (told ≡ Some count) × (held ≡ course.Ended count)
 EndsAt count told (Err stop.Bad) = told ≡ Some count → ⊥
-EndsAt count told (Err stop.Illegal) = ⊥
+EndsAt count told (Err (stop.Illegal expected)) = ⊥
 EndsAt count told (Err stop.Short) = ⊥
 
 -- the code holds this point
@@ -63,10 +65,15 @@ Holds (InBroadcast version stage) (spot.InBroadcast told held) =
 Holds (InWatch stage) (spot.InWatch held) = Shows watch_machine watch.IsProper stage held
 Holds point held = ⊥
 
+-- The line is a reply of good form that is not the machine's. That one is this.
+pub record IsAnother (here : Point) (line : Line) (expected : Expected) : Type 0 where
+  pub illegal : Does here line Illegal
+  pub own : ExpectsAt here expected
+
 -- what stopped the code at a line
 abbrev pub StopsAt : Point → Line → Stop → Type 0
 StopsAt here line stop.Bad = Does here line Bad
-StopsAt here line stop.Illegal = Does here line Illegal
+StopsAt here line (stop.Illegal expected) = IsAnother here line expected
 StopsAt here line stop.Short = Unit {0}
 
 -- what the code made of a line at a point
@@ -78,7 +85,7 @@ Takes here line (Err why) = StopsAt here line why
 abbrev pub Begins : Head → Picture → Result Spot Stop → Type 0
 Begins h p (Ok held) = (next : Point) × (entries_of h p ≡ On next) × Holds next held
 Begins h p (Err stop.Bad) = entries_of h p ≡ Bad
-Begins h p (Err stop.Illegal) = ⊥
+Begins h p (Err (stop.Illegal expected)) = ⊥
 Begins h p (Err stop.Short) = Unit {0}
 
 -- These lines were judged, and lead on.
@@ -138,8 +145,13 @@ EndSays here judged (verdict.BadTrace number) = (ended_with here ≡ None) × (n
 -- the answer of a check that was stopped at this line
 abbrev pub stopped : Stop → ℕ → Result Verdict CheckFault
 stopped stop.Bad number = Ok (verdict.BadTrace number)
-stopped stop.Illegal number = Ok (verdict.Illegal number)
+stopped (stop.Illegal expected) number = Ok (verdict.Illegal number)
 stopped stop.Short number = Err fault.Short
+
+-- the reply that was expected where this stopped the code, if a reply was
+abbrev pub IsKept : Stop → Option Expected → Type 0
+IsKept (stop.Illegal expected) kept = kept ≡ Some expected
+IsKept why kept = Unit {0}
 
 -- The whole input was read: the verdict is on it.
 abbrev pub Finishes : Option (List ℕ) → Option (List ℕ) → Result Verdict CheckFault → Type 0

@@ -5,3 +5,4 @@ pub mod Histories
 pub mod Checked
 pub mod Judging
 pub mod Printed
+pub mod Explaining

@@ -23,7 +23,9 @@ use Rattle.th_traces.specs.BroadcastWords as broadcast_words
 use Rattle.th_traces.specs.WatchWords as watch_words
 use Rattle.th_traces.specs.Pictures as pictures
 use Rattle.th_traces.specs.Spelled.{Bytes}
-use Rattle.th_check.specs.Stages.{Stage, CallDue, Ended, Turn, On, Bad, Illegal, Turns, Words}
+use Rattle.th_check.specs.declared.fault.Expected.{Expected}
+use Rattle.th_check.specs.declared.fault.Expected.TheVariants as expected
+use Rattle.th_check.specs.Stages.{Stage, CallDue, Ended, Turn, On, Bad, Illegal, Expects, Turns, Words}
 
 abbrev pub BroadcastStage : Type 0
 BroadcastStage = Stage (broadcast.Endless Bytes) (BCall Bytes)
@@ -49,10 +51,15 @@ abbrev pub words_of_broadcast : Version → Words (BCall Bytes) (BReply Bytes)
 words_of_broadcast version = record {
   call_of = broadcast_words.call_of version;
   reply_of = broadcast_words.reply_of;
+  told = expected.Broadcast;
 }
 
 abbrev pub words_of_watch : Words (WCall Bytes) (WReply Bytes)
-words_of_watch = record { call_of = watch_words.call_of; reply_of = watch_words.reply_of }
+words_of_watch = record {
+  call_of = watch_words.call_of;
+  reply_of = watch_words.reply_of;
+  told = expected.Watch;
+}
 
 -- Where the picture is whole the entries begin, from the state that remembers no more than it shows.
 abbrev pub entries_of : Head → Picture → Turn Point
@@ -84,6 +91,13 @@ Does (InBroadcast version stage) (Good line) turn =
 Does (InWatch stage) (Good line) turn =
     (at : Turn WatchStage) × Turns watch_machine words_of_watch stage line at
     × (turn ≡ lifted InWatch at)
+
+-- the reply to a call is due at a point, and this is the one that is expected
+abbrev pub ExpectsAt : Point → Expected → Type 0
+ExpectsAt (InPicture place) reply = ⊥
+ExpectsAt (InBroadcast version stage) reply =
+    Expects machines.broadcast (words_of_broadcast version) stage reply
+ExpectsAt (InWatch stage) reply = Expects watch_machine words_of_watch stage reply
 
 -- the number of entries of a trace that has ended
 abbrev pub ended_stage : {E C : Type 0} → Stage E C → Option ℕ

@@ -3,6 +3,7 @@
 use Rattle.std.specs.Prelude.{◌≡◌, ℕ, ◌+◌, List, nat_lt, ◌==◌, true, Option, Some, None, if◌then◌else◌}
 use Rattle.th_log.specs.History.{Machine}
 use Rattle.th_traces.specs.Entries.{end_of}
+use Rattle.th_check.specs.declared.fault.Expected.{Expected}
 
 -- the most entries of a trace
 abbrev pub most_entries : ℕ
@@ -21,10 +22,12 @@ pub data Turn (P : Type 0) : Type 0 where
   Bad : Turn P
   Illegal : Turn P
 
--- what the lines of one kind's entries say: a call, and a reply to a call
+-- what the lines of one kind's entries say: a call, and a reply to a call; and how the check tells the
+-- reply that it expects
 pub record Words (C R : Type 0) : Type 0 where
   pub call_of : List ℕ → Option C
   pub reply_of : C → List ℕ → Option R
+  pub told : Option R → Expected
 
 module _ {E S C R : Type 0} (m : Machine E S C R) (words : Words C R) where
   -- where a call is due, or the end line: the call of a further entry, or the number of the entries
@@ -47,6 +50,16 @@ module _ {E S C R : Type 0} (m : Machine E S C R) (words : Words C R) where
   abbrev pub SaysAnother : E → C → List ℕ → Type 0
   SaysAnother state call line = (reply : R) × (words.reply_of call line ≡ Some reply)
       × (m.ready (m.see state) call ≡ true → reply ≡ (m.step state call).0 → ⊥)
+
+  -- the machine's reply to a call, none where the call would wait
+  abbrev pub reply_at : E → C → Option R
+  reply_at state call =
+      if m.ready (m.see state) call then Some (m.step state call).0 else None
+
+  -- the reply to a call is due, and this is the one that is expected
+  abbrev pub Expects : Stage E C → Expected → Type 0
+  Expects (ReplyDue state count call) expected = expected ≡ words.told (reply_at state call)
+  Expects stage expected = ⊥
 
   -- the stage after an entry
   abbrev pub answered : E → ℕ → C → Stage E C

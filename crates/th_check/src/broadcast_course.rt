@@ -8,7 +8,7 @@ ghost use Rattle.th_check.specs.Points.{BroadcastStage, words_of_broadcast};
 ghost use Rattle.th_check.specs.Stages.{CallDue, ReplyDue};
 
 use crate::course::{Course, MOST_ENTRIES, take_end};
-use crate::fault::Stop;
+use crate::fault::{Expected, Stop};
 use std::alloc::Global;
 use th_bcast::Broadcast;
 use th_lines::LineFault;
@@ -85,7 +85,7 @@ fn take_reply(
         Err(LineFault::Short) => return Err(Stop::Short),
     };
     if !Object::ready(&channel, &call) {
-        return Err(Stop::Illegal);
+        return Err(Stop::Illegal(Expected::Broadcast(None)));
     }
     let mut channel = channel;
     let Ok(reply) = Object::apply(&mut channel, call) else {
@@ -93,7 +93,7 @@ fn take_reply(
     };
     RingBroadcast::are_exact();
     if !RingBroadcast::same_reply(&reply, &said) {
-        return Err(Stop::Illegal);
+        return Err(Stop::Illegal(Expected::Broadcast(Some(reply))));
     }
     Ok(Course::CallDue(channel, count))
 }

@@ -7,10 +7,10 @@ ghost use Rattle.th_lines.specs.Lines.{line_of};
 ghost use Rattle.th_traces.specs.declared.place.Place.TheVariants.{Nothing};
 ghost use Rattle.th_check.specs.declared.point.Spot.TheVariants as spot;
 ghost use Rattle.th_check.specs.Checked.{failures_of};
-ghost use Rattle.th_check.specs.Judging.{EndSays, Finishes, Holds, JudgesAll, JudgesLast, JudgesLine, ReadsOn, Underway, stopped};
+ghost use Rattle.th_check.specs.Judging.{EndSays, Finishes, Holds, IsKept, JudgesAll, JudgesLast, JudgesLine, ReadsOn, Underway, stopped};
 ghost use Rattle.th_check.specs.Points.{Point};
 
-use crate::fault::{CheckFault, Stop};
+use crate::fault::{CheckFault, Expected, Stop};
 use crate::point::{Spot, ended_with, take_line};
 use crate::verdict::Verdict;
 use std::alloc::{AllocError, Global};
@@ -28,6 +28,10 @@ pub struct Checker {
     pub(crate) intake: Intake,
     // How many lines were judged: one more with each.
     pub(crate) judged: u64,
+    // The channel's own reply, where a line with another one has stopped the check.
+    pub(crate) expected: Option<Expected>,
+    // Whether the line that has stopped the check ends with an LF.
+    pub(crate) by_lf: bool,
 }
 
 impl Checker {
@@ -41,6 +45,8 @@ impl Checker {
             spot: Spot::InPicture(Draft::new()),
             intake,
             judged: 0,
+            expected: None,
+            by_lf: true,
         })
     }
 
@@ -111,8 +117,30 @@ impl Checker {
         }
     }
 
+    // The answer where this has stopped the check at the line that was judged last.
+    fn stop(&mut self, why: Stop) -> Result<Verdict, CheckFault>
+        ensures answer { result ≡ stopped why self.old.judged }
+        ensures judged { self.new.judged ≡ self.old.judged }
+        ensures kept { IsKept why self.new.expected }
+    {
+        let number = self.judged;
+        match why {
+            Stop::Bad => Ok(Verdict::BadTrace(number)),
+            Stop::Illegal(expected) => {
+                self.expected = Some(expected);
+                Ok(Verdict::Illegal(number))
+            }
+            Stop::Short => Err(CheckFault::Short),
+        }
+    }
+
+    // The line that was judged last; `None` where it is too long.
+    pub fn line(&self) -> Option<&[u8]> {
+        self.intake.line(self.by_lf)
+    }
+
     // The verdict at the end of the input, once all lines lead on.
-    fn at_end(&self) -> Verdict
+    fn verdict(&self) -> Verdict
         requires { self.now.judged ≤ 2 ^ 63 }
         ensures { (here : Point) → Holds here self.now.spot → EndSays here self.now.judged result }
     {
@@ -132,8 +160,11 @@ impl Checker {
         ensures short { IfErr result (λ e. e ≡ CheckFault.Short) }
     {
         match self.judge_last(alloc) {
-            Ok(()) => Ok(self.at_end()),
-            Err(why) => stopped(why, self.judged),
+            Ok(()) => Ok(self.verdict()),
+            Err(why) => {
+                self.by_lf = false;
+                self.stop(why)
+            }
         }
     }
 
@@ -163,21 +194,10 @@ impl Checker {
         }
         match self.judge_all(alloc) {
             Ok(()) => Ok(None),
-            Err(why) => match stopped(why, self.judged) {
+            Err(why) => match self.stop(why) {
                 Ok(verdict) => Ok(Some(verdict)),
                 Err(fault) => Err(fault),
             },
         }
-    }
-}
-
-// The answer of a check that was stopped at the line of this number.
-fn stopped(why: Stop, number: u64) -> Result<Verdict, CheckFault>
-    ensures { result ≡ stopped why number }
-{
-    match why {
-        Stop::Bad => Ok(Verdict::BadTrace(number)),
-        Stop::Illegal => Ok(Verdict::Illegal(number)),
-        Stop::Short => Err(CheckFault::Short),
     }
 }

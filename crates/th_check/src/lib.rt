@@ -10,6 +10,7 @@
 pub mod broadcast_course;
 mod checker;
 pub mod course;
+mod explain;
 pub mod fault;
 pub mod laws;
 pub mod point;
@@ -19,5 +20,5 @@ pub mod verdict;
 pub mod watch_course;
 
 pub use fault::CheckFault;
-pub use run::{check, check_bounded};
+pub use run::{check, check_bounded, check_explained};
 pub use verdict::Verdict;

@@ -7,7 +7,7 @@ ghost use Rattle.th_check.specs.Points.{WatchStage, watch_machine, words_of_watc
 ghost use Rattle.th_check.specs.Stages.{CallDue, ReplyDue};
 
 use crate::course::{Course, MOST_ENTRIES, take_end};
-use crate::fault::Stop;
+use crate::fault::{Expected, Stop};
 use std::alloc::Global;
 use th_lines::LineFault;
 use th_log::{Compared, Object};
@@ -73,7 +73,7 @@ fn take_reply(
         Err(LineFault::Short) => return Err(Stop::Short),
     };
     if !Object::ready(&channel, &call) {
-        return Err(Stop::Illegal);
+        return Err(Stop::Illegal(Expected::Watch(None)));
     }
     let mut channel = channel;
     let Ok(reply) = Object::apply(&mut channel, call) else {
@@ -81,7 +81,7 @@ fn take_reply(
     };
     ValueWatch::are_exact();
     if !ValueWatch::same_reply(&reply, &said) {
-        return Err(Stop::Illegal);
+        return Err(Stop::Illegal(Expected::Watch(Some(reply))));
     }
     Ok(Course::CallDue(channel, count))
 }

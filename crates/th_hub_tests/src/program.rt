@@ -3,7 +3,7 @@ use std::io;
 use std::io::{ErrorKind, Read, Write};
 use std::test::Fail;
 use th_lines::Counted;
-use th_program::{End, greet, run, run_not_text, status};
+use th_program::{End, explanation, greet, run, run_for, run_not_text, status};
 
 // A reader, and a writer, that always fails.
 #[derive(Drop)]
@@ -64,6 +64,23 @@ fn check_tells_its_verdict(rt: HostRuntime) -> Result<(), Fail> {
         assert_eq!(rt; output.device().as_slice(), line);
         assert_eq!(rt; errors.device().len(), 0);
     }
+    Ok(())
+}
+
+#[test]
+fn a_check_says_to_people_what_is_wrong(rt: HostRuntime) -> Result<(), Fail> {
+    let alloc = rt.alloc();
+    let mut input = Counted::new(CHEAT);
+    let mut output = Counted::new(Vec::new(alloc));
+    let mut errors = Counted::new(Vec::new(alloc));
+    let words = ["topichub", "check"];
+    let end = run_for(alloc, &words, &mut input, &mut output, &mut errors, true);
+    assert_eq!(rt; end, End::Illegal);
+    assert_eq!(rt; output.device().as_slice(), b"illegal 6\n".as_slice());
+    assert_eq!(rt;
+        errors.device().as_slice(),
+        b"line 6: R count 1\nexpected: R count 0\n".as_slice()
+    );
     Ok(())
 }
 
@@ -204,4 +221,23 @@ fn a_word_that_is_no_text_is_a_usage_fault(rt: HostRuntime) -> Result<(), Fail> 
         b"error: a word of the command line is not UTF-8\n".as_slice()
     );
     Ok(())
+}
+
+#[test]
+fn each_end_has_its_status_and_line(rt: HostRuntime) {
+    for (end, want, line) in [
+        (End::Done, 0, None),
+        (End::Help, 0, None),
+        (End::Read, 1, Some("topichub: read fault")),
+        (End::Write, 1, Some("topichub: write fault")),
+        (End::TooLong, 1, Some("topichub: too long")),
+        (End::Short, 1, Some("topichub: no memory")),
+        (End::Socket, 1, Some("topichub: socket fault")),
+        (End::Usage, 2, None),
+        (End::Illegal, 3, None),
+        (End::Bad, 3, None),
+    ] {
+        assert_eq!(rt; status(&end), want, "at {end:?}");
+        assert_eq!(rt; explanation(&end), line, "at {end:?}");
+    }
 }

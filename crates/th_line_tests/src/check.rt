@@ -331,6 +331,93 @@ fn lines_that_are_too_long(rt: HostRuntime) -> Result<(), Fail> {
     Ok(())
 }
 
+// What is said to people of a text that begins so and goes on so.
+fn explained(alloc: Global, front: &str, rest: &str) -> Result<Vec<u8>, AllocError> {
+    let mut text = Vec::new(alloc);
+    text.extend_from_slice(front.as_bytes())?;
+    text.extend_from_slice(rest.as_bytes())?;
+    let mut said = Vec::new(alloc);
+    let _ = check_explained(alloc, &mut Counted::new(text.as_slice()), &mut said);
+    Ok(said)
+}
+
+#[test]
+fn explanations(rt: HostRuntime) -> Result<(), Fail> {
+    let watch = "TRACE 1 W\nAT 1 NEXT 3\nKEEP a \x1b[2J\nTX 1\nRX 2 seen\nBEGIN\n";
+    for (front, rest, want) in [
+        (LAGS, "", ""),
+        (LAGS, "x\n", "line 30 is no line that may stand here: x\n"),
+        (
+            LAGS,
+            "\n",
+            "line 30 is no line that may stand here: it is empty\n",
+        ),
+        (
+            LAGS,
+            "END 12\r",
+            "line 30 is no line that may stand here: END 12?\n",
+        ),
+        (
+            MISTOLD,
+            "nonsense\n",
+            "line 22: R lagged 3\nexpected: R lagged 2\n",
+        ),
+        (
+            MIDDLE,
+            "C try-recv 3\r\nR value \x1b[2J\r\n",
+            "line 10: R value ?[2J\nexpected: R lagged 2\n",
+        ),
+        (
+            MIDDLE,
+            "C subscribe-oldest 1\n",
+            "line 9 is no line that may stand here: C subscribe-oldest 1\n",
+        ),
+        (MIDDLE, "C try-recv 3\n", "line 10 is missing\n"),
+        ("", "", "line 1 is missing\n"),
+        (
+            watch,
+            "C borrow 2\nR shown new b",
+            "line 8: R shown new b\nexpected: R shown same a ?[2J\n",
+        ),
+        (
+            watch,
+            "C changed 2\nR not-yet\n",
+            "line 8: R not-yet\nexpected: no reply, since the call would wait\n",
+        ),
+    ] {
+        assert_eq!(rt;
+            explained(rt.alloc(), front, rest)?.as_slice(),
+            want.as_bytes(),
+            "{front}{rest}"
+        );
+    }
+    Ok(())
+}
+
+// A line of so many bytes `a`, as it is shown.
+#[test]
+fn explanations_of_long_lines(rt: HostRuntime) -> Result<(), Fail> {
+    let alloc = rt.alloc();
+    for (bytes, shown, behind) in [
+        (200, 200, "\n"),
+        (201, 200, " ..\n"),
+        (4096, 200, " ..\n"),
+        (4097, 0, "it has more than 4096 bytes\n"),
+    ] {
+        let mut text = Vec::new(alloc);
+        text.resize(bytes, b'a')?;
+        text.push(b'\n')?;
+        let mut said = Vec::new(alloc);
+        let _ = check_explained(alloc, &mut Counted::new(text.as_slice()), &mut said);
+        let mut want = Vec::new(alloc);
+        want.extend_from_slice(b"line 1 is no line that may stand here: ")?;
+        want.resize(want.len().saturating_add(shown), b'a')?;
+        want.extend_from_slice(behind.as_bytes())?;
+        assert_eq!(rt; said, want, "{bytes}");
+    }
+    Ok(())
+}
+
 // A picture with the senders 1 to this one, and what stands below them.
 fn crowd(alloc: Global, head: &str, senders: u64, rest: &str) -> Result<Vec<u8>, AllocError> {
     let mut text = Vec::new(alloc);

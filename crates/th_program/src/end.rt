@@ -54,27 +54,3 @@ pub fn explanation(end: &End) -> Option<&'static str>
         End::Done | End::Help | End::Usage | End::Illegal | End::Bad => None,
     }
 }
-
-#[cfg(test)]
-mod tests {
-    use super::*;
-
-    #[test]
-    fn each_end_has_its_status_and_line(rt: HostRuntime) {
-        for (end, want, line) in [
-            (End::Done, 0, None),
-            (End::Help, 0, None),
-            (End::Read, 1, Some("topichub: read fault")),
-            (End::Write, 1, Some("topichub: write fault")),
-            (End::TooLong, 1, Some("topichub: too long")),
-            (End::Short, 1, Some("topichub: no memory")),
-            (End::Socket, 1, Some("topichub: socket fault")),
-            (End::Usage, 2, None),
-            (End::Illegal, 3, None),
-            (End::Bad, 3, None),
-        ] {
-            assert_eq!(rt; status(&end), want, "at {end:?}");
-            assert_eq!(rt; explanation(&end), line, "at {end:?}");
-        }
-    }
-}

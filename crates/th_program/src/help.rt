@@ -167,6 +167,8 @@ again. It prints one line:
   bad l                 line l is none that may stand there, or it is missing
 
 Lines are counted from 1. The first line that is bad or illegal is named, and
-nothing below it is read. At most 1000000 entries.
+nothing below it is read. At a terminal it also says, on standard error, what is
+wrong there: the line, and the reply that the channel would give. At most
+1000000 entries.
 
 Exit status as in `topichub --help`.";

@@ -18,6 +18,6 @@ mod words;
 
 pub use end::{End, explanation, status};
 pub use modes::{Mode, ModeFault};
-pub use program::{greet, run, run_not_text, run_short};
+pub use program::{greet, run, run_for, run_not_text, run_short};
 pub use streams::run_on_streams;
 pub use words::mode;

@@ -13,7 +13,7 @@ use itoa::Buffer;
 use std::alloc::Global;
 use std::io::{Read, Write};
 use th_lines::{Counted, Moved};
-use th_replay::{CheckFault, ReplayFault, Verdict, check, replay};
+use th_replay::{CheckFault, ReplayFault, Verdict, check_explained, replay};
 
 // How many interrupted writes of a text are made again.
 const RETRIES: u32 = 1000;
@@ -132,18 +132,19 @@ fn write_verdict<W: Write>(output: &mut Counted<W>, verdict: Verdict) -> bool
     write_text(output, b"\n")
 }
 
-// Checks the trace of the reader, and tells the verdict.
+// Checks the trace of the reader, and tells the verdict. What is wrong with the trace is put into the text.
 fn carry_out_check<R: Read, W: Write>(
     alloc: Global,
     input: &mut Counted<R>,
     output: &mut Counted<W>,
+    text: &mut Vec<u8>,
 ) -> End
     ensures { EndsCheck
         (devices R.remaining input.old W.contents output.old)
         (devices R.remaining input.new W.contents output.new)
         result }
 {
-    let verdict = match check(alloc, input) {
+    let verdict = match check_explained(alloc, input, text) {
         Ok(verdict) => verdict,
         Err(CheckFault::Read) => return End::Read,
         Err(CheckFault::TooLong) => return End::TooLong,
@@ -199,6 +200,19 @@ pub fn greet<E: Write>(errors: &mut Counted<E>, at_terminal: bool)
     }
 }
 
+// Says what is wrong with a trace, or what stopped the check of it.
+fn explain_check<E: Write>(errors: &mut Counted<E>, end: &End, text: &[u8], to_people: bool)
+    ensures { to_people ≡ false → IsSaid
+        (errors_of E.contents errors.old)
+        (errors_of E.contents errors.new)
+        (line_of (explanation_of end.now)) }
+{
+    if to_people {
+        say(errors, text);
+    }
+    explain(errors, end);
+}
+
 /// Does what the words ask for, the program's name first. `replay` carries out the schedule of
 /// `input`, and `check` says whether its trace is legal. A text of help, or the version, goes to `output`; what is wrong
 /// with the words goes to `errors`, and so
@@ -219,6 +233,28 @@ pub fn run<R: Read, W: Write, E: Write>(
         (errors_of E.contents errors.new)
         result }
 {
+    run_for(alloc, words, input, output, errors, false)
+}
+
+/// Does what [`run`] does. For people at a terminal it also says as an error, below the verdict of a check, what is wrong
+/// with the trace: the line, and for a reply that the channel would not give, the one that it gives.
+pub fn run_for<R: Read, W: Write, E: Write>(
+    alloc: Global,
+    words: &[&str],
+    input: &mut Counted<R>,
+    output: &mut Counted<W>,
+    errors: &mut Counted<E>,
+    people: bool,
+) -> End
+    ensures ends { Ends (map (λ w. w.now) words.now)
+        (devices R.remaining input.old W.contents output.old)
+        (devices R.remaining input.new W.contents output.new)
+        result }
+    ensures explained { people ≡ false → IsExplained
+        (errors_of E.contents errors.old)
+        (errors_of E.contents errors.new)
+        result }
+{
     match mode(alloc, words) {
         Ok(Mode::Replay) => {
             let end = carry_out(alloc, input, output);
@@ -226,8 +262,9 @@ pub fn run<R: Read, W: Write, E: Write>(
             end
         }
         Ok(Mode::Check) => {
-            let end = carry_out_check(alloc, input, output);
-            explain(errors, &end);
+            let mut text = Vec::new(alloc);
+            let end = carry_out_check(alloc, input, output, &mut text);
+            explain_check(errors, &end, text.as_slice(), people);
             end
         }
         Err(ModeFault::Help(text)) => {

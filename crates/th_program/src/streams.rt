@@ -2,7 +2,7 @@
 ghost use Rattle.std.specs.Prelude.{◌≡◌, IfOk, map, string_bytes};
 
 use crate::end::status;
-use crate::program::{greet, run, run_not_text, run_short};
+use crate::program::{greet, run_for, run_not_text, run_short};
 use std::alloc::{AllocError, Global};
 use std::env;
 use std::io::{ErrorKind, IsTerminal};
@@ -46,7 +46,7 @@ fn is_replay(words: &[&str]) -> bool {
     words.len() == 2 && words[1] == "replay"
 }
 
-/// Does what the words of the command line ask for, as [`run`] does, on the standard streams, and
+/// Does what the words of the command line ask for, as [`run_for`] does, on the standard streams, and
 /// answers the exit status. The streams are used as they are: what goes through them goes in large
 /// pieces already.
 pub fn run_on_streams(rt: &HostRuntime) -> ExitCode {
@@ -63,16 +63,19 @@ pub fn run_on_streams(rt: &HostRuntime) -> ExitCode {
     let at_terminal = stdin.is_terminal();
     let mut input = Counted::new(stdin);
     let mut output = Counted::new(rt.stdout());
-    let mut errors = Counted::new(rt.stderr());
+    let stderr = rt.stderr();
+    let people = stderr.is_terminal();
+    let mut errors = Counted::new(stderr);
     let end = match &words {
         Ok(words) => {
             greet(&mut errors, at_terminal && is_replay(words.as_slice()));
-            run(
+            run_for(
                 alloc,
                 words.as_slice(),
                 &mut input,
                 &mut output,
                 &mut errors,
+                people,
             )
         }
         Err(Unknown::Short) => run_short(&mut errors),

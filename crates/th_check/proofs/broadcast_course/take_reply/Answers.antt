@@ -2,13 +2,19 @@ use Rattle.th_model.specs.BroadcastMachine.{IsProper}
 use Rattle.th_log.specs.Machines.{broadcast}
 use Rattle.th_log.specs.MachineLaws.{broadcast-step, broadcast-answer}
 use Rattle.th_check.specs.Points.{words_of_broadcast}
-use Rattle.th_check.proofs.Turning.{says_another, says_reply}
+use Rattle.th_check.proofs.Turning.{says_another, says_reply, says_too_early}
 use Rattle.th_check.proofs.broadcast_course.take_reply.Goals as goal
+
+pub returns-then-not-ready : goal.returns-then-not-ready
+returns-then-not-ready c = λ state before shown counted.
+    says_too_early broadcast IsProper (words_of_broadcast c.args.version) broadcast-step broadcast-answer state c.args.channel shown before c.args.call c.args.line.now
+    c.in-Ok.said c.in-Ok.ensures (let early = c.if-not-ready.true in let told = c.ready.ensures in cc)
 
 pub returns-then-not-same_reply : goal.returns-then-not-same_reply
 returns-then-not-same_reply c = λ state before shown counted.
     says_another broadcast IsProper (words_of_broadcast c.args.version) broadcast-step broadcast-answer state c.args.channel shown before c.args.call c.args.line.now
     c.apply.new.self c.in-Ok-apply.reply c.in-Ok-apply.ensures.step c.in-Ok.said c.in-Ok.ensures
+    (let late = c.if-not-ready.false in let told = c.ready.ensures in cc)
     (λ same. let exact = (c.are_exact.ensures.replies c.in-Ok-apply.reply c.in-Ok.said).1 same in let other = c.if-not-same_reply.true in let told = c.same_reply.ensures in cc)
 
 pub returns : goal.returns

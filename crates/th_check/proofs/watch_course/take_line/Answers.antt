@@ -1,7 +1,8 @@
+use Rattle.th_check.specs.Points.{words_of_watch}
 use Rattle.th_check.proofs.Turning.{at_held_reply}
 use Rattle.th_check.proofs.watch_course.take_line.Goals as goal
 
 pub returns-in-ReplyDue : goal.returns-in-ReplyDue
 returns-in-ReplyDue c = λ stage held.
-    at_held_reply _ _ _ _ c.in-ReplyDue.channel c.in-ReplyDue.count c.in-ReplyDue.call c.in-ReplyDue.is c.args.line.now c.take_reply.result
+    at_held_reply _ _ words_of_watch _ c.in-ReplyDue.channel c.in-ReplyDue.count c.in-ReplyDue.call c.in-ReplyDue.is c.args.line.now c.take_reply.result
     c.take_reply.ensures stage held

@@ -40,10 +40,10 @@ returns-in-Ok-judge_all-clause-read g c = λ first under.
     (filled first _ _ c.args.self.now c.fill.new.self c.fill.result under c.requires.all c.fill.ensures.spot c.fill.ensures.judged c.fill.ensures.filled)
     c.in-Ok-judge_all.ensures.all
 
-pub returns-in-Ok-stopped-clause-read : goal.returns-in-Ok-stopped-clause-read
-returns-in-Ok-stopped-clause-read g c = λ first under.
+pub returns-in-Ok-stop-clause-read : goal.returns-in-Ok-stop-clause-read
+returns-in-Ok-stop-clause-read g c = λ first under.
     let all = c.in-Err-judge_all.ensures.all in
-    finished first _ c.judge_all.new.self (stopped c.in-Err-judge_all.why c.judge_all.new.self.judged) (Ok c.in-Ok-stopped.verdict) c.in-Ok-stopped.ensures
+    finished first _ c.judge_all.new.self (stopped c.in-Err-judge_all.why c.judge_all.new.self.judged) (Ok c.in-Ok-stop.verdict) c.in-Ok-stop.ensures.answer
     (halted_within first _ c.fill.new.self c.judge_all.new.self
     (filled first _ _ c.args.self.now c.fill.new.self c.fill.result under c.requires.all c.fill.ensures.spot c.fill.ensures.judged c.fill.ensures.filled)
     all.0 all.1 c.in-Err-judge_all.why all.2 all.3)

@@ -3,7 +3,7 @@ use Rattle.th_lines.specs.Intake.{Came}
 use Rattle.th_check.specs.Checked.{kept_count, within_most}
 use Rattle.th_check.proofs.Reading.{kept_more, reads_fault, reads_none, reads_some}
 use Rattle.th_check.proofs.Running.{begins, good_so_far}
-use Rattle.th_check.proofs.run.check_bounded.Goals as goal
+use Rattle.th_check.proofs.run.judged.Goals as goal
 
 pub loop-made-init : goal.loop-made-init
 loop-made-init g c = record {

@@ -2,7 +2,7 @@ use Rattle.std.proofs.Common.{refl, inl, inr}
 use Rattle.th_replay.specs.Outcome.{Devices, devices}
 use Rattle.th_program.specs.Run.{EndsHelp}
 use Rattle.th_program.proofs.Endings.{ends_help}
-use Rattle.th_program.proofs.program.run.Goals as goal
+use Rattle.th_program.proofs.program.run_for.Goals as goal
 
 pub returns-in-Err-Help-clause-ends : goal.returns-in-Err-Help-clause-ends
 returns-in-Err-Help-clause-ends g c =

@@ -1,7 +1,7 @@
 use Rattle.std.proofs.Common.{◌≡◌, ◌+◌, ◌*◌, ◌≤◌, []}
 use Rattle.th_check.specs.Checked.{kept_count}
 use Rattle.th_check.specs.Judging.{Underway}
-use Rattle.th_check.proofs.run.check_bounded.Given as goal
+use Rattle.th_check.proofs.run.judged.Given as goal
 
 abbrev pub invariant-loop-made : goal.invariant-loop-made
 invariant-loop-made g l = record {
