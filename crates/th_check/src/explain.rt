@@ -106,11 +106,13 @@ fn put_number(words: &[u8], number: u64, raw: &mut Vec<u8>) -> Result<(), AllocE
 
 // Appends a line, or as much of it as is shown.
 fn put_cut(line: &[u8], raw: &mut Vec<u8>) -> Result<(), AllocError> {
-    let Some(shown) = line.get(..MOST_SHOWN) else {
-        return raw.extend_from_slice(line);
-    };
-    raw.extend_from_slice(shown)?;
-    raw.extend_from_slice(b" ..")
+    match line.get(..MOST_SHOWN) {
+        Some(shown) if line.len() > MOST_SHOWN => {
+            raw.extend_from_slice(shown)?;
+            raw.extend_from_slice(b" ..")
+        }
+        _ => raw.extend_from_slice(line),
+    }
 }
 
 // Appends the reply that is expected.
