@@ -1,27 +1,49 @@
 -- What contracts see of a handle, and what its calls do (docs/HISTORIES.md, "In threads").
-use Rattle.std.specs.Prelude.{◌≡◌, ℕ, ◌+◌, ◌≤◌, Bool, true, false, Option, None, Some, Result, IfOk, MatchOption, MatchResult}
+use Rattle.std.specs.Prelude.{◌≡◌, ℕ, ◌≤◌, ◌<◌, Bool, true, false, Option, None, Some, Result, [], ◌∷◌, IfOk, MatchOption, MatchResult}
+use mathlib.Core.List.{IsPrefix}
 use Rattle.th_seats.specs.Tally.{Part}
+use Rattle.th_glance.specs.Lists.{glance_of, last_count, IsCounted}
+use Rattle.th_glance.specs.Seats.{Known as Sighted}
 use Rattle.th_log.specs.Outcome.{Told, counted}
 use Rattle.th_log.specs.declared.receipt.Refused.{Refused}
 use Rattle.th_log.specs.declared.receipt.Refused.TheVariants.{Foreign, Short, LogFull}
 
--- a handle's share, and one more than the place at which it was last answered, or made
+-- a handle's share, and its eye: the channel's word, and the glances at it that the eye has seen
 pub record Known : Type 0 where
   pub share : Part
-  pub seen : ℕ
+  pub eye : Sighted
 
 -- a handle: its number, and what it knows of its channel
 pub record Holder : Type 0 where
   pub number : ℕ
   pub known : Known
 
--- what a handle knows that has made no event yet
-abbrev pub fresh : (key seen : ℕ) → Known
-fresh key seen = record { share = record { key = key; count = 0 }; seen = seen }
+-- how far a handle has seen the history: the count of its eye's last glance
+abbrev pub seen_of : Known → ℕ
+seen_of k = last_count k.eye.list
 
--- the first handle of a channel
-abbrev pub first_holder : ℕ → Holder
-first_holder key = record { number = 1; known = fresh key 0 }
+-- a share that counts no event yet
+abbrev pub unused : (key : ℕ) → Part
+unused key = record { key = key; count = 0 }
+
+-- the first handle of a channel: it has made no event, and its eye has seen the opening alone
+pub record IsFirst (key : ℕ) (h : Holder) : Type 0 where
+  pub number : h.number ≡ 1
+  pub share : h.known.share ≡ unused key
+  pub list : h.known.eye.list ≡ glance_of 0 false ∷ []
+
+-- an eye has looked, or done nothing: it is on the same word, and has lost no glance
+pub record Looked (old new : Sighted) : Type 0 where
+  pub table : new.table ≡ old.table
+  pub later : IsPrefix old.list new.list
+  pub counted : IsCounted new.list
+  pub rises : last_count old.list ≤ last_count new.list
+
+-- a handle's eye has looked, and nothing else of the handle has changed
+pub record Glances (old new : Holder) : Type 0 where
+  pub number : new.number ≡ old.number
+  pub share : new.known.share ≡ old.known.share
+  pub eye : Looked old.known.eye new.known.eye
 
 -- the call that was refused
 abbrev pub call_of : {C : Type 0} → Refused C → C
@@ -39,12 +61,13 @@ module _ {C R : Type 0} where
   pub record Tells (old : Known) (call : C) (r : Told C R) : Type 0 where
     pub call_is : r.call ≡ call
     pub key_is : r.key ≡ old.share.key
-    pub later : old.seen ≤ r.place
+    pub later : seen_of old ≤ r.place
 
   -- beside that, its place is seen now, and the share has exactly one event more
   pub record Answered (old new : Known) (call : C) (r : Told C R) : Type 0 where
     pub tells : Tells old call r
-    pub seen : new.seen ≡ r.place + 1
+    pub seen : r.place < seen_of new
+    pub eye : Looked old.eye new.eye
     pub share : new.share ≡ counted old.share
 
   -- one call of a handle: it was answered, or came back
@@ -68,19 +91,24 @@ module _ {C R : Type 0} where
   IsNext ends old new call (Some told) =
       Calls old new call told × IfOk told (λ r. ends r.reply ≡ false)
 
-  -- a handle with the number that a reply tells of, no event, and the place of its making seen
-  pub record IsMade (number : Option ℕ) (r : Told C R) (h : Holder) : Type 0 where
+  -- a handle with the number that a reply tells of, and no event; its eye goes on from its maker's,
+  -- and has seen the place of its making
+  pub record IsMade (number : Option ℕ) (maker : Sighted) (r : Told C R) (h : Holder)
+      : Type 0 where
     pub number_is : number ≡ Some h.number
-    pub known : h.known ≡ fresh r.key (r.place + 1)
+    pub share : h.known.share ≡ unused r.key
+    pub eye : Looked maker h.known.eye
+    pub seen : r.place < seen_of h.known
 
   -- the handle beside a receipt: there is one exactly where the reply tells of one
-  abbrev pub Beside : (R → Option ℕ) → Told C R → Option Holder → Type 0
-  Beside made_by r h = MatchOption h (made_by r.reply ≡ None) (IsMade (made_by r.reply) r)
+  abbrev pub Beside : (R → Option ℕ) → (maker : Sighted) → Told C R → Option Holder → Type 0
+  Beside made_by maker r h =
+      MatchOption h (made_by r.reply ≡ None) (IsMade (made_by r.reply) maker r)
 
   -- one call of a handle that may make another
   pub record CallsFor (made_by : R → Option ℕ) (old new : Holder) (call : C)
       (result : Result (Told C R × Option Holder) (Refused C)) : Type 0 where
     pub number : new.number ≡ old.number
     pub outcome : MatchResult result
-        (λ r. Answered old.known new.known call r.0 × Beside made_by r.0 r.1)
+        (λ r. Answered old.known new.known call r.0 × Beside made_by old.known.eye r.0 r.1)
         (IsBack old.known new.known call)

@@ -25,6 +25,7 @@ module _ {O S A B D C R : Type 0} where
   -- old one was answered and none was made.
   abbrev pub IsReplaced : (R → Option ℕ) → Holder → Told C R → Replaced O S A B D → Type 0
   IsReplaced made_by old r (New h share) =
-      (share ≡ counted (counted old.known.share)) × Beside made_by r (Some h)
+      (share ≡ counted (counted old.known.share)) × Beside made_by old.known.eye r (Some h)
   IsReplaced made_by old r (Kept h) =
-      (h.number ≡ old.number) × Answered old.known h.known r.call r × Beside made_by r None
+      (h.number ≡ old.number) × Answered old.known h.known r.call r
+      × Beside made_by old.known.eye r None

@@ -2,7 +2,7 @@
 ghost use Rattle.std.specs.Prelude.{◌≡◌, ◌↔◌, IfErr, IfOk, OnOk};
 ghost use Rattle.th_log.specs.History.{IsLimit};
 ghost use Rattle.th_model.specs.Limits.{ClonesAreEqual};
-ghost use Rattle.th_block.specs.Handles.{Calls, CallsFor, IsNext, Tells, call_of, first_holder};
+ghost use Rattle.th_block.specs.Handles.{Calls, CallsFor, IsFirst, IsNext, Tells, call_of};
 ghost use Rattle.th_block.specs.Numbers.{rx, tx};
 ghost use Rattle.th_block.specs.Pairs.{IsReplaced};
 ghost use Rattle.th_block.specs.Replies.{ends, made_by};
@@ -93,7 +93,7 @@ pub fn broadcast_at<T: Clone + Drop>(
     key: u64,
 ) -> Result<BSender<T>, MakeFault>
     requires { ClonesAreEqual T.is_clone }
-    ensures handle { IfOk result (λ h. h ≡ first_holder key) }
+    ensures handle { IfOk result (IsFirst key) }
     ensures limit { OnOk result (IsLimit limit 1) }
     ensures bad { IfErr result (λ fault. fault ≡ MakeFault.BadLimit ↔ ¬ (IsLimit limit 1)) }
 {
@@ -114,7 +114,7 @@ pub fn broadcast<T: Clone + Drop>(
     key: u64,
 ) -> Result<BSender<T>, MakeFault>
     requires { ClonesAreEqual T.is_clone }
-    ensures handle { IfOk result (λ h. h ≡ first_holder key) }
+    ensures handle { IfOk result (IsFirst key) }
     ensures limit { OnOk result (IsLimit limit 1) }
     ensures bad { IfErr result (λ fault. fault ≡ MakeFault.BadLimit ↔ ¬ (IsLimit limit 1)) }
 {
@@ -259,7 +259,9 @@ impl<T: Clone + Drop> Handle<Broadcast<T, RingShelf<T>>, Receives> {
 impl<T: Clone + Drop> Shared<Broadcast<T, RingShelf<T>>> {
     /// A new receiver in the place of an old one, by two events under one lock: the new one receives what is sent from
     /// now on, and the old one is spent, so that its share comes back. Where none is made the old one stays. Its share
-    /// counts each of these events.
+    /// counts each of these events. This is to be an owner of the receiver's own channel: one of a channel with another
+    /// key is told `Foreign`, and on one that was given the same key the call may wait for ever, since the receiver's eye
+    /// is on its own channel's word.
     pub fn pair_resub<R: Wait>(
         &self,
         rt: &R,

@@ -1,17 +1,21 @@
 //! A caller's handle at a shared channel. One body serves senders and receivers of both channels.
-ghost use Rattle.std.specs.Prelude.{◌≡◌, ◌+◌, ◌↔◌, true, IfErr, IfOk, IsTrue, MatchResult, OnOk, Some};
+ghost use Rattle.std.specs.Prelude.{◌≡◌, ◌≤◌, ◌↔◌, true, false, IfErr, IfOk, IsTrue, MatchResult, OnOk, Some};
+ghost use Rattle.th_glance.specs.Lists.{last_of};
 ghost use Rattle.th_log.specs.History.{IsLimit};
 ghost use Rattle.th_log.specs.Outcome.{counted};
-ghost use Rattle.th_block.specs.Handles.{Answered, Beside, Calls, CallsFor, IsBack, IsNext, Tells, first_holder};
-ghost use Rattle.th_block.specs.Locked.{Fits};
+ghost use Rattle.th_block.specs.Handles.{Calls, CallsFor, Glances, IsBack, IsFirst, IsMade, IsNext, Tells, seen_of, unused};
+ghost use Rattle.th_block.specs.Locked.{Entered, Fits, IsSeated};
 
 use crate::account::Account;
 use crate::channel::{Channel, Side};
 use crate::held::Held;
+use crate::posted::Posted;
+use crate::seat::Seat;
 use crate::shared::Shared;
 use std::alloc::Global;
 use std::marker::{Model, PhantomData};
 use std::sync::Wait;
+use th_glance::{Eye, Glance};
 use th_log::{Logged, MakeFault, Object, Receipt, Refused};
 use th_model::Short;
 use th_seats::Share;
@@ -19,8 +23,10 @@ use th_seats::Share;
 /// A handle of a channel `O` on its side `S`: one number, and the share that counts its events.
 ///
 /// Each call takes the lock once, and holds it for its one event: what the channel's own call costs, a copy of the call
-/// for the log and one for the receipt, and a look at whether anyone is to be woken. Only calls that say so wait for more
-/// than the lock. Memory is asked for before the event; where it is refused, the call comes back as `Refused::Short`.
+/// for the log and one for the receipt, the store of the channel's word, and a look at whether anyone is to be woken.
+/// After that the handle's eye looks at the word until it sees the event, which its first look finds. Only calls that say
+/// so wait for more than the lock. Memory is asked for before the event; where it is refused, the call comes back as
+/// `Refused::Short`. `glance` and `learn` take no lock and wait for nothing.
 ///
 /// It is not cloned: a second handle is a call of the channel, and has its own number. One that is let go and not spent
 /// or released keeps its number live and its share out, so that the channel is never closed by it and its shares never
@@ -67,7 +73,7 @@ pub(crate) fn is_limit(limit: u64) -> bool
     0 < limit && limit <= MOST_ENTRIES
 }
 
-// The first handle of a channel, which has no other.
+// The first handle of a channel, which has no other. It is a sender.
 pub(crate) fn open<O: Channel, S: Side<O>>(
     alloc: Global,
     object: O,
@@ -76,48 +82,47 @@ pub(crate) fn open<O: Channel, S: Side<O>>(
 ) -> Result<Handle<O, S>, MakeFault>
     requires lawful { O.lawful }
     requires one { O.machine.live (O.shows object) ≡ 1 }
-    ensures handle { IfOk result (λ h. h ≡ first_holder key) }
+    requires open { O.machine.closed (O.shows object) ≡ false }
+    ensures handle { IfOk result (IsFirst key) }
     ensures limit { OnOk result (IsLimit limit 1) }
     ensures bad { IfErr result (λ fault. fault ≡ MakeFault.BadLimit ↔ ¬ (IsLimit limit 1)) }
 {
-    match Logged::new(alloc, object, limit, key) {
-        Ok((log, share)) => match Shared::new(alloc, log) {
-            Ok(shared) => Ok(Handle::made(shared, 1, Account::new(share, 0))),
-            Err(_) => Err(MakeFault::Short),
-        },
-        Err(fault) => Err(fault),
+    let (log, share) = match Logged::new(alloc, object, limit, key) {
+        Ok(made) => made,
+        Err(fault) => return Err(fault),
+    };
+    let Ok((posted, eye)) = Posted::open(alloc, log) else {
+        return Err(MakeFault::Short);
+    };
+    match Shared::new(alloc, posted) {
+        Ok(shared) => Ok(Handle::made(shared, 1, Account::new(share, eye))),
+        Err(_) => Err(MakeFault::Short),
     }
 }
 
-// The handle that a reply tells of, with a share of its own, on the locked log.
-fn seated<O: Channel, N: Side<O>>(
-    held: &mut Held<O>,
-    shared: Shared<O>,
-    receipt: &Receipt<O>,
-) -> Option<Handle<O, N>>
-    requires key { receipt.now.key ≡ held.old.tally.key }
-    requires place { held.old.tally.total ≡ receipt.now.place + 1 }
-    ensures made { Beside O.made_by receipt.now result }
+// The seat of the handle that a reply tells of, with a share of its own, on the locked log.
+fn seated<O: Channel>(held: &mut Held<O>, receipt: &Receipt<O>) -> Option<Seat>
+    requires { receipt.now.key ≡ held.old.tally.key }
+    ensures seat { IsSeated O.made_by receipt.now result }
     ensures piece { held.new.piece ≡ held.old.piece }
     ensures key { held.new.tally.key ≡ held.old.tally.key }
     ensures total { held.new.tally.total ≡ held.old.tally.total }
 {
     let number = O::made(receipt.reply())?;
-    let account = held.seat();
-    Some(Handle::made(shared, number, account))
+    let share = held.split();
+    Some(Seat { number, share })
 }
 
 // One event of a call that may make a handle, on the locked log.
-pub(crate) fn seated_event<O: Channel, N: Side<O>>(
+pub(crate) fn seated_event<O: Channel>(
     held: &mut Held<O>,
-    theirs: Shared<O>,
     account: &mut Account,
     call: O::Call,
-) -> Result<(Receipt<O>, Option<Handle<O, N>>), Refused<O::Call>>
+) -> Result<(Receipt<O>, Option<Seat>), Refused<O::Call>>
     requires lawful { O.lawful }
     requires ready { O.machine.ready held.old.piece.last call ≡ true }
     ensures told { MatchResult result
-        (λ r. Answered account.old account.new call r.0 × Beside O.made_by r.0 r.1)
+        (λ r. Entered account.old account.new call r.0 × IsSeated O.made_by r.0 r.1)
         (IsBack account.old account.new call) }
     ensures step { IfOk result (λ r.
         O.machine.answer held.old.piece.last call ≡ (r.0.reply, held.new.piece.last)) }
@@ -125,11 +130,28 @@ pub(crate) fn seated_event<O: Channel, N: Side<O>>(
 {
     match held.event(account, call) {
         Ok(receipt) => {
-            let made = seated(held, theirs, &receipt);
-            Ok((receipt, made))
+            let seat = seated(held, &receipt);
+            Ok((receipt, seat))
         }
         Err(refused) => Err(refused),
     }
+}
+
+// The handle that takes a seat, once its eye has seen the event by which it was made.
+pub(crate) fn sit<O: Channel, S: Side<O>, R: Wait>(
+    rt: &R,
+    shared: Shared<O>,
+    eye: Eye,
+    seat: Seat,
+    receipt: &Receipt<O>,
+) -> Handle<O, S>
+    requires number { O.made_by receipt.now.reply ≡ Some seat.number }
+    requires share { seat.share ≡ unused receipt.now.key }
+    ensures { IsMade (O.made_by receipt.now.reply) eye receipt.now result }
+{
+    let mut fresh = Account::new(seat.share, eye);
+    fresh.catch_up(rt, receipt.place());
+    Handle::made(shared, seat.number, fresh)
 }
 
 impl<O: Channel, S: Side<O>> Handle<O, S> {
@@ -140,12 +162,29 @@ impl<O: Channel, S: Side<O>> Handle<O, S> {
         self.number
     }
 
-    /// One more than the place at which the handle was last answered; before its first answer one more than the place
-    /// of its making, and 0 on the first sender.
+    /// How many events the channel had when the handle last looked: more than the place at which it was last answered, or
+    /// made, and 0 on the first sender. It does not look.
     pub fn seen(&self) -> u64
-        ensures { result ≡ self.now.known.seen }
+        ensures { result ≡ seen_of self.now.known }
     {
         self.account.seen()
+    }
+
+    /// One look: how many events the channel had at some moment, and whether it had no senders then. One load, no lock,
+    /// and no waiting. It never goes back, and shows each event of which this handle was told.
+    pub fn glance(&mut self) -> Glance
+        ensures looks { Glances self.old self.new }
+        ensures last { result ≡ last_of self.new.known.eye.list }
+    {
+        self.account.glance()
+    }
+
+    /// One look as in `glance`, and whether the handle has then seen as many events.
+    pub fn learn(&mut self, count: u64) -> bool
+        ensures looks { Glances self.old self.new }
+        ensures learnt { IsTrue result ↔ (count ≤ seen_of self.new.known) }
+    {
+        self.account.learn(count)
     }
 
     // One event. It waits until the call is ready.
@@ -169,7 +208,13 @@ impl<O: Channel, S: Side<O>> Handle<O, S> {
         let wakes = held.wakes_after(&answer);
         drop(held);
         room.wake(wakes);
-        answer
+        match answer {
+            Ok(receipt) => {
+                account.catch_up(rt, receipt.place());
+                Ok(receipt)
+            }
+            Err(refused) => Err(refused),
+        }
     }
 
     /// One event of this very handle that wakes nobody, for whoever makes many calls at once: `Shared::wake` then wakes
@@ -191,7 +236,15 @@ impl<O: Channel, S: Side<O>> Handle<O, S> {
         let room = &*shared.room;
         let locked = room.held.lock(rt);
         let mut held = room.news.wait_while(rt, locked, |held| held.waits(&call));
-        held.event(account, call)
+        let answer = held.event(account, call);
+        drop(held);
+        match answer {
+            Ok(receipt) => {
+                account.catch_up(rt, receipt.place());
+                Ok(receipt)
+            }
+            Err(refused) => Err(refused),
+        }
     }
 
     // One event that may be the last of a loop, by a call that waits.
@@ -223,18 +276,35 @@ impl<O: Channel, S: Side<O>> Handle<O, S> {
         requires { O.lawful }
         ensures { CallsFor O.made_by self.old self.new call result }
     {
-        let Ok(theirs) = self.shared.another() else {
-            return Err(Refused::Short(call));
-        };
         let Handle {
             shared,
             account,
             ..
         } = self;
+        let Ok(theirs) = shared.another() else {
+            return Err(Refused::Short(call));
+        };
+        let Ok(eye) = account.another_eye() else {
+            return Err(Refused::Short(call));
+        };
         let room = &*shared.room;
         let locked = room.held.lock(rt);
         let mut held = room.news.wait_while(rt, locked, |held| held.waits(&call));
-        seated_event(&mut *held, theirs, account, call)
+        let answer = seated_event(&mut *held, account, call);
+        drop(held);
+        match answer {
+            Ok((receipt, seat)) => {
+                account.catch_up(rt, receipt.place());
+                match seat {
+                    Some(seat) => {
+                        let new = sit(rt, theirs, eye, seat, &receipt);
+                        Ok((receipt, Some(new)))
+                    }
+                    None => Ok((receipt, None)),
+                }
+            }
+            Err(refused) => Err(refused),
+        }
     }
 
     // The last event, with its receipt and the share.
@@ -297,7 +367,7 @@ fn last_call<O: Channel, R: Wait>(
     call: O::Call,
 ) -> Result<Receipt<O>, Refused<O::Call>>
     requires { O.lawful }
-    ensures told { MatchResult result (Answered account.old account.new call)
+    ensures told { MatchResult result (Entered account.old account.new call)
         (IsBack account.old account.new call) }
     ensures foreign { IfErr result (λ e. e ≡ Refused.Foreign call) }
 {

@@ -1,23 +1,26 @@
 //! What a channel's lock keeps.
-ghost use Rattle.std.specs.Prelude.{◌≡◌, ◌<◌, ◌≤◌, ◌↔◌, not, true, IfOk, IfErr, IsOk, OnOk, OnErr, MatchResult};
+ghost use Rattle.std.specs.Prelude.{◌≡◌, ◌<◌, ◌↔◌, not, true, IfOk, IfErr, IsOk, OnOk, OnErr, MatchResult};
 ghost use Rattle.th_log.specs.History.{IsLegal, live_after, next_of};
 ghost use Rattle.th_log.specs.Outcome.{IsSame, added, ticked, with_share};
-ghost use Rattle.th_block.specs.Handles.{Answered, IsBack, fresh};
-ghost use Rattle.th_block.specs.Locked.{Fits, RefusesEvent, Spends};
+ghost use Rattle.th_block.specs.Handles.{IsBack, unused};
+ghost use Rattle.th_block.specs.Locked.{Entered, Fits, RefusesEvent, Spends};
 
 use crate::account::Account;
 use crate::channel::Channel;
+use crate::posted::Posted;
 use std::marker::Model;
 use th_log::{Logged, Object, Receipt, Refused, Segment};
 use th_model::Short;
+use th_seats::Share;
 
-/// A channel with its log, and whether anyone waits for it. Contracts see it as the log.
+/// A channel with its log and its pen, and whether anyone waits for it. Contracts see it as the log: what the pen says
+/// of that is kept by `Posted`.
 ///
 /// Nothing else of this crate touches a log: each of its events is made by `event` or `last_event`.
 #[derive(Drop)]
 pub(crate) struct Held<O: Object> {
-    // The channel with its log.
-    log: Logged<O>,
+    // The channel with its log, and the pen of its word.
+    posted: Posted<O>,
     // How many callers looked at the channel in vain since they were last woken. A caller that looks counts himself
     // before he sleeps, and whoever wakes the sleepers begins to count anew: both under the lock, so that no sleeper is
     // left out.
@@ -29,22 +32,22 @@ impl<O: Object> Model for Held<O> {
 
     ghost Value = { Log O.State O.Call O.Reply };
 
-    ghost view = { λ h. h.log };
+    ghost view = { λ h. h.posted.log };
 }
 
 impl<O: Channel> Held<O> {
     /// A log for which nobody waits yet.
-    pub(crate) fn new(log: Logged<O>) -> Held<O>
-        ensures { result ≡ log }
+    pub(crate) fn new(posted: Posted<O>) -> Held<O>
+        ensures { result ≡ posted.log }
     {
-        Held { log, waiting: 0 }
+        Held { posted, waiting: 0 }
     }
 
     /// The log, once nobody waits any more.
     pub(crate) fn into_log(self) -> Logged<O>
         ensures { result ≡ self }
     {
-        self.log
+        self.posted.into_log()
     }
 
     /// Whether the call has to wait. Then it is one more that does.
@@ -52,7 +55,7 @@ impl<O: Channel> Held<O> {
         ensures waits { result ≡ not (O.machine.ready self.new.piece.last call.now) }
         ensures same { self.new ≡ self.old }
     {
-        let waits = !self.log.ready(call);
+        let waits = !self.posted.log().ready(call);
         if waits {
             self.waiting = self.waiting.saturating_add(1);
         }
@@ -75,15 +78,16 @@ impl<O: Channel> Held<O> {
         let Ok(receipt) = answer else {
             return false;
         };
-        if self.log.object().closed() || O::is_news(receipt.call(), receipt.reply()) {
+        let closed = self.posted.log().object().closed();
+        if closed || O::is_news(receipt.call(), receipt.reply()) {
             self.wakes()
         } else {
             false
         }
     }
 
-    /// One event of a handle. `Foreign` where the handle is of another channel, as far as its share and what it has
-    /// seen can tell; else what the log says.
+    /// One event of a handle, and its store; the handle's eye looks later. `Foreign` where the handle is of another
+    /// channel, as far as its share and what it has seen can tell; else what the log says.
     pub(crate) fn event(
         &mut self,
         account: &mut Account,
@@ -91,7 +95,7 @@ impl<O: Channel> Held<O> {
     ) -> Result<Receipt<O>, Refused<O::Call>>
         requires lawful { O.lawful }
         requires ready { O.machine.ready self.old.piece.last call ≡ true }
-        ensures told { MatchResult result (Answered account.old account.new call)
+        ensures told { MatchResult result (Entered account.old account.new call)
             (IsBack account.old account.new call) }
         ensures place { IfOk result (λ r. r.place ≡ self.old.tally.total) }
         ensures step { IfOk result (λ r.
@@ -106,14 +110,11 @@ impl<O: Channel> Held<O> {
             → Spends O.machine self.old.piece.last call → IsOk result }
         ensures same { OnErr result (IsSame self.old self.new) }
     {
-        if self.log.total() < account.seen() {
+        if self.posted.log().total() < account.seen() {
             return Err(Refused::Foreign(call));
         }
-        match self.log.apply(&mut account.share, call) {
-            Ok(receipt) => {
-                account.see(self.log.total());
-                Ok(receipt)
-            }
+        match self.posted.apply(&mut account.share, call) {
+            Ok(receipt) => Ok(receipt),
             Err(refused) => Err(refused),
         }
     }
@@ -127,7 +128,7 @@ impl<O: Channel> Held<O> {
     ) -> Result<Receipt<O>, Refused<O::Call>>
         requires lawful { O.lawful }
         requires ready { O.machine.ready self.old.piece.last call ≡ true }
-        ensures told { MatchResult result (Answered account.old account.new call)
+        ensures told { MatchResult result (Entered account.old account.new call)
             (IsBack account.old account.new call) }
         ensures place { IfOk result (λ r. r.place ≡ self.old.tally.total) }
         ensures step { IfOk result (λ r.
@@ -140,7 +141,7 @@ impl<O: Channel> Held<O> {
         ensures foreign { IfErr result (λ e. e ≡ Refused.Foreign call) }
         ensures same { OnErr result (IsSame self.old self.new) }
     {
-        let object = self.log.object();
+        let object = self.posted.log().object();
         if object.live_after(&call) >= object.live() {
             return Err(Refused::Foreign(call));
         }
@@ -152,21 +153,20 @@ impl<O: Channel> Held<O> {
         }
     }
 
-    /// The account of a new handle, which has seen what is there.
-    pub(crate) fn seat(&mut self) -> Account
-        ensures account { result ≡ fresh self.old.tally.key self.old.tally.total }
+    /// The share of a new handle.
+    pub(crate) fn split(&mut self) -> Share
+        ensures share { result ≡ unused self.old.tally.key }
         ensures piece { self.new.piece ≡ self.old.piece }
         ensures tally { self.new.tally ≡ with_share self.old.tally }
     {
-        let share = self.log.split();
-        Account::new(share, self.log.total())
+        self.posted.split()
     }
 
     /// What is seen of the channel is sound, as of every log.
     pub(crate) fn is_sound(&self)
         ensures { O.is_sound self.now.piece.last }
     {
-        let _live = self.log.object().live();
+        let _live = self.posted.log().object().live();
     }
 
     /// Hands out the entries so far, and begins the next segment. No event is made.
@@ -179,7 +179,7 @@ impl<O: Channel> Held<O> {
         ensures tally { self.new.tally ≡ self.old.tally }
         ensures same { OnErr result (self.new ≡ self.old) }
     {
-        let segment = self.log.cut()?;
+        let segment = self.posted.cut()?;
         // What a segment always is.
         let _entries = segment.len();
         Ok(segment)

@@ -2,9 +2,9 @@
 //! handle is one event, and answers a receipt that can be held against the channel's history afterwards.
 //!
 //! `broadcast` and `watch` make a channel and its first sender; the others are made by calls of the channel. `recv` and
-//! `changed` wait, all other calls wait for the lock alone. A value, or how many were missed, or that the channel is
-//! closed, is the reply in the receipt; `Err` is for a call that was no event: the log is full, memory was refused, or
-//! the handle is another channel's.
+//! `changed` wait, all other calls wait for the lock alone, and `glance` and `learn` for nothing. A value, or how many were
+//! missed, or that the channel is closed, is the reply in the receipt; `Err` is for a call that was no event: the log is
+//! full, memory was refused, or the handle is another channel's.
 //!
 //! Two threads, a window of two values, and a receiver that is slow. The numbers 1 to 3 are sent before the threads
 //! start, so that 1 is let go:
@@ -65,6 +65,15 @@
 //!
 //! One that nobody cuts is full at its limit, and then answers `LogFull` to all but spendings.
 //!
+//! **How far the channel is** any handle tells by one load (th_glance), without the lock and without an event:
+//!
+//! ```text
+//! let glance = bob.glance();                      // Glance { count: 4, closed: false }: the events so far, senders left
+//! bob.learn(5);                                   // false, until there was one event more
+//! ```
+//!
+//! It never goes back, and shows at least what this handle was told of. It may be behind what other handles have done.
+//!
 //! No clause says that a waiting call is ever woken, or in which order the lock is taken. A thread that panics or
 //! vanishes leaves the channel whole, since a call is under the lock or not at all, and its handle live: nothing is
 //! poisoned, and who waits for it waits on.
@@ -75,8 +84,10 @@ pub mod broadcast_handles;
 pub mod channel;
 pub mod handle;
 mod held;
+mod posted;
 mod replace;
 pub mod replaced;
+mod seat;
 pub mod shared;
 pub mod watch_handles;
 

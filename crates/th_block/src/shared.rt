@@ -4,6 +4,7 @@ ghost use Rattle.th_log.specs.History.{IsLegal};
 
 use crate::channel::Channel;
 use crate::held::Held;
+use crate::posted::Posted;
 use std::alloc::{AllocError, Global};
 use std::sync::{Arc, Condvar, Mutex, Wait};
 use th_log::{Logged, Object, Segment};
@@ -35,9 +36,9 @@ pub struct Shared<O: Object> {
 
 impl<O: Channel> Shared<O> {
     // The first owner of a channel.
-    pub(crate) fn new(alloc: Global, log: Logged<O>) -> Result<Shared<O>, AllocError> {
+    pub(crate) fn new(alloc: Global, posted: Posted<O>) -> Result<Shared<O>, AllocError> {
         let room = Room {
-            held: Mutex::new(Held::new(log)),
+            held: Mutex::new(Held::new(posted)),
             news: Condvar::new(),
         };
         Ok(Shared {

@@ -3,7 +3,7 @@ ghost use Rattle.std.specs.Prelude.{◌≡◌, ◌↔◌, IfErr, IfOk, OnOk};
 ghost use Rattle.th_log.specs.History.{IsLimit};
 ghost use Rattle.th_model.specs.Limits.{ClonesAreEqual};
 ghost use Rattle.th_model.specs.WatchMachine.{IsExact};
-ghost use Rattle.th_block.specs.Handles.{Calls, CallsFor, IsNext, first_holder};
+ghost use Rattle.th_block.specs.Handles.{Calls, CallsFor, IsFirst, IsNext};
 ghost use Rattle.th_block.specs.Numbers.{rx, tx};
 ghost use Rattle.th_block.specs.Replies.{ends_watch, made_by_watch};
 
@@ -88,7 +88,7 @@ pub fn watch<T: Clone + PartialEq + Drop>(
 ) -> Result<WSender<T>, MakeFault>
     requires clones { ClonesAreEqual T.is_clone }
     requires exact { IsExact T.eq }
-    ensures handle { IfOk result (λ h. h ≡ first_holder key) }
+    ensures handle { IfOk result (IsFirst key) }
     ensures limit { OnOk result (IsLimit limit 1) }
     ensures bad { IfErr result (λ fault. fault ≡ MakeFault.BadLimit ↔ ¬ (IsLimit limit 1)) }
 {
