@@ -113,10 +113,7 @@ impl<O: Channel> Held<O> {
         if self.posted.log().total() < account.seen() {
             return Err(Refused::Foreign(call));
         }
-        match self.posted.apply(&mut account.share, call) {
-            Ok(receipt) => Ok(receipt),
-            Err(refused) => Err(refused),
-        }
+        self.posted.apply(&mut account.share, call)
     }
 
     /// The last event of a handle. It is refused only as `Foreign`: where the handle is of another channel, or its
