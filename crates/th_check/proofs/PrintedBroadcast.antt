@@ -1,15 +1,17 @@
 -- What is printed of a broadcast channel's history is a legal text.
-use Rattle.std.proofs.Common.{◌≡◌, ℕ, ◌+◌, ◌-◌, ◌<◌, ◌≤◌, ◌^◌, true, List, [], ◌∷◌, ◌++◌, length, map, refl, sym, ap, subst, arith, Option, Some, None}
+use Rattle.std.proofs.Common.{◌≡◌, ℕ, ◌-◌, ◌<◌, ◌≤◌, ◌^◌, Bool, true, false, List, [], ◌∷◌, ◌++◌, length, map, refl, sym, ap, ◌∙◌, subst, arith, Option, Some, None}
 use Rattle.std.specs.Prelude.{codes, slice_get, ◌==◌, nat_lt}
+use Rattle.std.specs.Bool.{Decides}
 use Rattle.std.specs.Fmt.{decimal}
 use Rattle.std.specs.List.{AllByRecursion}
 use Rattle.std.specs.Map.{keys_of}
+use Rattle.std.proofs.lemmas.Bool.{false≢true}
 use Rattle.std.proofs.lemmas.List.{length-map}
 use Rattle.th_model.specs.declared.broadcast.BCall.{BCall}
 use Rattle.th_model.specs.declared.broadcast.BCall.TheVariants.{Send, TryRecv, Recv, Subscribe, SubscribeOldest, Resubscribe, CloneTx, DropTx, DropRx, Queued, Left, Readers}
 use Rattle.th_model.specs.declared.broadcast.BReply.{BReply}
 use Rattle.th_model.specs.declared.broadcast.BReply.TheVariants.{Sent, NoReceivers, Exhausted, Value, Empty, Closed, Lagged, NewRx, NewTx, Count, Done, TooMany, NoHandle}
-use Rattle.th_model.specs.BroadcastMachine.{Endless, at_index, receive, send, step, tail_of, value_reply, window_of}
+use Rattle.th_model.specs.BroadcastMachine.{Endless, at_index, receive, step, tail_of, value_reply, window_of}
 use Rattle.th_model.specs.BroadcastPicture.{IsSound, Picture, whole}
 use Rattle.th_model.specs.Handles.{is_full, is_sender}
 use Rattle.th_model.specs.Places.{ArePlaces, Places, place_of}
@@ -22,12 +24,13 @@ use Rattle.th_traces.specs.declared.head.Version.{Version}
 use Rattle.th_traces.specs.declared.head.Version.TheVariants.{One, Two}
 use Rattle.th_traces.specs.declared.picture.Picture.TheVariants as picture
 use Rattle.th_traces.specs.Broadcast.{call_fields, reply_fields, standing, told}
-use Rattle.th_traces.specs.BroadcastWords.{HasFields, IsReplyTo, value_given}
+use Rattle.th_traces.specs.BroadcastWords.{HasFields, IsReplyTo, reply_of, value_given}
 use Rattle.th_traces.specs.Spelled.{Bytes, call_line, end_line, entry_lines, reply_line}
 use Rattle.th_traces.specs.Tables.{IsNumber}
 use Rattle.th_traces.specs.Traces.{broadcast_fields, broadcast_trace}
 use Rattle.th_traces.specs.Versions.{digit, has_call, version_from, version_of, version_with}
 use Rattle.th_traces.proofs.BroadcastAgain.{broadcast-again}
+use Rattle.th_traces.proofs.BroadcastSpelling.{reply_of-again, reply_of-found}
 use Rattle.th_check.specs.Histories.{HasHistory, IsBroadcastEntry}
 use Rattle.th_check.specs.Printed.{HasBroadcastFields, IsBroadcastPrinted}
 use Rattle.th_check.specs.Stages.{most_entries}
@@ -201,6 +204,16 @@ is_reply call (Count n) h k = k
 is_reply call Done h k = tt
 is_reply call TooMany h k = tt
 is_reply call (NoHandle back) h k = h
+
+-- a line says the machine's own reply exactly where it is its spelling
+pub says_own : (state : Endless Bytes) (call : BCall Bytes) (line : List ℕ) (reply : BReply Bytes) → line ≡ reply_line (reply_fields reply)
+    → HasBroadcastFields reply → reply ≡ (step state call).0 → reply_of call line ≡ Some reply
+says_own state call line reply e fields own =
+    ap (reply_of call) e ∙ reply_of-again call reply (is_reply call reply (subst (HandsBack call) (sym own) (gives state call)) fields)
+
+pub says_else : (call : BCall Bytes) (line : List ℕ) (reply : BReply Bytes) (b : Bool) → Decides b (line ≡ reply_line (reply_fields reply)) → b ≡ false
+    → reply_of call line ≡ Some reply → ⊥
+says_else call line reply b d other e = false≢true (sym other ∙ d.1 (reply_of-found call line reply e).1)
 
 each_entry : (version : Version) (state : Endless Bytes) (entries : List Entry) → IsRun machines.broadcast state entries → AllByRecursion IsBroadcastPrinted entries
     → AllByRecursion (λ e. has_call version e.0 ≡ true) entries → AllByRecursion (IsBroadcastEntry version) entries

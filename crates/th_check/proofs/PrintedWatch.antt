@@ -1,10 +1,12 @@
 -- What is printed of a watch channel's history is a legal text.
-use Rattle.std.proofs.Common.{◌≡◌, ℕ, ◌+◌, ◌-◌, ◌<◌, ◌≤◌, ◌^◌, Bool, true, false, List, [], ◌∷◌, ◌++◌, length, map, refl, sym, ap, subst, arith, Option, Some, None}
+use Rattle.std.proofs.Common.{◌≡◌, ℕ, ◌-◌, ◌<◌, ◌≤◌, ◌^◌, Bool, true, false, List, [], ◌∷◌, ◌++◌, length, map, refl, sym, ap, ◌∙◌, subst, arith, Option, Some, None}
 use Rattle.std.specs.Prelude.{codes, nat_eq, ◌==◌}
+use Rattle.std.specs.Bool.{Decides}
 use Rattle.std.specs.Cmp.Lexicographic.{pointwise}
 use Rattle.std.specs.Fmt.{decimal}
 use Rattle.std.specs.List.{AllByRecursion}
 use Rattle.std.specs.Map.{keys_of}
+use Rattle.std.proofs.lemmas.Bool.{false≢true}
 use Rattle.std.proofs.lemmas.List.{length-map}
 use Rattle.th_model.specs.declared.watch.Edit.TheVariants.{Set, Differ, Quiet}
 use Rattle.th_model.specs.declared.watch.WCall.{WCall}
@@ -23,8 +25,9 @@ use Rattle.th_traces.specs.declared.picture.Picture.TheVariants as picture
 use Rattle.th_traces.specs.Spelled.{Bytes, call_line, end_line, entry_lines, reply_line}
 use Rattle.th_traces.specs.Traces.{watch_fields, watch_trace}
 use Rattle.th_traces.specs.Watch.{call_fields, reply_fields, seen_or_unseen, standing, told}
-use Rattle.th_traces.specs.WatchWords.{IsCall, IsReplyTo, value_given}
+use Rattle.th_traces.specs.WatchWords.{IsCall, IsReplyTo, reply_of, value_given}
 use Rattle.th_traces.proofs.WatchAgain.{watch-again}
+use Rattle.th_traces.proofs.WatchSpelling.{reply_of-again, reply_of-found}
 use Rattle.th_check.specs.Histories.{HasHistory, IsWatchEntry}
 use Rattle.th_check.specs.Points.{watch_machine}
 use Rattle.th_check.specs.Printed.{HasWatchFields, IsWatchPrinted}
@@ -175,6 +178,16 @@ is_reply call (NewTx tx) h k = k
 is_reply call (Count n) h k = k
 is_reply call TooMany h k = tt
 is_reply call (NoHandle back) h k = h
+
+-- a line says the machine's own reply exactly where it is its spelling
+pub says_own : (state : Endless Bytes) (call : WCall Bytes) (line : List ℕ) (reply : WReply Bytes) → line ≡ reply_line (reply_fields reply)
+    → HasWatchFields reply → reply ≡ (step (pointwise nat_eq) state call).0 → reply_of call line ≡ Some reply
+says_own state call line reply e fields own =
+    ap (reply_of call) e ∙ reply_of-again call reply (is_reply call reply (subst (HandsBack call) (sym own) (gives (pointwise nat_eq) state call)) fields)
+
+pub says_else : (call : WCall Bytes) (line : List ℕ) (reply : WReply Bytes) (b : Bool) → Decides b (line ≡ reply_line (reply_fields reply)) → b ≡ false
+    → reply_of call line ≡ Some reply → ⊥
+says_else call line reply b d other e = false≢true (sym other ∙ d.1 (reply_of-found call line reply e).1)
 
 each_entry : (state : Endless Bytes) (entries : List Entry) → IsRun watch_machine state entries → AllByRecursion IsWatchPrinted entries → AllByRecursion IsWatchEntry entries
 each_entry state [] run printed = tt

@@ -1,5 +1,5 @@
 -- How the code goes through a trace: what it holds at a point, and what each of its steps does.
-use Rattle.std.specs.Prelude.{◌≡◌, ℕ, ◌+◌, Bool, true, List, [], ◌∷◌, ◌++◌, length, Option, Some, None, Result, Ok, Err}
+use Rattle.std.specs.Prelude.{◌≡◌, ℕ, ◌+◌, Bool, true, List, [], ◌∷◌, ◌++◌, length, Option, Some, None, is_some, Result, Ok, Err}
 use Rattle.std.specs.Io.KnownBytes.{Consumes}
 use Rattle.th_model.specs.BroadcastMachine as broadcast
 use Rattle.th_model.specs.WatchMachine as watch
@@ -9,9 +9,11 @@ use Rattle.th_log.specs.History.{Machine}
 use Rattle.th_log.specs.Machines as machines
 use Rattle.th_traces.specs.declared.head.Head.{Head}
 use Rattle.th_traces.specs.declared.picture.Picture.{Picture}
+use Rattle.th_traces.specs.declared.place.Place.{Place}
 use Rattle.th_check.specs.declared.checker.Checker.{Checker}
 use Rattle.th_check.specs.declared.course.Course.{Course}
-use Rattle.th_check.specs.declared.course.Course.TheVariants as course
+use Rattle.th_check.specs.declared.course.Due.{Due}
+use Rattle.th_check.specs.declared.course.Due.TheVariants as due
 use Rattle.th_check.specs.declared.fault.Expected.{Expected}
 use Rattle.th_check.specs.declared.fault.Stop.{Stop}
 use Rattle.th_check.specs.declared.fault.Stop.TheVariants as stop
@@ -32,14 +34,17 @@ module _ {E S C R : Type 0} (m : Machine E S C R) (IsProper : E → Type 0) wher
     pub proper : IsProper state
     pub shown : m.see state ≡ picture
 
-  -- The code holds this stage. While a reply is due it counts the entry of that reply already.
-  abbrev pub Shows : Stage E C → Course S C → Type 0
-  Shows (CallDue state count) (course.CallDue picture told) =
-      IsShown state picture × (told ≡ count)
-  Shows (ReplyDue state count call) (course.ReplyDue picture told given) =
+  -- The code holds this stage, by its channel, its count and what is due. While a reply is due it counts
+  -- the entry of that reply already.
+  abbrev pub ShowsBy : Stage E C → S → ℕ → Due C → Type 0
+  ShowsBy (CallDue state count) picture told due.Call = IsShown state picture × (told ≡ count)
+  ShowsBy (ReplyDue state count call) picture told (due.Reply given) =
       IsShown state picture × (told ≡ count + 1) × (given ≡ call)
-  Shows (Ended count) (course.Ended told) = told ≡ count
-  Shows stage held = ⊥
+  ShowsBy (Ended count) picture told due.Nothing = told ≡ count
+  ShowsBy stage picture told next = ⊥
+
+  abbrev pub Shows : Stage E C → Course S C → Type 0
+  Shows stage held = ShowsBy stage held.channel held.count held.due
 
   -- what the code made of a line at a stage
   abbrev pub TurnsTo : Words C R → Stage E C → List ℕ → Result (Course S C) Stop → Type 0
@@ -51,11 +56,23 @@ module _ {E S C R : Type 0} (m : Machine E S C R) (IsProper : E → Type 0) wher
   TurnsTo words stage line (Err stop.Short) = Unit {0}
 
 -- the number of entries was told, or another line is bad
-abbrev pub EndsAt : {O C : Type 0} → ℕ → Option ℕ → Result (Course O C) Stop → Type 0
-EndsAt count told (Ok held) = (told ≡ Some count) × (held ≡ course.Ended count)
+abbrev pub EndsAt : ℕ → Option ℕ → Result (Unit {0}) Stop → Type 0
+EndsAt count told (Ok done) = told ≡ Some count
 EndsAt count told (Err stop.Bad) = told ≡ Some count → ⊥
 EndsAt count told (Err (stop.Illegal expected)) = ⊥
 EndsAt count told (Err stop.Short) = ⊥
+
+-- what a step in place made: what is held after it, or what stopped it
+abbrev pub taken : {H : Type 0} → Result (Unit {0}) Stop → H → Result H Stop
+taken (Ok done) held = Ok held
+taken (Err why) held = Err why
+
+-- Why a line stopped the code where a reply was due, by what the line says and the reply that is
+-- expected: of the line no more is known than whether it says a reply at all.
+abbrev pub IsOther : {R : Type 0} → Option R → Expected → Stop → Type 0
+IsOther said own stop.Bad = said ≡ None
+IsOther said own (stop.Illegal expected) = (is_some said ≡ true) × (expected ≡ own)
+IsOther said own stop.Short = Unit {0}
 
 -- the code holds this point
 abbrev pub Holds : Point → Spot → Type 0
@@ -80,6 +97,12 @@ StopsAt here line stop.Short = Unit {0}
 abbrev pub Takes : Point → Line → Result Spot Stop → Type 0
 Takes here line (Ok held) = (next : Point) × Does here line (On next) × Holds next held
 Takes here line (Err why) = StopsAt here line why
+
+-- what is held after a line of a picture: a further draft, or what begins below it
+abbrev pub drawn : Result (Option Spot) Stop → Place → Result Spot Stop
+drawn (Ok None) draft = Ok (spot.InPicture draft)
+drawn (Ok (Some held)) draft = Ok held
+drawn (Err why) draft = Err why
 
 -- the entries begin below a picture
 abbrev pub Begins : Head → Picture → Result Spot Stop → Type 0

@@ -2,20 +2,23 @@
 ghost use Rattle.std.specs.Prelude.{◌≡◌, ◌+◌, ℕ};
 ghost use Rattle.th_model.specs.BroadcastMachine.{Endless, IsProper};
 ghost use Rattle.th_log.specs.Machines.{broadcast};
+ghost use Rattle.th_traces.specs.BroadcastWords.{reply_of};
 ghost use Rattle.th_traces.specs.Spelled.{Bytes};
-ghost use Rattle.th_check.specs.Judging.{IsShown, Shows, TurnsTo};
+ghost use Rattle.th_check.specs.Judging.{IsOther, IsShown, Shows, TurnsTo, taken};
 ghost use Rattle.th_check.specs.Points.{BroadcastStage, words_of_broadcast};
 ghost use Rattle.th_check.specs.Stages.{CallDue, ReplyDue};
 
-use crate::course::{Course, MOST_ENTRIES, take_end};
+use crate::course::{Course, Due, MOST_ENTRIES, take_end};
 use crate::fault::{Expected, Stop};
+use crate::printed::is_broadcast_reply;
 use std::alloc::Global;
+use std::mem::replace;
 use th_bcast::Broadcast;
 use th_lines::LineFault;
-use th_log::{Compared, Object};
-use th_model::{BCall, Value};
+use th_log::Object;
+use th_model::{BCall, BReply, Value};
 use th_ring::RingShelf;
-use th_traces::{Version, read_broadcast_call, read_broadcast_reply};
+use th_traces::{Version, read_broadcast_call, read_broadcast_reply, spells_broadcast_reply};
 
 /// A broadcast channel of values, over a ring.
 pub type RingBroadcast = Broadcast<Value, RingShelf<Value>>;
@@ -23,22 +26,21 @@ pub type RingBroadcast = Broadcast<Value, RingShelf<Value>>;
 /// How far the entries of a broadcast trace were judged.
 pub type BroadcastCourse = Course<RingBroadcast, BCall<Value>>;
 
-/// Judges one more line, without its line end.
+/// Judges one more line, without its line end. The course goes on in place.
 pub fn take_line(
     alloc: Global,
     version: Version,
-    course: BroadcastCourse,
+    course: &mut BroadcastCourse,
     line: &[u8],
-) -> Result<BroadcastCourse, Stop>
-    ensures { (stage : BroadcastStage) → Shows broadcast IsProper stage course
-        → TurnsTo broadcast IsProper (words_of_broadcast version) stage line.now result }
+) -> Result<(), Stop>
+    ensures { (stage : BroadcastStage) → Shows broadcast IsProper stage course.old
+        → TurnsTo broadcast IsProper (words_of_broadcast version)
+        stage line.now (taken result course.new) }
 {
-    match course {
-        Course::CallDue(channel, count) => take_call(alloc, version, channel, count, line),
-        Course::ReplyDue(channel, count, call) => take_reply(
-            alloc, version, channel, count, call, line,
-        ),
-        Course::Ended(_) => Err(Stop::Bad),
+    match replace(&mut course.due, Due::Nothing) {
+        Due::Call => take_call(alloc, version, course, line),
+        Due::Reply(call) => take_reply(alloc, course, call, line),
+        Due::Nothing => Err(Stop::Bad),
     }
 }
 
@@ -46,54 +48,64 @@ pub fn take_line(
 fn take_call(
     alloc: Global,
     version: Version,
-    channel: RingBroadcast,
-    count: u64,
+    course: &mut BroadcastCourse,
     line: &[u8],
-) -> Result<BroadcastCourse, Stop>
-    ensures { (state : Endless Bytes) → IsShown broadcast IsProper state channel
+) -> Result<(), Stop>
+    requires { course.old.due ≡ Due.Nothing }
+    ensures { (state : Endless Bytes) → IsShown broadcast IsProper state course.old.channel
         → TurnsTo broadcast IsProper (words_of_broadcast version)
-        (CallDue state count) line.now result }
+        (CallDue state course.old.count) line.now (taken result course.new) }
 {
     let call = match read_broadcast_call(alloc, version, line) {
         Ok(call) => call,
-        Err(LineFault::BadLine) => return take_end(count, line),
+        Err(LineFault::BadLine) => return take_end(course.count, line),
         Err(LineFault::Short) => return Err(Stop::Short),
     };
-    if count >= MOST_ENTRIES {
+    if course.count >= MOST_ENTRIES {
         return Err(Stop::Bad);
     }
-    Ok(Course::ReplyDue(channel, count + 1, call))
+    course.count += 1;
+    course.due = Due::Reply(call);
+    Ok(())
 }
 
-// Judges a line where the reply to this call is due, by which there are so many entries.
+// Judges a line where the reply to this call is due, by which there are so many entries. The channel's own
+// reply is compared as it is spelled; only another line is read.
 fn take_reply(
     alloc: Global,
-    version: Version,
-    channel: RingBroadcast,
-    count: u64,
+    course: &mut BroadcastCourse,
     call: BCall<Value>,
     line: &[u8],
-) -> Result<BroadcastCourse, Stop>
-    ensures { (state : Endless Bytes) (before : ℕ)
-        → IsShown broadcast IsProper state channel → count ≡ before + 1
+) -> Result<(), Stop>
+    ensures { (version : Version) (state : Endless Bytes) (before : ℕ)
+        → IsShown broadcast IsProper state course.old.channel → course.old.count ≡ before + 1
         → TurnsTo broadcast IsProper (words_of_broadcast version)
-        (ReplyDue state before call) line.now result }
+        (ReplyDue state before call) line.now (taken result course.new) }
 {
-    let said = match read_broadcast_reply(alloc, &call, line) {
-        Ok(said) => said,
-        Err(LineFault::BadLine) => return Err(Stop::Bad),
-        Err(LineFault::Short) => return Err(Stop::Short),
-    };
-    if !Object::ready(&channel, &call) {
-        return Err(Stop::Illegal(Expected::Broadcast(None)));
+    if !Object::ready(&course.channel, &call) {
+        return Err(another(alloc, &call, line, None));
     }
-    let mut channel = channel;
-    let Ok(reply) = Object::apply(&mut channel, call) else {
+    let Ok(asked) = RingBroadcast::copy_call(&call) else {
         return Err(Stop::Short);
     };
-    RingBroadcast::are_exact();
-    if !RingBroadcast::same_reply(&reply, &said) {
-        return Err(Stop::Illegal(Expected::Broadcast(Some(reply))));
+    let Ok(reply) = Object::apply(&mut course.channel, call) else {
+        return Err(Stop::Short);
+    };
+    if !spells_broadcast_reply(line, &reply) {
+        return Err(another(alloc, &asked, line, Some(reply)));
     }
-    Ok(Course::CallDue(channel, count))
+    is_broadcast_reply(&reply);
+    course.due = Due::Call;
+    Ok(())
+}
+
+// Why a line stops the check that is not the channel's own reply to the call.
+fn another(alloc: Global, call: &BCall<Value>, line: &[u8], own: Option<BReply<Value>>) -> Stop
+    ensures { IsOther (reply_of call.now line.now) (Expected.Broadcast own) result }
+{
+    match read_broadcast_reply(alloc, call, line) {
+        Ok(_) => Stop::Illegal(Expected::Broadcast(own)),
+        Err(LineFault::BadLine) => Stop::Bad,
+        Err(LineFault::Short) => Stop::Short,
+    }
 }

@@ -15,7 +15,6 @@ use crate::point::{Spot, ended_with, take_line};
 use crate::verdict::Verdict;
 use std::alloc::{AllocError, Global};
 use std::io::Read;
-use std::mem::replace;
 use th_lines::{Counted, Intake, Moved};
 use th_traces::Draft;
 
@@ -58,15 +57,8 @@ impl Checker {
         ensures came { self.new.intake ≡ self.old.intake }
     {
         let line = self.intake.line(before_lf);
-        let spot = replace(&mut self.spot, Spot::InPicture(Draft::new()));
         self.judged += 1;
-        match take_line(alloc, spot, line) {
-            Ok(spot) => {
-                self.spot = spot;
-                Ok(())
-            }
-            Err(why) => Err(why),
-        }
+        take_line(alloc, &mut self.spot, line)
     }
 
     // Judges all lines that came whole, up to the first that does not lead on.

@@ -11,17 +11,28 @@ pub(crate) const MOST_ENTRIES: u64 = 1_000_000;
 
 /// How far the entries of a trace were judged, with the channel that goes through them again.
 #[derive(Drop)]
-pub enum Course<O, C> {
-    /// So many entries were judged. A call is due, or the end line.
-    CallDue(O, u64),
-    /// So many entries were begun, the last of them by this call. The reply to it is due.
-    ReplyDue(O, u64, C),
-    /// The trace has ended, with so many entries.
-    Ended(u64),
+pub struct Course<O, C> {
+    // The channel after the entries that were judged.
+    pub(crate) channel: O,
+    // So many entries were begun: each call that was read adds one.
+    pub(crate) count: u64,
+    // What the next line has to be. It is taken out while a line is judged.
+    pub(crate) due: Due<C>,
+}
+
+/// What the next line of a trace has to be, below its picture.
+#[derive(Drop)]
+pub enum Due<C> {
+    /// A call, or the end line.
+    Call,
+    /// The reply to this call.
+    Reply(C),
+    /// None: the trace has ended.
+    Nothing,
 }
 
 /// Judges a line that is no call, where the end line is due.
-pub(crate) fn take_end<O, C>(count: u64, line: &[u8]) -> Result<Course<O, C>, Stop>
+pub(crate) fn take_end(count: u64, line: &[u8]) -> Result<(), Stop>
     ensures { EndsAt count (end_of line.now) result }
 {
     let Some(told) = read_end(line) else {
@@ -30,5 +41,5 @@ pub(crate) fn take_end<O, C>(count: u64, line: &[u8]) -> Result<Course<O, C>, St
     if told != count {
         return Err(Stop::Bad);
     }
-    Ok(Course::Ended(count))
+    Ok(())
 }

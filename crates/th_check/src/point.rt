@@ -2,11 +2,11 @@
 ghost use Rattle.std.specs.Prelude.{◌≡◌};
 ghost use Rattle.th_lines.specs.Intake.{line_given};
 ghost use Rattle.th_lines.specs.Lines.{Good};
-ghost use Rattle.th_check.specs.Judging.{Begins, Holds, Takes};
+ghost use Rattle.th_check.specs.Judging.{Begins, Holds, Takes, drawn, taken};
 ghost use Rattle.th_check.specs.Points.{InPicture, Point, ended_with};
 
 use crate::broadcast_course::{self, BroadcastCourse, RingBroadcast};
-use crate::course::Course;
+use crate::course::{Course, Due};
 use crate::fault::Stop;
 use crate::watch_course::{self, ValueWatch, WatchCourse};
 use std::alloc::Global;
@@ -25,36 +25,41 @@ pub enum Spot {
     InWatch(WatchCourse),
 }
 
-/// Judges one more line, given without its end, or as `None` where it is too long.
-pub fn take_line(alloc: Global, spot: Spot, line: Option<&[u8]>) -> Result<Spot, Stop>
-    ensures { (here : Point) → Holds here spot → Takes here (line_given line.entry) result }
+/// Judges one more line, given without its end, or as `None` where it is too long. The spot goes on in place.
+pub fn take_line(alloc: Global, spot: &mut Spot, line: Option<&[u8]>) -> Result<(), Stop>
+    ensures { (here : Point) → Holds here spot.old
+        → Takes here (line_given line.entry) (taken result spot.new) }
 {
     let Some(line) = line else {
         return Err(Stop::Bad);
     };
-    match spot {
-        Spot::InPicture(draft) => take_of_picture(alloc, draft, line),
-        Spot::InBroadcast(version, held) => {
-            match broadcast_course::take_line(alloc, version, held, line) {
-                Ok(held) => Ok(Spot::InBroadcast(version, held)),
-                Err(why) => Err(why),
-            }
+    let begun = match spot {
+        Spot::InBroadcast(version, course) => {
+            return broadcast_course::take_line(alloc, *version, course, line);
         }
-        Spot::InWatch(held) => match watch_course::take_line(alloc, held, line) {
-            Ok(held) => Ok(Spot::InWatch(held)),
-            Err(why) => Err(why),
-        },
+        Spot::InWatch(course) => return watch_course::take_line(alloc, course, line),
+        Spot::InPicture(draft) => take_of_picture(alloc, draft, line),
+    };
+    match begun {
+        Ok(None) => Ok(()),
+        Ok(Some(begun)) => {
+            *spot = begun;
+            Ok(())
+        }
+        Err(why) => Err(why),
     }
 }
 
-// Judges one more line of a picture.
-fn take_of_picture(alloc: Global, draft: Draft, line: &[u8]) -> Result<Spot, Stop>
-    ensures { Takes (InPicture draft) (Good line.now) result }
+// Judges one more line of a picture. Where it is the last one, answers what begins below it.
+fn take_of_picture(alloc: Global, draft: &mut Draft, line: &[u8]) -> Result<Option<Spot>, Stop>
+    ensures { Takes (InPicture draft.old) (Good line.now) (drawn result draft.new) }
 {
-    let mut draft = draft;
-    match read_picture(alloc, &mut draft, line) {
-        Ok(None) => Ok(Spot::InPicture(draft)),
-        Ok(Some((head, picture))) => begin(alloc, head, picture),
+    match read_picture(alloc, draft, line) {
+        Ok(None) => Ok(None),
+        Ok(Some((head, picture))) => match begin(alloc, head, picture) {
+            Ok(begun) => Ok(Some(begun)),
+            Err(why) => Err(why),
+        },
         Err(LineFault::BadLine) => Err(Stop::Bad),
         Err(LineFault::Short) => Err(Stop::Short),
     }
@@ -70,7 +75,14 @@ fn begin(alloc: Global, head: Head, picture: Picture) -> Result<Spot, Stop>
                 Ok(channel) => {
                     // What is true of every channel's picture is said here.
                     let _live = channel.live();
-                    Ok(Spot::InBroadcast(version, Course::CallDue(channel, 0)))
+                    Ok(Spot::InBroadcast(
+                        version,
+                        Course {
+                            channel,
+                            count: 0,
+                            due: Due::Call,
+                        },
+                    ))
                 }
                 Err(_) => Err(Stop::Short),
             }
@@ -78,7 +90,11 @@ fn begin(alloc: Global, head: Head, picture: Picture) -> Result<Spot, Stop>
         (Head::Watch, Picture::Watch(parts)) => match ValueWatch::resume(alloc, parts) {
             Ok(channel) => {
                 let _live = channel.live();
-                Ok(Spot::InWatch(Course::CallDue(channel, 0)))
+                Ok(Spot::InWatch(Course {
+                    channel,
+                    count: 0,
+                    due: Due::Call,
+                }))
             }
             Err(_) => Err(Stop::Short),
         },
@@ -91,8 +107,14 @@ pub fn ended_with(spot: &Spot) -> Option<u64>
     ensures { (here : Point) → Holds here spot.now → result ≡ ended_with here }
 {
     match spot {
-        Spot::InBroadcast(_, Course::Ended(count)) => Some(*count),
-        Spot::InWatch(Course::Ended(count)) => Some(*count),
-        _ => None,
+        Spot::InPicture(_) => None,
+        Spot::InBroadcast(_, course) => match course.due {
+            Due::Nothing => Some(course.count),
+            _ => None,
+        },
+        Spot::InWatch(course) => match course.due {
+            Due::Nothing => Some(course.count),
+            _ => None,
+        },
     }
 }

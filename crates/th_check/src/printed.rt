@@ -46,7 +46,8 @@ fn is_broadcast_call(call: &BCall<Value>)
     }
 }
 
-fn is_broadcast_reply(reply: &BReply<Value>)
+// So are those of a reply.
+pub fn is_broadcast_reply(reply: &BReply<Value>)
     ensures { HasBroadcastFields reply.now }
 {
     match reply {
@@ -128,7 +129,8 @@ fn is_watch_call(call: &WCall<Value>)
     }
 }
 
-fn is_watch_reply(reply: &WReply<Value>)
+// So are those of a reply.
+pub fn is_watch_reply(reply: &WReply<Value>)
     ensures { HasWatchFields reply.now }
 {
     match reply {

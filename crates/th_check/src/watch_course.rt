@@ -1,18 +1,21 @@
 //! A watch channel that goes through the entries of a trace again.
 ghost use Rattle.std.specs.Prelude.{◌≡◌, ◌+◌, ℕ};
 ghost use Rattle.th_model.specs.WatchMachine.{Endless, IsProper};
+ghost use Rattle.th_traces.specs.WatchWords.{reply_of};
 ghost use Rattle.th_traces.specs.Spelled.{Bytes};
-ghost use Rattle.th_check.specs.Judging.{IsShown, Shows, TurnsTo};
+ghost use Rattle.th_check.specs.Judging.{IsOther, IsShown, Shows, TurnsTo, taken};
 ghost use Rattle.th_check.specs.Points.{WatchStage, watch_machine, words_of_watch};
 ghost use Rattle.th_check.specs.Stages.{CallDue, ReplyDue};
 
-use crate::course::{Course, MOST_ENTRIES, take_end};
+use crate::course::{Course, Due, MOST_ENTRIES, take_end};
 use crate::fault::{Expected, Stop};
+use crate::printed::is_watch_reply;
 use std::alloc::Global;
+use std::mem::replace;
 use th_lines::LineFault;
-use th_log::{Compared, Object};
-use th_model::{Value, WCall};
-use th_traces::{read_watch_call, read_watch_reply};
+use th_log::Object;
+use th_model::{Value, WCall, WReply};
+use th_traces::{read_watch_call, read_watch_reply, spells_watch_reply};
 use th_watch::Watch;
 
 /// A watch channel of values.
@@ -21,67 +24,75 @@ pub type ValueWatch = Watch<Value>;
 /// How far the entries of a watch trace were judged.
 pub type WatchCourse = Course<ValueWatch, WCall<Value>>;
 
-/// Judges one more line, without its line end.
-pub fn take_line(alloc: Global, course: WatchCourse, line: &[u8]) -> Result<WatchCourse, Stop>
-    ensures { (stage : WatchStage) → Shows watch_machine IsProper stage course
-        → TurnsTo watch_machine IsProper words_of_watch stage line.now result }
+/// Judges one more line, without its line end. The course goes on in place.
+pub fn take_line(alloc: Global, course: &mut WatchCourse, line: &[u8]) -> Result<(), Stop>
+    ensures { (stage : WatchStage) → Shows watch_machine IsProper stage course.old
+        → TurnsTo watch_machine IsProper words_of_watch stage line.now (taken result course.new) }
 {
-    match course {
-        Course::CallDue(channel, count) => take_call(alloc, channel, count, line),
-        Course::ReplyDue(channel, count, call) => take_reply(alloc, channel, count, call, line),
-        Course::Ended(_) => Err(Stop::Bad),
+    match replace(&mut course.due, Due::Nothing) {
+        Due::Call => take_call(alloc, course, line),
+        Due::Reply(call) => take_reply(alloc, course, call, line),
+        Due::Nothing => Err(Stop::Bad),
     }
 }
 
 // Judges a line where a call is due, or the end line.
-fn take_call(
-    alloc: Global,
-    channel: ValueWatch,
-    count: u64,
-    line: &[u8],
-) -> Result<WatchCourse, Stop>
-    ensures { (state : Endless Bytes) → IsShown watch_machine IsProper state channel
-        → TurnsTo watch_machine IsProper words_of_watch (CallDue state count) line.now result }
+fn take_call(alloc: Global, course: &mut WatchCourse, line: &[u8]) -> Result<(), Stop>
+    requires { course.old.due ≡ Due.Nothing }
+    ensures { (state : Endless Bytes) → IsShown watch_machine IsProper state course.old.channel
+        → TurnsTo watch_machine IsProper words_of_watch
+        (CallDue state course.old.count) line.now (taken result course.new) }
 {
     let call = match read_watch_call(alloc, line) {
         Ok(call) => call,
-        Err(LineFault::BadLine) => return take_end(count, line),
+        Err(LineFault::BadLine) => return take_end(course.count, line),
         Err(LineFault::Short) => return Err(Stop::Short),
     };
-    if count >= MOST_ENTRIES {
+    if course.count >= MOST_ENTRIES {
         return Err(Stop::Bad);
     }
-    Ok(Course::ReplyDue(channel, count + 1, call))
+    course.count += 1;
+    course.due = Due::Reply(call);
+    Ok(())
 }
 
-// Judges a line where the reply to this call is due, by which there are so many entries.
+// Judges a line where the reply to this call is due, by which there are so many entries. The channel's own
+// reply is compared as it is spelled; only another line is read.
 fn take_reply(
     alloc: Global,
-    channel: ValueWatch,
-    count: u64,
+    course: &mut WatchCourse,
     call: WCall<Value>,
     line: &[u8],
-) -> Result<WatchCourse, Stop>
+) -> Result<(), Stop>
     ensures { (state : Endless Bytes) (before : ℕ)
-        → IsShown watch_machine IsProper state channel → count ≡ before + 1
+        → IsShown watch_machine IsProper state course.old.channel → course.old.count ≡ before + 1
         → TurnsTo watch_machine IsProper words_of_watch
-        (ReplyDue state before call) line.now result }
+        (ReplyDue state before call) line.now (taken result course.new) }
 {
-    let said = match read_watch_reply(alloc, &call, line) {
-        Ok(said) => said,
-        Err(LineFault::BadLine) => return Err(Stop::Bad),
-        Err(LineFault::Short) => return Err(Stop::Short),
-    };
-    if !Object::ready(&channel, &call) {
-        return Err(Stop::Illegal(Expected::Watch(None)));
+    if !Object::ready(&course.channel, &call) {
+        return Err(another(alloc, &call, line, None));
     }
-    let mut channel = channel;
-    let Ok(reply) = Object::apply(&mut channel, call) else {
+    let Ok(asked) = ValueWatch::copy_call(&call) else {
         return Err(Stop::Short);
     };
-    ValueWatch::are_exact();
-    if !ValueWatch::same_reply(&reply, &said) {
-        return Err(Stop::Illegal(Expected::Watch(Some(reply))));
+    let Ok(reply) = Object::apply(&mut course.channel, call) else {
+        return Err(Stop::Short);
+    };
+    if !spells_watch_reply(line, &reply) {
+        return Err(another(alloc, &asked, line, Some(reply)));
     }
-    Ok(Course::CallDue(channel, count))
+    is_watch_reply(&reply);
+    course.due = Due::Call;
+    Ok(())
+}
+
+// Why a line stops the check that is not the channel's own reply to the call.
+fn another(alloc: Global, call: &WCall<Value>, line: &[u8], own: Option<WReply<Value>>) -> Stop
+    ensures { IsOther (reply_of call.now line.now) (Expected.Watch own) result }
+{
+    match read_watch_reply(alloc, call, line) {
+        Ok(_) => Stop::Illegal(Expected::Watch(own)),
+        Err(LineFault::BadLine) => Stop::Bad,
+        Err(LineFault::Short) => Stop::Short,
+    }
 }

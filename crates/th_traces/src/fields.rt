@@ -1,5 +1,5 @@
-//! The last fields of a line.
-ghost use Rattle.std.specs.Prelude.{◌≡◌, IfOk, OnErr, Err};
+//! The words at the front of a line, and its last fields.
+ghost use Rattle.std.specs.Prelude.{◌≡◌, ◌≢◌, ◌++◌, ℕ, List, IfOk, OnErr, Err, MatchOption};
 ghost use Rattle.std.specs.Option.{option_map};
 ghost use Rattle.th_lines.specs.Fields.{number_last, number_then, value_last};
 ghost use Rattle.th_lines.specs.Reads.{Reads, each_value, rest_of};
@@ -9,6 +9,15 @@ use std::alloc::Global;
 use th_lines::LineFault;
 use th_lines::fields::{number, number_and_rest, value};
 use th_model::Value;
+
+// What stands behind these words, if the line begins with them.
+#[inline(always)]
+pub fn behind<'a>(line: &'a [u8], words: &[u8]) -> Option<&'a [u8]>
+    ensures { MatchOption result ((rest : List ℕ) → line.now ≢ words.now ++ rest)
+        (λ rest. line.now ≡ words.now ++ rest.now) }
+{
+    line.strip_prefix(words)
+}
 
 // A number as the last field.
 pub fn last_number(rest: Option<&[u8]>) -> Option<u64>

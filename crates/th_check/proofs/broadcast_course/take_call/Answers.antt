@@ -1,4 +1,4 @@
-use Rattle.std.proofs.Common.{arith}
+use Rattle.std.proofs.Common.{arith, refl}
 use Rattle.th_model.specs.BroadcastMachine.{IsProper}
 use Rattle.th_log.specs.Machines.{broadcast}
 use Rattle.th_check.specs.Points.{words_of_broadcast}
@@ -7,10 +7,10 @@ use Rattle.th_check.proofs.broadcast_course.take_call.Goals as goal
 
 pub returns-in-Err-BadLine : goal.returns-in-Err-BadLine
 returns-in-Err-BadLine c = λ state shown.
-    says_no_call broadcast IsProper (words_of_broadcast c.args.version) state c.args.count c.args.line.now c.take_end.result
+    says_no_call broadcast IsProper (words_of_broadcast c.args.version) state c.args.course.now.count c.args.line.now c.args.course.now refl c.requires c.take_end.result
     (reads_bad _ _ _ c.in-Err-BadLine.field-0-is c.in-Err-BadLine.ensures) c.take_end.ensures
 
 pub returns : goal.returns
 returns c = λ state shown.
-    says_call broadcast IsProper (words_of_broadcast c.args.version) state c.args.count c.args.line.now c.args.channel c.in-Ok.call shown c.in-Ok.ensures
-    (omega (arith, c.if-count-ge-MOST_ENTRIES.false))
+    says_call broadcast IsProper (words_of_broadcast c.args.version) state c.args.course.now.count c.args.line.now c.args.course.now.channel c.in-Ok.call _ shown c.in-Ok.ensures
+    (omega (arith, c.if-course-ge-MOST_ENTRIES.false)) refl refl refl
