@@ -104,37 +104,50 @@ fn skips_what_left_the_window(rt: HostRuntime) -> Result<(), Fail> {
     Ok(())
 }
 
-// What the two show is the same: the numbers, each receiver's place, and the value at each position
-// of the window, at the one before and at the tail.
-fn show_the_same(rt: &impl Abort, ring: &Ring, plain: &Plain) -> Result<(), Fail> {
-    assert_eq!(rt; ring.capacity(), plain.capacity());
-    assert_eq!(rt; ring.tail(), plain.tail());
-    assert_eq!(rt; ring.low(), plain.low());
-    assert_eq!(rt; ring.readers(), plain.readers());
+// Capacity, tail, low, and the number of receivers.
+fn numbers<S: Shelf<u64>>(shelf: &S) -> (u64, u64, u64, u64) {
+    (shelf.capacity(), shelf.tail(), shelf.low(), shelf.readers())
+}
+
+// Each receiver's place, by the receiver before it and by its number from 0.
+fn serve_the_same<A: Shelf<u64>, B: Shelf<u64>>(rt: &impl Abort, one: &A, other: &B) {
     let mut last = None;
     for k in 0..=dice::RECEIVERS {
-        assert_eq!(rt; ring.reader_at(k), plain.reader_at(k));
-        let next = ring.next_reader(last);
-        assert_eq!(rt; next, plain.next_reader(last));
-        assert_eq!(rt; next, ring.reader_at(k));
+        assert_eq!(rt; one.reader_at(k), other.reader_at(k));
+        let next = one.next_reader(last);
+        assert_eq!(rt; next, other.next_reader(last));
+        assert_eq!(rt; next, one.reader_at(k));
         let Some((rx, place)) = next else {
             break;
         };
-        assert_eq!(rt; ring.place(rx), Some(place));
-        assert_eq!(rt; plain.place(rx), Some(place));
+        assert_eq!(rt; one.place(rx), Some(place));
+        assert_eq!(rt; other.place(rx), Some(place));
         last = Some(rx);
     }
-    let first = ring
-        .tail()
-        .saturating_sub(ring.capacity().saturating_add(1));
-    for position in first..=ring.tail() {
-        assert_eq!(rt;
-            ring.value(position),
-            plain.value(position),
-            "at {position}"
-        );
+}
+
+// The value at each position of the window, at the one before and at the tail.
+fn keep_the_same<A: Shelf<u64>, B: Shelf<u64>>(rt: &impl Abort, one: &A, other: &B) {
+    let (capacity, tail, _, _) = numbers(one);
+    let first = tail.saturating_sub(capacity.saturating_add(1));
+    for position in first..=tail {
+        assert_eq!(rt; one.value(position), other.value(position), "at {position}");
     }
-    Ok(())
+}
+
+// What the two show is the same. It is written for any two shelves: at the ring and the plain shelf each call would have
+// their whole contracts.
+fn show_the_same<A: Shelf<u64>, B: Shelf<u64>>(rt: &impl Abort, one: &A, other: &B) {
+    assert_eq!(rt; numbers(one), numbers(other));
+    serve_the_same(rt, one, other);
+    keep_the_same(rt, one, other);
+}
+
+// The next call, on both shelves.
+fn agree(rt: &impl Abort, ring: &mut Ring, plain: &mut Plain, dice: &mut Dice) {
+    let act = dice.act();
+    assert_eq!(rt; outcome(ring, act), outcome(plain, act), "at {act:?}");
+    show_the_same(rt, ring, plain);
 }
 
 // 10,000 calls from a fixed list of numbers, over both shelves.
@@ -147,10 +160,7 @@ fn agrees_with_the_plain_shelf(rt: HostRuntime) -> Result<(), Fail> {
         let mut plain = plain(rt.alloc(), capacity, base)?;
         let mut dice = Dice::new(run as u64);
         for _ in 0..250 {
-            let act = dice.act();
-            let said = outcome(&mut ring, act);
-            assert_eq!(rt; said, outcome(&mut plain, act), "at {act:?}");
-            show_the_same(&rt, &ring, &plain)?;
+            agree(&rt, &mut ring, &mut plain, &mut dice);
         }
     }
     Ok(())

@@ -211,16 +211,28 @@ fn is_late_window(rt: &impl Abort, window: &WindowParts<u64>) {
     assert_eq!(rt; window.places().get(&2), Some(&1_001));
 }
 
+// Whether this is the channel's picture is as wanted.
+fn compares(
+    rt: &impl Abort,
+    alloc: Global,
+    channel: &Channel,
+    picture: &PictureParts<u64>,
+    want: bool,
+) -> Result<(), Fail> {
+    let now = picture_of(alloc, channel)?;
+    assert_eq!(rt; is_same(picture, &now), want);
+    Ok(())
+}
+
 #[test]
 fn a_picture_is_taken(rt: HostRuntime) -> Result<(), Fail> {
     let mut channel = late_channel(rt.alloc())?;
     let picture = picture_of(rt.alloc(), &channel)?;
-    let twin = picture_of(rt.alloc(), &late_channel(rt.alloc())?)?;
-    assert!(rt; is_same(&picture, &twin));
+    let twin = late_channel(rt.alloc())?;
+    compares(&rt, rt.alloc(), &twin, &picture, true)?;
     is_late(&rt, &picture);
     answers(&rt, &mut channel, TryRecv(BEHIND), Lagged(2))?;
-    assert!(rt; !is_same(&picture, &picture_of(rt.alloc(), &channel)?));
-    Ok(())
+    compares(&rt, rt.alloc(), &channel, &picture, false)
 }
 
 // A call whose reply is foreseen, and the handles that are live after it.
