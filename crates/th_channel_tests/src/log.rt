@@ -1,6 +1,7 @@
-//! Runs of logged channels, over the plain shelf. The calls of a log stand in short functions that
-//! promise nothing, where they can for any object: each fact that a test's proof knows makes it
-//! longer, needed or not.
+//! Runs of logged channels, over the plain shelf. The calls of a log stand in short functions that promise nothing, written
+//! for one type of channel: each fact that a test's proof knows makes it longer, and so does each call of what is written
+//! for any object. What is not as wanted ends the test at once: at a `?` the proof would let go of each log and segment
+//! that is owned there, field by field.
 ghost use Rattle.std.specs.Prelude.{◌<◌};
 
 mod audits;
@@ -46,7 +47,7 @@ fn opened(alloc: Global, capacity: u64, limit: u64, key: u64) -> Result<(Log, Sh
     Ok(made(alloc, lone(alloc, capacity)?, limit, key)?)
 }
 
-fn is_ready<O: Object>(log: &Logged<O>, call: &O::Call) -> bool {
+fn is_ready(log: &Log, call: &BCall<u64>) -> bool {
     log.ready(call)
 }
 
@@ -61,11 +62,11 @@ fn event(
     log.apply(share, call)
 }
 
-fn reply_of<O: Object>(receipt: &Receipt<O>) -> &O::Reply {
+fn reply_of(receipt: &Receipt<Channel>) -> &BReply<u64> {
     receipt.reply()
 }
 
-fn place_of<O: Object>(receipt: &Receipt<O>) -> u64 {
+fn place_of(receipt: &Receipt<Channel>) -> u64 {
     receipt.place()
 }
 
@@ -76,10 +77,10 @@ fn told(
     share: &mut Share,
     call: BCall<u64>,
     want: BReply<u64>,
-) -> Result<Receipt<Channel>, Fail> {
-    let receipt = event(rt, log, share, call)?;
+) -> Receipt<Channel> {
+    let receipt = event(rt, log, share, call).expect(rt, "an event");
     assert_eq!(rt; reply_of(&receipt), &want);
-    Ok(receipt)
+    receipt
 }
 
 // The same, at this place of the history.
@@ -89,10 +90,9 @@ fn told_at(
     share: &mut Share,
     row: (BCall<u64>, BReply<u64>),
     place: u64,
-) -> Result<(), Fail> {
-    let receipt = told(rt, log, share, row.0, row.1)?;
+) {
+    let receipt = told(rt, log, share, row.0, row.1);
     agree(rt, "the place", place_of(&receipt), place);
-    Ok(())
 }
 
 // Each call of the rows has the reply beside it.
@@ -101,13 +101,24 @@ fn follow<const N: usize>(
     log: &mut Log,
     share: &mut Share,
     rows: [(BCall<u64>, BReply<u64>); N],
-) -> Result<(), Fail>
+)
     requires { N < 100 }
 {
     for (call, want) in rows {
-        told(rt, log, share, call, want)?;
+        told(rt, log, share, call, want);
     }
-    Ok(())
+}
+
+// The same, with its receipt kept at the end of these.
+fn keep(
+    rt: &impl Abort,
+    log: &mut Log,
+    share: &mut Share,
+    receipts: &mut Vec<Receipt<Channel>>,
+    row: (BCall<u64>, BReply<u64>),
+) {
+    let receipt = told(rt, log, share, row.0, row.1);
+    receipts.push(receipt).expect(rt, "memory for a receipt");
 }
 
 // The call is no event, for this reason.
@@ -130,10 +141,20 @@ fn expect(rt: &impl Abort, what: &str, is: bool) {
     assert!(rt; is, "{what}");
 }
 
+fn listed<T: Drop, const N: usize>(rt: &impl Abort, alloc: Global, items: [T; N]) -> Vec<T> {
+    let Ok(listed) = Vec::from_array(alloc, items) else {
+        panic!(rt; "no memory for a list");
+    };
+    listed
+}
+
 // The place of the first entry, the number of entries, and the number of all events.
-fn has_counts<O: Object>(rt: &impl Abort, log: &Logged<O>, want: (u64, u64, u64)) {
-    let counts = (log.first(), log.len(), log.total());
-    assert_eq!(rt; counts, want);
+fn counts<O: Object>(log: &Logged<O>) -> (u64, u64, u64) {
+    (log.first(), log.len(), log.total())
+}
+
+fn has_counts(rt: &impl Abort, log: &Log, want: (u64, u64, u64)) {
+    assert_eq!(rt; counts(log), want);
 }
 
 fn has_entry(log: &Log, number: u64, call: &BCall<u64>, reply: &BReply<u64>) -> bool {
@@ -145,13 +166,12 @@ fn has_no_entry(log: &Log, number: u64) -> bool {
 }
 
 // Room for so many entries more is got, or refused for this reason.
-fn reserves<O: Object>(
-    rt: &impl Abort,
-    log: &mut Logged<O>,
-    count: u64,
-    want: Option<Refused<()>>,
-) {
+fn reserves(rt: &impl Abort, log: &mut Log, count: u64, want: Option<Refused<()>>) {
     assert_eq!(rt; log.reserve(count).err(), want);
+}
+
+fn start(log: &Log) -> &PictureParts<u64> {
+    log.start()
 }
 
 // The picture at the start has this next number, and this tail.
@@ -185,7 +205,7 @@ fn events_are_entries(rt: HostRuntime) -> Result<(), Fail> {
         (CloneTx(TX), NewTx(TxId(2))),
         (Subscribe(TX), NewRx(RxId(3))),
     ];
-    follow(&rt, &mut log, &mut share, rows)?;
+    follow(&rt, &mut log, &mut share, rows);
     expect(&rt, "nothing to receive", !is_ready(&log, &Recv(RxId(3))));
     has_counts(&rt, &log, (0, 2, 2));
     expect(
@@ -199,17 +219,17 @@ fn events_are_entries(rt: HostRuntime) -> Result<(), Fail> {
         has_entry(&log, 1, &Subscribe(TX), &NewRx(RxId(3))),
     );
     expect(&rt, "no third entry", has_no_entry(&log, 2));
-    starts_at(&rt, log.start(), 2, 0);
+    starts_at(&rt, start(&log), 2, 0);
     Ok(())
 }
 
 #[test]
 fn reserved_room_is_there(rt: HostRuntime) -> Result<(), Fail> {
     let (mut log, mut tx) = opened(rt.alloc(), 2, 4, KEY)?;
-    told(&rt, &mut log, &mut tx, Subscribe(TX), NewRx(RX))?;
+    told(&rt, &mut log, &mut tx, Subscribe(TX), NewRx(RX));
     reserves(&rt, &mut log, 2, Some(Refused::LogFull(())));
     reserves(&rt, &mut log, 1, None);
-    told(&rt, &mut log, &mut tx, Readers(TX), Count(1))?;
+    told(&rt, &mut log, &mut tx, Readers(TX), Count(1));
     reserves(&rt, &mut log, 1, Some(Refused::LogFull(())));
     reserves(&rt, &mut log, 0, None);
     Ok(())
@@ -220,7 +240,7 @@ fn reserved_room_is_there(rt: HostRuntime) -> Result<(), Fail> {
 fn a_cut_makes_room(rt: HostRuntime) -> Result<(), Fail> {
     let (mut log, mut tx) = opened(rt.alloc(), 2, 4, KEY)?;
     let rows = [(Subscribe(TX), NewRx(RX)), (Send(TX, 5), Sent(1))];
-    follow(&rt, &mut log, &mut tx, rows)?;
+    follow(&rt, &mut log, &mut tx, rows);
     refuses(
         &rt,
         &mut log,
@@ -228,9 +248,9 @@ fn a_cut_makes_room(rt: HostRuntime) -> Result<(), Fail> {
         Send(TX, 6),
         Refused::LogFull(Send(TX, 6)),
     );
-    segments::cut(&mut log)?;
-    told_at(&rt, &mut log, &mut tx, (Send(TX, 6), Sent(1)), 2)?;
+    segments::cut(&rt, &mut log);
+    told_at(&rt, &mut log, &mut tx, (Send(TX, 6), Sent(1)), 2);
     has_counts(&rt, &log, (2, 1, 3));
-    told(&rt, &mut log, &mut tx, TryRecv(RX), Value(5))?;
+    told(&rt, &mut log, &mut tx, TryRecv(RX), Value(5));
     Ok(())
 }

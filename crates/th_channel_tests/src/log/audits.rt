@@ -1,6 +1,8 @@
 //! What audits say of diaries.
 use crate::log::shares::{finished, split};
-use crate::log::{Channel, KEY, RX, TX, agree, expect, opened, told};
+use crate::log::{
+    Channel, KEY, Log, RX, TX, agree, expect, keep, listed, opened, place_of, reply_of,
+};
 use std::alloc::Global;
 use std::process::Abort;
 use std::test::Fail;
@@ -8,8 +10,23 @@ use th_log::{AuditFault, Audited, Diary, Receipt, Segment, audit};
 use th_model::BCall::{Send, Subscribe, TryRecv};
 use th_model::BReply::{NewRx, Sent, Value};
 use th_model::{BCall, BReply};
+use th_seats::Share;
 
-// A channel with a subscription, two sends of one value and a receive: its history, and the receipts.
+// A subscription, two sends of one value and a receive.
+fn play(
+    rt: &impl Abort,
+    log: &mut Log,
+    tx: &mut Share,
+    rx: &mut Share,
+    receipts: &mut Vec<Receipt<Channel>>,
+) {
+    keep(rt, log, tx, receipts, (Subscribe(TX), NewRx(RX)));
+    keep(rt, log, tx, receipts, (Send(TX, 5), Sent(1)));
+    keep(rt, log, tx, receipts, (Send(TX, 5), Sent(1)));
+    keep(rt, log, rx, receipts, (TryRecv(RX), Value(5)));
+}
+
+// The history of a channel that had these four, and the receipts.
 fn four(
     rt: &impl Abort,
     alloc: Global,
@@ -17,40 +34,47 @@ fn four(
 ) -> Result<(Segment<Channel>, Vec<Receipt<Channel>>), Fail> {
     let (mut log, mut tx) = opened(alloc, 2, 9, key)?;
     let mut rx = split(&mut log);
-    let receipts = vec![in alloc;
-        told(rt, &mut log, &mut tx, Subscribe(TX), NewRx(RX))?,
-        told(rt, &mut log, &mut tx, Send(TX, 5), Sent(1))?,
-        told(rt, &mut log, &mut tx, Send(TX, 5), Sent(1))?,
-        told(rt, &mut log, &mut rx, TryRecv(RX), Value(5))?,
-    ]?;
-    Ok((finished(log).1, receipts))
+    let mut receipts = Vec::new(alloc);
+    play(rt, &mut log, &mut tx, &mut rx, &mut receipts);
+    let (_, segment) = finished(log);
+    Ok((segment, receipts))
+}
+
+fn is_noted(diary: &mut Diary<Channel>, receipt: Receipt<Channel>) -> bool {
+    diary.note(receipt).is_ok()
+}
+
+// One receipt more, at the end of the diary.
+fn note(rt: &impl Abort, diary: &mut Diary<Channel>, receipt: Receipt<Channel>) {
+    diary.reserve(1).expect(rt, "room for a receipt");
+    assert!(rt; is_noted(diary, receipt), "no room that was reserved");
 }
 
 // A diary of these receipts, in their order.
-fn noted(alloc: Global, receipts: Vec<Receipt<Channel>>) -> Result<Diary<Channel>, Fail> {
+fn noted(rt: &impl Abort, alloc: Global, receipts: Vec<Receipt<Channel>>) -> Diary<Channel> {
     let mut diary = Diary::new(alloc);
     for receipt in receipts {
-        diary.reserve(1)?;
-        let Ok(()) = diary.note(receipt) else {
-            return Err(Fail::new("no room that was reserved"));
-        };
+        note(rt, &mut diary, receipt);
     }
-    Ok(diary)
+    diary
 }
 
 pub(crate) fn one_diary(
+    rt: &impl Abort,
     alloc: Global,
     receipts: Vec<Receipt<Channel>>,
-) -> Result<Vec<Diary<Channel>>, Fail> {
-    Ok(vec![in alloc; noted(alloc, receipts)?]?)
+) -> Vec<Diary<Channel>> {
+    listed(rt, alloc, [noted(rt, alloc, receipts)])
 }
 
 fn two_diaries(
+    rt: &impl Abort,
     alloc: Global,
     one: Vec<Receipt<Channel>>,
     other: Vec<Receipt<Channel>>,
-) -> Result<Vec<Diary<Channel>>, Fail> {
-    Ok(vec![in alloc; noted(alloc, one)?, noted(alloc, other)?]?)
+) -> Vec<Diary<Channel>> {
+    let diaries = [noted(rt, alloc, one), noted(rt, alloc, other)];
+    listed(rt, alloc, diaries)
 }
 
 // The audit of these diaries ends so.
@@ -64,8 +88,20 @@ pub(crate) fn audits(
     assert_eq!(rt; audit(alloc, segment, diaries), want);
 }
 
+fn call_of(receipt: &Receipt<Channel>) -> &BCall<u64> {
+    receipt.call()
+}
+
 fn is_told(receipt: &Receipt<Channel>, call: &BCall<u64>, reply: &BReply<u64>) -> bool {
-    receipt.call() == call && receipt.reply() == reply
+    call_of(receipt) == call && reply_of(receipt) == reply
+}
+
+fn key_of(receipt: &Receipt<Channel>) -> u64 {
+    receipt.key()
+}
+
+fn receipts_of(diary: &Diary<Channel>) -> &[Receipt<Channel>] {
+    diary.receipts()
 }
 
 // The last receipt has this place, key, call and reply.
@@ -79,7 +115,7 @@ fn ends_with(
     let Some(last) = receipts.last() else {
         return Err(Fail::new("no receipt"));
     };
-    assert_eq!(rt; (last.place(), last.key()), at);
+    assert_eq!(rt; (place_of(last), key_of(last)), at);
     expect(rt, "call and reply", is_told(last, &call, &reply));
     Ok(())
 }
@@ -87,15 +123,16 @@ fn ends_with(
 #[test]
 fn a_receipt_tells_its_event(rt: HostRuntime) -> Result<(), Fail> {
     let (_, receipts) = four(&rt, rt.alloc(), KEY)?;
-    let diary = noted(rt.alloc(), receipts)?;
-    agree(&rt, "receipts", diary.receipts().len() as u64, 4);
-    ends_with(&rt, diary.receipts(), (3, KEY), TryRecv(RX), Value(5))
+    let diary = noted(&rt, rt.alloc(), receipts);
+    let receipts = receipts_of(&diary);
+    agree(&rt, "receipts", receipts.len() as u64, 4);
+    ends_with(&rt, receipts, (3, KEY), TryRecv(RX), Value(5))
 }
 
 #[test]
 fn honest_diaries_are_said_yes_to(rt: HostRuntime) -> Result<(), Fail> {
     let (segment, receipts) = four(&rt, rt.alloc(), KEY)?;
-    let diaries = one_diary(rt.alloc(), receipts)?;
+    let diaries = one_diary(&rt, rt.alloc(), receipts);
     audits(&rt, rt.alloc(), &segment, &diaries, Ok(Audited));
     Ok(())
 }
@@ -105,7 +142,7 @@ fn honest_diaries_are_said_yes_to(rt: HostRuntime) -> Result<(), Fail> {
 fn receipts_of_another_channel_are_strange(rt: HostRuntime) -> Result<(), Fail> {
     let (segment, receipts) = four(&rt, rt.alloc(), KEY)?;
     let (_, others) = four(&rt, rt.alloc(), KEY + 1)?;
-    let diaries = two_diaries(rt.alloc(), receipts, others)?;
+    let diaries = two_diaries(&rt, rt.alloc(), receipts, others);
     let found = Err(AuditFault::Stranger { place: 0 });
     audits(&rt, rt.alloc(), &segment, &diaries, found);
     Ok(())
@@ -125,7 +162,7 @@ fn places_rise_in_a_diary(rt: HostRuntime) -> Result<(), Fail> {
     let (segment, receipts) = four(&rt, rt.alloc(), KEY)?;
     // places 2, 1 and no more
     let receipts = turned(receipts);
-    let diaries = one_diary(rt.alloc(), receipts)?;
+    let diaries = one_diary(&rt, rt.alloc(), receipts);
     let found = Err(AuditFault::Stranger { place: 1 });
     audits(&rt, rt.alloc(), &segment, &diaries, found);
     Ok(())

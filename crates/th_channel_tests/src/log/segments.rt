@@ -1,6 +1,6 @@
 //! Segments that are cut and joined.
 use crate::log::shares::finished;
-use crate::log::{Channel, KEY, Log, RX, TX, agree, expect, follow, opened, told, told_at};
+use crate::log::{Channel, KEY, Log, RX, TX, agree, expect, follow, opened, start, told, told_at};
 use std::alloc::Global;
 use std::process::Abort;
 use std::test::Fail;
@@ -11,8 +11,8 @@ use th_model::BReply::{Lagged, NewRx, NewTx, Sent};
 use th_model::{BCall, BReply, RxId, TxId};
 use th_seats::Share;
 
-pub(crate) fn cut(log: &mut Log) -> Result<Segment<Channel>, Fail> {
-    Ok(log.cut()?)
+pub(crate) fn cut(rt: &impl Abort, log: &mut Log) -> Segment<Channel> {
+    log.cut().expect(rt, "memory for a segment")
 }
 
 fn join(
@@ -33,16 +33,25 @@ fn is_apart(a: Segment<Channel>, b: Segment<Channel>) -> bool {
     tells_apart(&fault)
 }
 
-pub(crate) fn joined(a: Segment<Channel>, b: Segment<Channel>) -> Result<Segment<Channel>, Fail> {
+pub(crate) fn joined(
+    rt: &impl Abort,
+    a: Segment<Channel>,
+    b: Segment<Channel>,
+) -> Segment<Channel> {
     let Ok(segment) = join(a, b) else {
-        return Err(Fail::new("not joined"));
+        panic!(rt; "not joined");
     };
-    Ok(segment)
+    segment
+}
+
+// The place of the first entry, and the number of entries.
+pub(crate) fn span<O: Object>(segment: &Segment<O>) -> (u64, u64) {
+    (segment.first(), segment.len())
 }
 
 // The segment begins at this place, and has so many entries.
-pub(crate) fn spans<O: Object>(rt: &impl Abort, segment: &Segment<O>, first: u64, len: u64) {
-    assert_eq!(rt; (segment.first(), segment.len()), (first, len));
+pub(crate) fn spans(rt: &impl Abort, segment: &Segment<Channel>, first: u64, len: u64) {
+    assert_eq!(rt; span(segment), (first, len));
 }
 
 fn has_entry(
@@ -65,9 +74,9 @@ fn cut_after(
     share: &mut Share,
     call: BCall<u64>,
     want: BReply<u64>,
-) -> Result<Segment<Channel>, Fail> {
-    told(rt, log, share, call, want)?;
-    cut(log)
+) -> Segment<Channel> {
+    told(rt, log, share, call, want);
+    cut(rt, log)
 }
 
 // Two cuts: with one entry, and with none.
@@ -75,9 +84,9 @@ fn cut_twice(
     rt: &impl Abort,
     log: &mut Log,
     tx: &mut Share,
-) -> Result<(Segment<Channel>, Segment<Channel>), Fail> {
-    let a = cut_after(rt, log, tx, Subscribe(TX), NewRx(RX))?;
-    Ok((a, cut(log)?))
+) -> (Segment<Channel>, Segment<Channel>) {
+    let a = cut_after(rt, log, tx, Subscribe(TX), NewRx(RX));
+    (a, cut(rt, log))
 }
 
 // Three cuts: with one entry, none, and one; and the rest of the channel.
@@ -86,8 +95,8 @@ fn cuts(
     alloc: Global,
 ) -> Result<(Segment<Channel>, Segment<Channel>, Segment<Channel>, Log), Fail> {
     let (mut log, mut tx) = opened(alloc, 2, 4, KEY)?;
-    let (a, b) = cut_twice(rt, &mut log, &mut tx)?;
-    let d = cut_after(rt, &mut log, &mut tx, Send(TX, 5), Sent(1))?;
+    let (a, b) = cut_twice(rt, &mut log, &mut tx);
+    let d = cut_after(rt, &mut log, &mut tx, Send(TX, 5), Sent(1));
     Ok((a, b, d, log))
 }
 
@@ -117,9 +126,9 @@ fn segments_that_meet_join(rt: HostRuntime) -> Result<(), Fail> {
     let (book, last) = finished(log);
     agree(&rt, "all events", book.total(), 2);
     spans(&rt, &last, 2, 0);
-    let two = joined(a, b)?;
+    let two = joined(&rt, a, b);
     spans(&rt, &two, 0, 1);
-    let all = joined(joined(two, d)?, last)?;
+    let all = joined(&rt, joined(&rt, two, d), last);
     is_whole(&rt, &all);
     Ok(())
 }
@@ -128,7 +137,7 @@ fn segments_that_meet_join(rt: HostRuntime) -> Result<(), Fail> {
 #[test]
 fn an_empty_segment_may_be_left_out(rt: HostRuntime) -> Result<(), Fail> {
     let (a, _, d, _) = cuts(&rt, rt.alloc())?;
-    spans(&rt, &joined(a, d)?, 0, 2);
+    spans(&rt, &joined(&rt, a, d), 0, 2);
     Ok(())
 }
 
@@ -158,8 +167,9 @@ fn the_next_segment_begins_in_the_middle(rt: HostRuntime) -> Result<(), Fail> {
         (Send(tx, 4), Sent(1)),
         (Send(tx, 5), Sent(1)),
     ];
-    follow(&rt, &mut log, &mut share, rows)?;
-    spans(&rt, &cut(&mut log)?, 0, 8);
-    is_in_the_middle(&rt, log.start());
-    told_at(&rt, &mut log, &mut share, (TryRecv(rx), Lagged(2)), 8)
+    follow(&rt, &mut log, &mut share, rows);
+    spans(&rt, &cut(&rt, &mut log), 0, 8);
+    is_in_the_middle(&rt, start(&log));
+    told_at(&rt, &mut log, &mut share, (TryRecv(rx), Lagged(2)), 8);
+    Ok(())
 }

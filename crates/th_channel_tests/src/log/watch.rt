@@ -1,9 +1,8 @@
 //! A watch channel's log.
 ghost use Rattle.std.specs.Prelude.{◌<◌};
 
-use crate::log::segments::spans;
-use crate::log::shares::finished;
-use crate::log::{expect, is_ready, reply_of};
+use crate::log::expect;
+use crate::log::segments::span;
 use std::alloc::Global;
 use std::process::Abort;
 use std::test::Fail;
@@ -30,6 +29,14 @@ const READER: RxId = RxId(3);
 fn opened(alloc: Global) -> Result<(Log, Share), Fail> {
     let channel = Watch::new(alloc, 1)?;
     Ok(Logged::new(alloc, channel, 20, 7)?)
+}
+
+fn is_ready(log: &Log, call: &WCall<u64>) -> bool {
+    log.ready(call)
+}
+
+fn reply_of(receipt: &Receipt<Channel>) -> &WReply<u64> {
+    receipt.reply()
 }
 
 // One call that is ready.
@@ -74,6 +81,17 @@ fn play(rt: &impl Abort, log: &mut Log, share: &mut Share) -> Result<(), Fail> {
 
 fn cut(log: &mut Log) -> Result<Segment<Channel>, Fail> {
     Ok(log.cut()?)
+}
+
+// The history since the last cut.
+fn last_segment(log: Log) -> Segment<Channel> {
+    let (_, segment) = log.finish();
+    segment
+}
+
+// The segment begins at this place, and has so many entries.
+fn spans(rt: &impl Abort, segment: &Segment<Channel>, first: u64, len: u64) {
+    assert_eq!(rt; span(segment), (first, len));
 }
 
 fn join(
@@ -134,7 +152,7 @@ fn edits_are_entries(rt: HostRuntime) -> Result<(), Fail> {
         (Take(READER), Shown(3, true)),
     ];
     follow(&rt, &mut log, &mut share, rows)?;
-    let all = joined(one, finished(log).1)?;
+    let all = joined(one, last_segment(log))?;
     spans(&rt, &all, 0, 8);
     let differ = EditBy(SECOND, Edit::Differ(3));
     expect(
