@@ -1,7 +1,7 @@
-//! Runs of logged channels, over the plain shelf. The calls of a log stand in short functions that promise nothing, written
-//! for one type of channel: each fact that a test's proof knows makes it longer, and so does each call of what is written
-//! for any object. What is not as wanted ends the test at once: at a `?` the proof would let go of each log and segment
-//! that is owned there, field by field.
+//! Runs of logged channels, over the plain shelf. The calls of a log stand in short functions that promise nothing,
+//! written for one type of channel: each fact that a test's proof knows makes it longer, and so does each call of what is
+//! written for any object. What is not as wanted ends the test at once: at a `?` the proof would let go of each log and
+//! segment that is owned there, field by field.
 ghost use Rattle.std.specs.Prelude.{◌<◌};
 
 mod audits;

@@ -135,8 +135,8 @@ fn keep_the_same<A: Shelf<u64>, B: Shelf<u64>>(rt: &impl Abort, one: &A, other: 
     }
 }
 
-// What the two show is the same. It is written for any two shelves: at the ring and the plain shelf each call would have
-// their whole contracts.
+// What the two show is the same. It is written for any two shelves: at the ring and the plain shelf each call would
+// have their whole contracts.
 fn show_the_same<A: Shelf<u64>, B: Shelf<u64>>(rt: &impl Abort, one: &A, other: &B) {
     assert_eq!(rt; numbers(one), numbers(other));
     serve_the_same(rt, one, other);
