@@ -35,6 +35,13 @@ impl Account {
         Account { share, eye }
     }
 
+    /// The key of its channel.
+    pub(crate) fn key(&self) -> u64
+        ensures { result ≡ self.now.share.key }
+    {
+        self.share.key()
+    }
+
     /// How far it has seen the history. It does not look.
     pub(crate) fn seen(&self) -> u64
         ensures { result ≡ seen_of self.now }

@@ -162,6 +162,13 @@ impl<O: Channel, S: Side<O>> Handle<O, S> {
         self.number
     }
 
+    /// The key of the handle's channel.
+    pub fn key(&self) -> u64
+        ensures { result ≡ self.now.known.share.key }
+    {
+        self.account.key()
+    }
+
     /// How many events the channel had when the handle last looked: more than the place at which it was last answered, or
     /// made, and 0 on the first sender. It does not look.
     pub fn seen(&self) -> u64
@@ -247,6 +254,13 @@ impl<O: Channel, S: Side<O>> Handle<O, S> {
         }
     }
 
+    /// Whether a call would wait now, for news or for nothing any more. It makes no event, and takes the lock for a moment:
+    /// what it says may be past when it is read, so that no clause says what it means.
+    pub fn would_wait<R: Wait>(&self, rt: &R, call: &O::Call) -> bool {
+        let held = self.shared.room.held.lock(rt);
+        !held.is_ready(call)
+    }
+
     // One event that may be the last of a loop, by a call that waits.
     pub(crate) fn next_call<R: Wait>(
         &mut self,
@@ -307,8 +321,24 @@ impl<O: Channel, S: Side<O>> Handle<O, S> {
         }
     }
 
-    // The last event, with its receipt and the share.
-    fn last_event<R: Wait>(
+    /// Spends the handle: its last event, by which its number is no longer live. The share comes back, and the receipt
+    /// is given up. It waits for nothing but the lock, and takes no memory, nor room in the log but what was kept for
+    /// it. It is refused only as `Foreign`: where the number is not live, or the share or what the handle has seen is
+    /// another channel's. Then the handle comes back with the call.
+    pub fn spend<R: Wait>(self, rt: &R) -> Result<Share, (Handle<O, S>, Refused<O::Call>)>
+        requires { O.lawful }
+        ensures share { IfOk result (λ share. share ≡ counted self.known.share) }
+        ensures foreign { IfErr result (λ e.
+            (e.0 ≡ self) × (e.1 ≡ Refused.Foreign (S.last self.number))) }
+    {
+        match self.spend_told(rt) {
+            Ok((share, _receipt)) => Ok(share),
+            Err(refused) => Err(refused),
+        }
+    }
+
+    /// Spends the handle as `spend` does, and hands out the receipt beside the share.
+    pub fn spend_told<R: Wait>(
         self,
         rt: &R,
     ) -> Result<(Share, Receipt<O>), (Handle<O, S>, Refused<O::Call>)>
@@ -327,22 +357,6 @@ impl<O: Channel, S: Side<O>> Handle<O, S> {
         match last_call(rt, &shared, &mut account, S::last(number)) {
             Ok(receipt) => Ok((account.into_share(), receipt)),
             Err(refused) => Err((Handle::made(shared, number, account), refused)),
-        }
-    }
-
-    /// Spends the handle: its last event, by which its number is no longer live. The share comes back, and the receipt
-    /// is given up. It waits for nothing but the lock, and takes no memory, nor room in the log but what was kept for
-    /// it. It is refused only as `Foreign`: where the number is not live, or the share or what the handle has seen is
-    /// another channel's. Then the handle comes back with the call.
-    pub fn spend<R: Wait>(self, rt: &R) -> Result<Share, (Handle<O, S>, Refused<O::Call>)>
-        requires { O.lawful }
-        ensures share { IfOk result (λ share. share ≡ counted self.known.share) }
-        ensures foreign { IfErr result (λ e.
-            (e.0 ≡ self) × (e.1 ≡ Refused.Foreign (S.last self.number))) }
-    {
-        match self.last_event(rt) {
-            Ok((share, _receipt)) => Ok(share),
-            Err(refused) => Err(refused),
         }
     }
 

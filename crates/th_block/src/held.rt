@@ -62,6 +62,13 @@ impl<O: Channel> Held<O> {
         waits
     }
 
+    /// Whether the call has its answer now. Nobody waits for it yet.
+    pub(crate) fn is_ready(&self, call: &O::Call) -> bool
+        ensures { result ≡ O.machine.ready self.now.piece.last call.now }
+    {
+        self.posted.log().ready(call)
+    }
+
     /// Whether there is anyone to wake. They count as woken then.
     pub(crate) fn wakes(&mut self) -> bool
         ensures { self.new ≡ self.old }

@@ -1,0 +1,21 @@
+-- The numbers of a topic's handles.
+use Rattle.std.specs.Prelude.{ℕ}
+use Rattle.th_model.specs.declared.handles.TxId.{TxId}
+use Rattle.th_model.specs.declared.handles.RxId.{RxId}
+use Rattle.th_block.specs.Handles.{Holder}
+use Rattle.th_registry.specs.declared.channel.Channel.{Channel}
+use Rattle.th_registry.specs.declared.channel.Channel.TheVariants.{Broadcast, Watch}
+use Rattle.th_shared.specs.declared.handles.TopicReceiver.{TopicReceiver}
+use Rattle.th_shared.specs.declared.handles.TopicReceiver.TheVariants.{Live, Spent}
+
+-- of a handle of either kind of channel
+abbrev pub number_of : Channel Holder Holder → ℕ
+number_of (Broadcast h) = h.number
+number_of (Watch h) = h.number
+
+abbrev pub sender : Channel Holder Holder → TxId
+sender h = record { 0 = number_of h }
+
+abbrev pub receiver : TopicReceiver → RxId
+receiver (Live h) = record { 0 = number_of h }
+receiver (Spent n) = record { 0 = n }
