@@ -12,9 +12,9 @@ use crate::opening::{Found, Refusal, TopicId};
 use crate::outcome::{ChannelReply, Made, NoEvent, Unspent};
 use th_model::{Listing, Making, NameRef, Question, ReceiverVerb, SenderVerb, Short, Start};
 
-/// Topics by name. Each call but `find`, `list` and `cut` is one event, on the topic of that number or of the registry, or
-/// none; `resubscribe` is both of its events, or none. By which side of handles an event is made is the call's name and
-/// the type of its verb. An event's receipt is handed out, but for the end of a handle.
+/// Topics by name. Each call but `find`, `list`, `cut`, `wake` and `would_wait` is one event, on the topic of that number
+/// or of the registry, or none; `resubscribe` is both of its events, or none. By which side of handles an event is made
+/// is the call's name and the type of its verb. An event's receipt is handed out, but for the end of a handle.
 pub trait Desk: Drop {
     /// A sender of a topic.
     type Tx: Drop;
@@ -129,4 +129,14 @@ pub trait Desk: Drop {
     /// Hands out the topic's segment so far, and begins the next one. It is no event.
     fn cut(&mut self, topic: TopicId) -> Result<TopicSegment, NoEvent>
         ensures { says self.old (Cut topic.0) result self.new };
+
+    /// Wakes who waits for what was done here since. It is no event. Nothing is claimed of waking.
+    fn wake(&mut self)
+        ensures { self.new ≡ self.old };
+
+    /// Whether the next value of this receiver has still to come, so that a verb that waits would wait now. It saves
+    /// writes, and no clause rests on it. The receiver keeps its number.
+    fn would_wait(&mut self, topic: TopicId, receiver: &mut Self::Rx) -> bool
+        ensures desk { self.new ≡ self.old }
+        ensures receiver { rx receiver.new ≡ rx receiver.old };
 }
