@@ -7,7 +7,7 @@ use th_model::{
 };
 
 /// The call of a broadcast channel by a sender.
-pub(crate) fn broadcast_by_sender(verb: SenderVerb, tx: TxId) -> Option<BCall<Value>>
+pub fn broadcast_by_sender(verb: SenderVerb, tx: TxId) -> Option<BCall<Value>>
     ensures { result ≡ broadcast_by_sender verb tx }
 {
     match verb {
@@ -17,7 +17,7 @@ pub(crate) fn broadcast_by_sender(verb: SenderVerb, tx: TxId) -> Option<BCall<Va
 }
 
 /// The call of a watch channel by a sender.
-pub(crate) fn watch_by_sender(verb: SenderVerb, tx: TxId) -> Option<WCall<Value>>
+pub fn watch_by_sender(verb: SenderVerb, tx: TxId) -> Option<WCall<Value>>
     ensures { result ≡ watch_by_sender verb tx }
 {
     match verb {
@@ -30,7 +30,7 @@ pub(crate) fn watch_by_sender(verb: SenderVerb, tx: TxId) -> Option<WCall<Value>
 }
 
 /// The call that asks a broadcast channel a question.
-pub(crate) fn broadcast_asked(question: Question, tx: TxId) -> Option<BCall<Value>>
+pub fn broadcast_asked(question: Question, tx: TxId) -> Option<BCall<Value>>
     ensures { result ≡ broadcast_asked question tx }
 {
     match question {
@@ -40,7 +40,7 @@ pub(crate) fn broadcast_asked(question: Question, tx: TxId) -> Option<BCall<Valu
 }
 
 /// The call that asks a watch channel a question.
-pub(crate) fn watch_asked(question: Question, tx: TxId) -> Option<WCall<Value>>
+pub fn watch_asked(question: Question, tx: TxId) -> Option<WCall<Value>>
     ensures { result ≡ watch_asked question tx }
 {
     match question {
@@ -50,7 +50,7 @@ pub(crate) fn watch_asked(question: Question, tx: TxId) -> Option<WCall<Value>>
 }
 
 /// The call of a broadcast channel by a receiver.
-pub(crate) fn broadcast_by_receiver(verb: ReceiverVerb, rx: RxId) -> Option<BCall<Value>>
+pub fn broadcast_by_receiver(verb: ReceiverVerb, rx: RxId) -> Option<BCall<Value>>
     ensures { result ≡ broadcast_by_receiver verb rx }
 {
     match verb {
@@ -62,7 +62,7 @@ pub(crate) fn broadcast_by_receiver(verb: ReceiverVerb, rx: RxId) -> Option<BCal
 }
 
 /// The call of a watch channel by a receiver.
-pub(crate) fn watch_by_receiver(verb: ReceiverVerb, rx: RxId) -> Option<WCall<Value>>
+pub fn watch_by_receiver(verb: ReceiverVerb, rx: RxId) -> Option<WCall<Value>>
     ensures { result ≡ watch_by_receiver verb rx }
 {
     match verb {

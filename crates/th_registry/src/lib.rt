@@ -17,7 +17,7 @@ pub mod local;
 pub mod opening;
 pub mod outcome;
 pub mod recorded;
-mod topics;
+pub mod topics;
 
 pub use channel::Channel;
 pub use desk::Desk;

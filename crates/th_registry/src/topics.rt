@@ -1,13 +1,13 @@
-//! The topics of a desk of one thread, in order of opening: how they are listed, and how one is opened.
-ghost use Rattle.std.specs.Prelude.{◌≡◌, ℕ, true, false, is_some, OnOk, OnErr, ◌++◌, ◌∷◌};
-ghost use Rattle.th_registry.specs.Hub.{find, open_topic, Says, List, Open, added};
+//! Topics in order of opening: how one is found, how they are listed, and how one is opened at a desk of one thread.
+ghost use Rattle.std.specs.Prelude.{◌≡◌, ℕ, true, false, is_some, IfOk, OnOk, OnErr, ◌++◌, ◌∷◌};
+ghost use Rattle.th_registry.specs.Hub.{find, list, open_topic, Says, Open, added};
 ghost use Rattle.th_registry.specs.Pictures.{pictures};
 
 use crate::channel::{Channel, HubBroadcast, LocalChannel};
-use crate::opening::Refusal;
+use crate::opening::{Found, Refusal, TopicId};
 use crate::recorded::Recorded;
 use indexmap::IndexMap;
-use th_model::{Capacity, Listed, Listing, Making, Name, Short, Value};
+use th_model::{Capacity, Listed, Listing, Making, Name, NameRef, Short, Value};
 use th_watch::Watch;
 
 /// The most topics of a hub.
@@ -16,16 +16,33 @@ const MOST_TOPICS: usize = 1024;
 /// At most 1,024 channels by the names of their topics, in order of opening.
 pub type Channels = IndexMap<Name, LocalChannel>;
 
-/// The topics with their kinds. It takes memory for all of them at once.
-pub(crate) fn list(channels: &Channels) -> Result<Listing, Short<()>>
-    ensures { (limit : ℕ) →
-        Says (pictures limit) channels.now.entries List result channels.now.entries }
+/// The topic of this name, among topics in order of opening.
+pub fn find<B: Drop, W: Drop>(
+    topics: &IndexMap<Name, Channel<B, W>>,
+    name: &NameRef<'_>,
+) -> Option<Found>
+    ensures { result ≡ find topics.now.entries name.now }
 {
-    let alloc = *channels.allocator();
-    let Ok(mut rows) = Vec::with_capacity(alloc, channels.len()) else {
+    match topics.get_full(name) {
+        Some((number, _, channel)) => Some(Found {
+            topic: TopicId(number as u64),
+            kind: channel.kind(),
+        }),
+        None => None,
+    }
+}
+
+/// The topics with their kinds. It takes memory for all of them at once.
+pub fn list<B: Drop, W: Drop>(
+    topics: &IndexMap<Name, Channel<B, W>>,
+) -> Result<Listing, Short<()>>
+    ensures { IfOk result (λ rows. rows ≡ list topics.now.entries) }
+{
+    let alloc = *topics.allocator();
+    let Ok(mut rows) = Vec::with_capacity(alloc, topics.len()) else {
         return Err(Short { call: () });
     };
-    for (name, channel) in channels {
+    for (name, channel) in topics {
         let Ok(name) = name.clone() else {
             return Err(Short { call: () });
         };

@@ -1,12 +1,14 @@
 -- What a desk may say that threads share. What other threads do in between cannot be seen at it, so nothing is said of
 -- the topics before and after; but each event is one on the topic that was named, and has its receipt (docs/HISTORIES.md).
-use Rattle.std.specs.Prelude.{◌≡◌, ℕ, ◌+◌, ◌≤◌, ◌<◌, Unit, Bool, true, false, List, length, Option, Some, None, Result, Ok, Err, IfOk, IfSome, map}
+use Rattle.std.specs.Prelude.{◌≡◌, ℕ, ◌+◌, ◌≤◌, ◌<◌, Unit, Bool, true, false, List, length, Option, Some, None, Result, Ok, Err, IfOk, IfSome, MatchOption}
 use Rattle.std.specs.Prelude as prelude
 use Rattle.std.specs.Option.{option_map}
+use Rattle.th_block.specs.Handles.{Holder}
 use Rattle.th_model.specs.declared.making.Making.{Making}
 use Rattle.th_registry.specs.declared.channel.Channel.TheVariants.{Broadcast, Watch}
 use Rattle.th_registry.specs.declared.opening.Refusal.{Refusal}
 use Rattle.th_registry.specs.declared.opening.Refusal.TheVariants as Refusals
+use Rattle.th_registry.specs.declared.outcome.ChannelReply.{ChannelReply}
 use Rattle.th_registry.specs.Events.{Event, Outcome, Told, broadcast_call, broadcast_outcome, is_end, watch_call, watch_outcome}
 use Rattle.th_registry.specs.Hub.{Noted, Query, Said, Find, Open, On, Cut, made, most_topics}
 use Rattle.th_registry.specs.Legal.{IsLegalSegment}
@@ -27,6 +29,15 @@ abbrev pub Notes : ℕ → Event → Told → Option ChannelReceipt → Type 0
 Notes n e (Ok outcome) (Some receipt) = IsEvent n e outcome receipt × (is_end e ≡ false)
 Notes n e (Ok outcome) None = (receipt : ChannelReceipt) × IsEvent n e outcome receipt × (is_end e ≡ true)
 Notes n e (Err why) receipt = receipt ≡ None
+
+-- the last event of a handle on this topic was this call, and was replied so; its receipt is given up
+abbrev pub IsLast : {C R : Type 0} → ℕ → C → (R → ChannelReply) → ChannelReply → Type 0
+IsLast {C} {R} n call of reply =
+    (receipt : Receipt C R) × IsOf n (Some call) receipt × (reply ≡ of receipt.reply)
+
+-- the handle beside a reply that tells of this number, or of none
+abbrev pub IsNumbered : Option ℕ → Option Holder → Type 0
+IsNumbered number handle = MatchOption handle (number ≡ None) (λ h. number ≡ Some h.number)
 
 -- what is said of an opening, for which this would be told: the capacity in force, or 1
 abbrev pub IsOpened : Option ℕ → Result ℕ Refusal → Type 0

@@ -1,23 +1,28 @@
-//! The hub's topics, for many threads: each with its own lock, and a desk for each thread.
+//! The hub's topics for many threads: each topic has its own lock, and each thread its own desk.
 //!
 //! ```text
-//! let desk = SharedDesk::new(rt, alloc)?;                                // no topic yet
-//! let mut alices = desk.another()?;                                      // a desk for another thread
-//! alices.open_topic(NameRef::new(b"news")?, Making::Broadcast(10))?;     // 16, the capacity in force
-//! let mut alice = alices.bind(TopicId(0))?.handle?;                      // sender 2, by the hub's own sender
-//! alices.by_sender(TopicId(0), &mut alice, SenderVerb::Send(value))?;    // its receipt
-//! alices.wake();                                                         // who waits for the value is woken
+//! let mut desk = SharedDesk::new(rt, alloc)?;                        // no topic yet
+//! let mut bobs = desk.another()?;                                    // for another thread
+//! desk.open_topic(NameRef::new(b"news")?, Making::Broadcast(10))?;   // 16, the capacity in force
+//! let mut bob = bobs.subscribe(TopicId(0), Start::Tail, &mut None)?.handle?;
+//! let mut alice = desk.bind(TopicId(0))?.handle?;
+//! desk.by_sender(TopicId(0), &mut alice, SenderVerb::Send(value))?;  // its receipt
+//! desk.wake();                                                       // whoever waits for the value
+//! bobs.by_receiver(TopicId(0), &mut bob, ReceiverVerb::Recv)?;       // the value: it waits where there is none yet
 //! ```
 //!
-//! A session is served at it as at any desk (th_session); but a verb that waits does wait here.
+//! A session (th_session) is served at it as at any other desk.
 #![tactic(auto)]
 
+mod broadcast;
 pub mod desk;
 pub mod ended;
 mod event;
 pub mod handles;
+mod quiet;
 mod registry;
 mod topic;
+mod watch;
 
 pub use desk::SharedDesk;
 pub use ended::Ended;

@@ -1,1 +1,195 @@
-//! The topics.
+//! The topics that threads share, as they stand under their lock.
+ghost use Rattle.std.specs.Prelude.{◌≡◌, IfOk};
+ghost use Rattle.th_registry.specs.Events.{Asks, Binds, DropsTx, Hub, Subscribes};
+ghost use Rattle.th_registry.specs.Hub.{On, Open};
+ghost use Rattle.th_registry.specs.Typed.{ended, made_rx, made_tx, replied};
+ghost use Rattle.th_shared.specs.Numbers.{receiver, sender};
+ghost use Rattle.th_shared.specs.Saying.{MaySay};
+
+use crate::broadcast;
+use crate::handles::{TopicReceiver, TopicSender};
+use crate::topic::{First, Own, SharedTopic, Topic};
+use crate::watch;
+use indexmap::IndexMap;
+use std::alloc::Global;
+use std::mem::replace_with;
+use std::sync::Wait;
+use th_block::{Handle, Sends};
+use th_model::{Capacity, Making, Name, NameRef, Question, Start, Value};
+use th_registry::channel::TopicReceipt;
+use th_registry::topics::find;
+use th_registry::{Channel, ChannelReply, Made, NoEvent, Refusal, TopicId};
+
+/// The most topics of a hub.
+const MOST_TOPICS: usize = 1024;
+
+/// The most entries of a segment.
+const MOST_ENTRIES: u64 = 1_000_000;
+
+/// Topics by name, in order of opening.
+pub(crate) type Topics = IndexMap<Name, SharedTopic>;
+
+// A topic behind the first sender of its channel, which is the hub's own.
+fn opened<O: th_block::Channel>(handle: Handle<O, Sends>) -> Option<Topic<O>>
+    requires { handle.number ≡ 1 }
+{
+    match handle.shared() {
+        Ok(owner) => Some(Topic {
+            owner,
+            own: Own::Live(First { handle }),
+        }),
+        Err(_) => None,
+    }
+}
+
+// A broadcast topic at the end, under a name that is not there: its capacity in force.
+fn open_broadcast(
+    topics: &mut Topics,
+    name: Name,
+    asked: u64,
+    base: u64,
+) -> Result<u64, Refusal>
+    ensures { MaySay (Open name (Making.BroadcastAt asked base)) result }
+{
+    let Ok(capacity) = Capacity::new(asked) else {
+        return Err(Refusal::BadCapacity);
+    };
+    if topics.len() >= MOST_TOPICS {
+        return Err(Refusal::TooManyTopics);
+    }
+    let alloc = *topics.allocator();
+    let key = topics.len() as u64 + 1;
+    let Ok(sender) = th_block::broadcast_at::<Value>(alloc, capacity, base, MOST_ENTRIES, key)
+    else {
+        return Err(Refusal::Short);
+    };
+    let Some(topic) = opened(sender) else {
+        return Err(Refusal::Short);
+    };
+    let Ok(_) = topics.insert(name, Channel::Broadcast(topic)) else {
+        return Err(Refusal::Short);
+    };
+    Ok(capacity.in_force())
+}
+
+// The same of a watch topic, for which 1 is told.
+fn open_watch(topics: &mut Topics, name: Name, value: Value) -> Result<u64, Refusal>
+    ensures { MaySay (Open name (Making.Watch value)) result }
+{
+    if topics.len() >= MOST_TOPICS {
+        return Err(Refusal::TooManyTopics);
+    }
+    let alloc = *topics.allocator();
+    let key = topics.len() as u64 + 1;
+    let Ok(sender) = th_block::watch::<Value>(alloc, value, MOST_ENTRIES, key) else {
+        return Err(Refusal::Short);
+    };
+    let Some(topic) = opened(sender) else {
+        return Err(Refusal::Short);
+    };
+    let Ok(_) = topics.insert(name, Channel::Watch(topic)) else {
+        return Err(Refusal::Short);
+    };
+    Ok(1)
+}
+
+/// Opens a topic, and answers the number that is told of it.
+pub(crate) fn open(
+    topics: &mut Topics,
+    name: &NameRef<'_>,
+    making: Making,
+) -> Result<u64, Refusal>
+    ensures { MaySay (Open name.now making) result }
+{
+    if find(&*topics, name).is_some() {
+        return Err(Refusal::Exists);
+    }
+    let name = name.to_name();
+    match making {
+        Making::Broadcast(asked) => open_broadcast(topics, name, asked, 0),
+        Making::BroadcastAt(asked, base) => open_broadcast(topics, name, asked, base),
+        Making::Watch(value) => open_watch(topics, name, value),
+    }
+}
+
+/// A new sender, by the hub's own.
+pub(crate) fn bind<R: Wait>(
+    rt: &R,
+    topics: &mut Topics,
+    topic: TopicId,
+) -> Result<Made<TopicSender>, NoEvent>
+    ensures { MaySay (On topic.0 Binds) (made_tx sender result) }
+{
+    match topics.get_index_mut(topic.0 as usize) {
+        None => Err(NoEvent::NoTopic),
+        Some(Channel::Broadcast(Topic { own, .. })) => match own {
+            Own::Live(first) => broadcast::bind(rt, topic, &mut first.handle),
+            Own::Ended(_) => Err(NoEvent::NoSender),
+        },
+        Some(Channel::Watch(Topic { own, .. })) => match own {
+            Own::Live(first) => watch::bind(rt, topic, &mut first.handle),
+            Own::Ended(_) => Err(NoEvent::NoSender),
+        },
+    }
+}
+
+/// A new receiver that begins so, by the hub's own sender.
+pub(crate) fn subscribe<R: Wait>(
+    rt: &R,
+    topics: &mut Topics,
+    topic: TopicId,
+    start: Start,
+) -> Result<Made<TopicReceiver>, NoEvent>
+    ensures { MaySay (On topic.0 (Subscribes start Hub)) (made_rx receiver result) }
+{
+    match topics.get_index_mut(topic.0 as usize) {
+        None => Err(NoEvent::NoTopic),
+        Some(Channel::Broadcast(Topic { own, .. })) => match own {
+            Own::Live(first) => broadcast::subscribe(rt, topic, start, &mut first.handle),
+            Own::Ended(_) => Err(NoEvent::NoSender),
+        },
+        Some(Channel::Watch(Topic { own, .. })) => match own {
+            Own::Live(first) => watch::subscribe(rt, topic, start, &mut first.handle),
+            Own::Ended(_) => Err(NoEvent::NoSender),
+        },
+    }
+}
+
+/// A question through the hub's own sender.
+pub(crate) fn ask<R: Wait>(
+    rt: &R,
+    topics: &mut Topics,
+    topic: TopicId,
+    question: Question,
+) -> Result<TopicReceipt, NoEvent>
+    ensures { MaySay (On topic.0 (Asks Hub question)) (replied result) }
+{
+    match topics.get_index_mut(topic.0 as usize) {
+        None => Err(NoEvent::NoTopic),
+        Some(Channel::Broadcast(Topic { own, .. })) => match own {
+            Own::Live(first) => broadcast::ask(rt, topic, &mut first.handle, question),
+            Own::Ended(_) => Err(NoEvent::NoSender),
+        },
+        Some(Channel::Watch(Topic { own, .. })) => match own {
+            Own::Live(first) => watch::ask(rt, topic, &mut first.handle, question),
+            Own::Ended(_) => Err(NoEvent::NoSender),
+        },
+    }
+}
+
+/// The end of the hub's own sender.
+pub(crate) fn end<R: Wait>(
+    rt: &R,
+    topics: &mut Topics,
+    topic: TopicId,
+) -> Result<ChannelReply, NoEvent>
+    ensures { MaySay (On topic.0 (DropsTx Hub)) (ended result) }
+{
+    match topics.get_index_mut(topic.0 as usize) {
+        None => Err(NoEvent::NoTopic),
+        Some(Channel::Broadcast(Topic { own, .. })) => {
+            replace_with(own, (rt, topic), broadcast::end)
+        }
+        Some(Channel::Watch(Topic { own, .. })) => replace_with(own, (rt, topic), watch::end),
+    }
+}

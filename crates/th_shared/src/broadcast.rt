@@ -1,0 +1,203 @@
+//! The events of a broadcast topic.
+ghost use Rattle.std.specs.Prelude.{◌≡◌, IfErr, IfOk};
+ghost use Rattle.th_block.specs.Replies.{made_by};
+ghost use Rattle.th_block.specs.Numbers.{rx, tx};
+ghost use Rattle.th_registry.specs.Events.{Asks, Binds, By, DropsTx, Hub, NewRx, NewTx, Receives, Sends, Subscribes, broadcast_made_rx, broadcast_made_tx, sender_of};
+ghost use Rattle.th_registry.specs.Hub.{On};
+ghost use Rattle.th_registry.specs.Typed.{ended, made_rx, made_tx, outcome_of, replied};
+ghost use Rattle.th_shared.specs.Numbers.{receiver, sender};
+ghost use Rattle.th_shared.specs.Saying.{IsLast, IsNumbered, MaySay};
+
+use crate::event::{event, is_on, last_event, why};
+use crate::handles::{TopicReceiver, TopicSender};
+use crate::topic::{First, Own};
+use std::sync::Wait;
+use th_block::{BReceiver, BSender, Handle, Side};
+use th_log::Receipt;
+use th_model::{BReply, Question, ReceiverVerb, RxId, SenderVerb, Start, TxId, Value};
+use th_registry::calls::{broadcast_asked, broadcast_by_receiver, broadcast_by_sender};
+use th_registry::channel::{HubBroadcast, TopicReceipt};
+use th_registry::{Channel, ChannelReply, Made, NoEvent, TopicId};
+use th_seats::Share;
+
+/// What a sender does.
+#[inline(always)]
+pub(crate) fn send<R: Wait>(
+    rt: &R,
+    topic: TopicId,
+    sender: &mut BSender<Value>,
+    verb: SenderVerb,
+) -> Result<TopicReceipt, NoEvent>
+    ensures event { MaySay (On topic.0 (Sends (tx sender.old) verb)) (replied result) }
+    ensures number { sender.new.number ≡ sender.old.number }
+{
+    let Some(call) = broadcast_by_sender(verb, TxId(sender.number())) else {
+        return Err(NoEvent::WrongKind);
+    };
+    match event(rt, topic, sender, call) {
+        Ok(receipt) => Ok(Channel::Broadcast(receipt)),
+        Err(why) => Err(why),
+    }
+}
+
+/// A question through a sender.
+pub(crate) fn ask<R: Wait>(
+    rt: &R,
+    topic: TopicId,
+    sender: &mut BSender<Value>,
+    question: Question,
+) -> Result<TopicReceipt, NoEvent>
+    ensures event { (by : By) → sender_of by ≡ tx sender.old →
+        MaySay (On topic.0 (Asks by question)) (replied result) }
+    ensures number { sender.new.number ≡ sender.old.number }
+{
+    let Some(call) = broadcast_asked(question, TxId(sender.number())) else {
+        return Err(NoEvent::WrongKind);
+    };
+    match event(rt, topic, sender, call) {
+        Ok(receipt) => Ok(Channel::Broadcast(receipt)),
+        Err(why) => Err(why),
+    }
+}
+
+/// What a receiver does.
+#[inline(always)]
+pub(crate) fn receive<R: Wait>(
+    rt: &R,
+    topic: TopicId,
+    receiver: &mut BReceiver<Value>,
+    verb: ReceiverVerb,
+) -> Result<TopicReceipt, NoEvent>
+    ensures event { MaySay (On topic.0 (Receives (rx receiver.old) verb)) (replied result) }
+    ensures number { receiver.new.number ≡ receiver.old.number }
+{
+    let Some(call) = broadcast_by_receiver(verb, RxId(receiver.number())) else {
+        return Err(NoEvent::WrongKind);
+    };
+    match event(rt, topic, receiver, call) {
+        Ok(receipt) => Ok(Channel::Broadcast(receipt)),
+        Err(why) => Err(why),
+    }
+}
+
+// The sender that was made, with the receipt.
+fn made_sender(
+    receipt: Receipt<HubBroadcast>,
+    handle: Option<BSender<Value>>,
+) -> Made<TopicSender>
+    requires { IsNumbered (made_by receipt.reply) handle }
+    ensures made { outcome_of (λ t. NewTx (sender t)) result ≡ broadcast_made_tx receipt.reply }
+    ensures receipt { result.receipt ≡ Channel.Broadcast receipt }
+{
+    let handle = match receipt.reply() {
+        BReply::NewTx(_) => handle,
+        _ => None,
+    };
+    let handle = match handle {
+        Some(handle) => Some(Channel::Broadcast(handle)),
+        None => None,
+    };
+    Made {
+        handle,
+        receipt: Channel::Broadcast(receipt),
+    }
+}
+
+// The receiver that was made, with the receipt.
+fn made_receiver(
+    receipt: Receipt<HubBroadcast>,
+    handle: Option<BReceiver<Value>>,
+) -> Made<TopicReceiver>
+    requires { IsNumbered (made_by receipt.reply) handle }
+    ensures made { outcome_of (λ r. NewRx (receiver r)) result ≡ broadcast_made_rx receipt.reply }
+    ensures receipt { result.receipt ≡ Channel.Broadcast receipt }
+{
+    let handle = match receipt.reply() {
+        BReply::NewRx(_) => handle,
+        _ => None,
+    };
+    let handle = match handle {
+        Some(handle) => Some(TopicReceiver::Live(Channel::Broadcast(handle))),
+        None => None,
+    };
+    Made {
+        handle,
+        receipt: Channel::Broadcast(receipt),
+    }
+}
+
+/// A new sender, by the hub's own.
+pub(crate) fn bind<R: Wait>(
+    rt: &R,
+    topic: TopicId,
+    own: &mut BSender<Value>,
+) -> Result<Made<TopicSender>, NoEvent>
+    requires { own.old.number ≡ 1 }
+    ensures event { MaySay (On topic.0 Binds) (made_tx sender result) }
+    ensures number { own.new.number ≡ own.old.number }
+{
+    if !is_on(own, topic) {
+        return Err(NoEvent::NotLive);
+    }
+    match own.clone_tx(rt) {
+        Ok((receipt, handle)) => Ok(made_sender(receipt, handle)),
+        Err(refused) => Err(why(refused)),
+    }
+}
+
+/// A new receiver that begins so, by this sender.
+pub(crate) fn subscribe<R: Wait>(
+    rt: &R,
+    topic: TopicId,
+    start: Start,
+    sender: &mut BSender<Value>,
+) -> Result<Made<TopicReceiver>, NoEvent>
+    ensures event { (by : By) → sender_of by ≡ tx sender.old →
+        MaySay (On topic.0 (Subscribes start by)) (made_rx receiver result) }
+    ensures number { sender.new.number ≡ sender.old.number }
+{
+    if !is_on(sender, topic) {
+        return Err(NoEvent::NotLive);
+    }
+    let answer = match start {
+        Start::Tail => sender.subscribe(rt),
+        Start::Oldest => sender.subscribe_oldest(rt),
+    };
+    match answer {
+        Ok((receipt, handle)) => Ok(made_receiver(receipt, handle)),
+        Err(refused) => Err(why(refused)),
+    }
+}
+
+/// The last event of a handle, with its share.
+pub(crate) fn spend<S: Side<HubBroadcast>, R: Wait>(
+    rt: &R,
+    topic: TopicId,
+    handle: Handle<HubBroadcast, S>,
+) -> Result<(Share, ChannelReply), (Handle<HubBroadcast, S>, NoEvent)>
+    ensures last { IfOk result (λ r.
+        IsLast topic.0 (S.last handle.number) (λ reply. ChannelReply.Broadcast reply) r.1) }
+    ensures back { IfErr result (λ e. e.0 ≡ handle) }
+{
+    match last_event(rt, topic, handle) {
+        Ok((share, receipt)) => Ok((share, ChannelReply::Broadcast(receipt.into_reply()))),
+        Err(back) => Err(back),
+    }
+}
+
+/// The end of the hub's own sender: what it is then, and what was replied.
+pub(crate) fn end<R: Wait>(
+    own: Own<HubBroadcast>,
+    at: (&R, TopicId),
+) -> (Own<HubBroadcast>, Result<ChannelReply, NoEvent>)
+    ensures { MaySay (On at.1.0 (DropsTx Hub)) (ended result.1) }
+{
+    let (rt, topic) = at;
+    match own {
+        Own::Live(First { handle }) => match spend(rt, topic, handle) {
+            Ok((share, reply)) => (Own::Ended(share), Ok(reply)),
+            Err((handle, why)) => (Own::Live(First { handle }), Err(why)),
+        },
+        Own::Ended(share) => (Own::Ended(share), Err(NoEvent::NoSender)),
+    }
+}
