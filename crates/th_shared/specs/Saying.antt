@@ -35,6 +35,11 @@ abbrev pub IsLast : {C R : Type 0} → ℕ → C → (R → ChannelReply) → Ch
 IsLast {C} {R} n call of reply =
     (receipt : Receipt C R) × IsOf n (Some call) receipt × (reply ≡ of receipt.reply)
 
+-- of what is said of a new receiver in the place of an old one: without the old one's share
+abbrev pub first : {A B E : Type 0} → Result (A × B) E → Result A E
+first (Ok r) = Ok r.0
+first (Err why) = Err why
+
 -- the handle beside a reply that tells of this number, or of none
 abbrev pub IsNumbered : Option ℕ → Option Holder → Type 0
 IsNumbered number handle = MatchOption handle (number ≡ None) (λ h. number ≡ Some h.number)

@@ -2,17 +2,17 @@
 ghost use Rattle.std.specs.Prelude.{◌≡◌, IfErr, IfOk};
 ghost use Rattle.th_block.specs.Replies.{made_by};
 ghost use Rattle.th_block.specs.Numbers.{rx, tx};
-ghost use Rattle.th_registry.specs.Events.{Asks, Binds, By, DropsTx, Hub, NewRx, NewTx, Receives, Sends, Subscribes, broadcast_made_rx, broadcast_made_tx, sender_of};
+ghost use Rattle.th_registry.specs.Events.{Asks, Binds, By, DropsTx, Hub, NewRx, NewTx, Receives, Resubscribes, Sends, Subscribes, broadcast_made_rx, broadcast_made_tx, sender_of};
 ghost use Rattle.th_registry.specs.Hub.{On};
 ghost use Rattle.th_registry.specs.Typed.{ended, made_rx, made_tx, outcome_of, replied};
 ghost use Rattle.th_shared.specs.Numbers.{receiver, sender};
-ghost use Rattle.th_shared.specs.Saying.{IsLast, IsNumbered, MaySay};
+ghost use Rattle.th_shared.specs.Saying.{IsLast, IsNumbered, MaySay, first};
 
 use crate::event::{event, is_on, last_event, why};
 use crate::handles::{TopicReceiver, TopicSender};
-use crate::topic::{First, Own};
+use crate::topic::{First, Topic};
 use std::sync::Wait;
-use th_block::{BReceiver, BSender, Handle, Side};
+use th_block::{BReceiver, BSender, Handle, Replaced, Sends, Side};
 use th_log::Receipt;
 use th_model::{BReply, Question, ReceiverVerb, RxId, SenderVerb, Start, TxId, Value};
 use th_registry::calls::{broadcast_asked, broadcast_by_receiver, broadcast_by_sender};
@@ -185,19 +185,64 @@ pub(crate) fn spend<S: Side<HubBroadcast>, R: Wait>(
     }
 }
 
-/// The end of the hub's own sender: what it is then, and what was replied.
-pub(crate) fn end<R: Wait>(
-    own: Own<HubBroadcast>,
-    at: (&R, TopicId),
-) -> (Own<HubBroadcast>, Result<ChannelReply, NoEvent>)
-    ensures { MaySay (On at.1.0 (DropsTx Hub)) (ended result.1) }
+/// A new receiver in the place of this one, and the share of this one, where it was spent for it; with what is left of
+/// it.
+pub(crate) fn resubscribe<R: Wait>(
+    rt: &R,
+    topic: TopicId,
+    old: BReceiver<Value>,
+) -> (
+    TopicReceiver,
+    Result<(Made<TopicReceiver>, Option<Share>), NoEvent>,
+)
+    ensures event { MaySay (On topic.0 (Resubscribes (rx old))) (made_rx receiver (first result.1)) }
+    ensures number { receiver result.0 ≡ rx old }
 {
-    let (rt, topic) = at;
-    match own {
-        Own::Live(First { handle }) => match spend(rt, topic, handle) {
-            Ok((share, reply)) => (Own::Ended(share), Ok(reply)),
-            Err((handle, why)) => (Own::Live(First { handle }), Err(why)),
-        },
-        Own::Ended(share) => (Own::Ended(share), Err(NoEvent::NoSender)),
+    let number = old.number();
+    if !is_on(&old, topic) {
+        return (live(old), Err(NoEvent::NotLive));
+    }
+    let Ok(owner) = old.shared() else {
+        return (live(old), Err(NoEvent::Short));
+    };
+    match owner.pair_resub(rt, old) {
+        Ok((receipt, Replaced::New(new, share))) => (
+            TopicReceiver::Spent(number),
+            Ok((made_receiver(receipt, Some(new)), Some(share))),
+        ),
+        Ok((receipt, Replaced::Kept(old))) => {
+            (live(old), Ok((made_receiver(receipt, None), None)))
+        }
+        Err((old, refused)) => (live(old), Err(why(refused))),
+    }
+}
+
+// A live receiver.
+fn live(receiver: BReceiver<Value>) -> TopicReceiver
+    ensures { result ≡ TopicReceiver.Live (Channel.Broadcast receiver) }
+{
+    TopicReceiver::Live(Channel::Broadcast(receiver))
+}
+
+/// The end of the hub's own sender.
+pub(crate) fn end<R: Wait>(
+    rt: &R,
+    topic: TopicId,
+    at: &mut Topic<HubBroadcast, Sends>,
+) -> Result<ChannelReply, NoEvent>
+    ensures { MaySay (On topic.0 (DropsTx Hub)) (ended result) }
+{
+    let Some(First { handle }) = at.own.take() else {
+        return Err(NoEvent::NoSender);
+    };
+    match spend(rt, topic, handle) {
+        Ok((share, reply)) => {
+            at.share = Some(share);
+            Ok(reply)
+        }
+        Err((handle, why)) => {
+            at.own = Some(First { handle });
+            Err(why)
+        }
     }
 }

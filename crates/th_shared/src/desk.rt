@@ -6,20 +6,18 @@ ghost use Rattle.th_registry.specs.Typed.{replied};
 ghost use Rattle.th_shared.specs.Numbers.{number_of, receiver, sender};
 ghost use Rattle.th_shared.specs.Saying.{MaySay};
 
-use crate::ended::{Ended, ended};
+use crate::ended::{Ended, end_of};
 use crate::handles::{TopicReceiver, TopicSender};
 use crate::quiet::{Quiet, hush, is_quiet, wake};
-use crate::registry::{Topics, ask, bind, end, open, subscribe};
+use crate::registry::{Topics, ask, bind, end, open, owner_of, subscribe};
 use crate::{broadcast, watch};
 use indexmap::IndexMap;
-use std::alloc::{AllocError, Global};
+use std::alloc::Global;
 use std::marker::Model;
 use std::mem::replace;
 use std::sync::{Arc, Mutex, Wait};
-use th_block::{BReceiver, Replaced};
 use th_model::{
-    BCall, Listing, Making, NameRef, Question, ReceiverVerb, RxId, SenderVerb, Short, Start, Value,
-    WCall,
+    BCall, Listing, Making, NameRef, Question, ReceiverVerb, RxId, SenderVerb, Short, Start, WCall,
 };
 use th_registry::channel::{TopicReceipt, TopicSegment};
 use th_registry::topics::{find, list};
@@ -94,20 +92,28 @@ impl<R: Wait + Clone> SharedDesk<R> {
         }
     }
 
-    /// Hands out the shares of the handles that were spent through this desk.
-    pub fn take_shares(&mut self) -> Vec<(TopicId, Share)> {
-        let SharedDesk { shares, live, .. } = self;
-        let none = Vec::new(*shares.allocator());
-        *live = 0;
-        replace(shares, none)
+    /// The shares of the handles that were spent through this desk, once nothing more is asked at it.
+    pub fn into_shares(self) -> Vec<(TopicId, Share)> {
+        let SharedDesk {
+            rt,
+            shares,
+            mut quiet,
+            ..
+        } = self;
+        wake(&rt, &mut quiet);
+        shares
     }
 
-    /// What is left of each topic, in order of opening, for the last owner. Shares that were not taken are given up.
+    /// What is left of each topic, in order of opening, for the last owner; and the shares of the handles that were
+    /// spent through this desk.
     ///
     /// # Errors
     ///
     /// The desk comes back, where another owner is left, or there was no memory for the list.
-    pub fn finish(self, alloc: Global) -> Result<Vec<Ended>, SharedDesk<R>> {
+    pub fn finish(
+        self,
+        alloc: Global,
+    ) -> Result<(Vec<Ended>, Vec<(TopicId, Share)>), SharedDesk<R>> {
         let SharedDesk {
             rt,
             mut topics,
@@ -139,10 +145,11 @@ impl<R: Wait + Clone> SharedDesk<R> {
         };
         match Arc::try_unwrap(topics) {
             Ok(lock) => {
-                for (name, topic) in lock.into_inner() {
-                    let _ = list.push(ended(name, topic));
+                let mut topics = lock.into_inner();
+                for (name, topic) in topics.drain(..) {
+                    let _ = list.push(end_of(name, topic));
                 }
-                Ok(list)
+                Ok((list, shares))
             }
             Err(topics) => Err(SharedDesk {
                 rt,
@@ -173,4 +180,290 @@ fn count<H>(live: &mut usize, made: &Result<Made<H>, NoEvent>) {
 fn keep(shares: &mut Vec<(TopicId, Share)>, live: &mut usize, topic: TopicId, share: Share) {
     *live = live.saturating_sub(1);
     let _ = shares.push((topic, share));
+}
+
+impl<R: Wait + Clone> Desk for SharedDesk<R> {
+    ghost use Rattle.th_shared.specs.Numbers.{receiver, sender};
+    ghost use Rattle.th_shared.specs.Saying.{Says};
+
+    type Tx = TopicSender;
+
+    type Rx = TopicReceiver;
+
+    ghost tx = { sender };
+
+    ghost rx = { receiver };
+
+    ghost says = { Says };
+
+    fn find(&self, name: &NameRef<'_>) -> Option<Found> {
+        let topics = self.topics.lock(&self.rt);
+        find(&*topics, name)
+    }
+
+    fn list(&self) -> Result<Listing, Short<()>> {
+        let topics = self.topics.lock(&self.rt);
+        list(&*topics)
+    }
+
+    fn open_topic(&mut self, name: NameRef<'_>, making: Making) -> Result<u64, Refusal> {
+        let mut topics = self.topics.lock(&self.rt);
+        open(&mut *topics, &name, making)
+    }
+
+    fn bind(&mut self, topic: TopicId) -> Result<Made<TopicSender>, NoEvent> {
+        let SharedDesk {
+            rt,
+            topics,
+            shares,
+            live,
+            ..
+        } = self;
+        if !make_room(shares, *live) {
+            return Err(NoEvent::Short);
+        }
+        let mut topics = topics.lock(rt);
+        let made = bind(rt, &mut *topics, topic);
+        count(live, &made);
+        made
+    }
+
+    fn subscribe(
+        &mut self,
+        topic: TopicId,
+        start: Start,
+        sender: &mut Option<TopicSender>,
+    ) -> Result<Made<TopicReceiver>, NoEvent> {
+        let SharedDesk {
+            rt,
+            topics,
+            shares,
+            live,
+            ..
+        } = self;
+        if !make_room(shares, *live) {
+            return Err(NoEvent::Short);
+        }
+        let made = match sender {
+            Some(Channel::Broadcast(sender)) => broadcast::subscribe(rt, topic, start, sender),
+            Some(Channel::Watch(sender)) => watch::subscribe(rt, topic, start, sender),
+            None => {
+                let mut topics = topics.lock(rt);
+                subscribe(rt, &mut *topics, topic, start)
+            }
+        };
+        count(live, &made);
+        made
+    }
+
+    #[inline(always)]
+    fn by_sender(
+        &mut self,
+        topic: TopicId,
+        sender: &mut TopicSender,
+        verb: SenderVerb,
+    ) -> Result<TopicReceipt, NoEvent> {
+        let SharedDesk { rt, quiet, .. } = self;
+        match sender {
+            Channel::Broadcast(sender) => {
+                let told = broadcast::send(rt, topic, sender, verb);
+                if !is_quiet(quiet, sender.key()) {
+                    if let Ok(owner) = sender.shared() {
+                        hush(rt, quiet, sender.key(), Channel::Broadcast(owner));
+                    }
+                }
+                told
+            }
+            Channel::Watch(sender) => {
+                let told = watch::send(rt, topic, sender, verb);
+                if !is_quiet(quiet, sender.key()) {
+                    if let Ok(owner) = sender.shared() {
+                        hush(rt, quiet, sender.key(), Channel::Watch(owner));
+                    }
+                }
+                told
+            }
+        }
+    }
+
+    fn ask(
+        &mut self,
+        topic: TopicId,
+        sender: &mut Option<TopicSender>,
+        question: Question,
+    ) -> Result<TopicReceipt, NoEvent> {
+        let SharedDesk { rt, topics, .. } = self;
+        match sender {
+            Some(Channel::Broadcast(sender)) => broadcast::ask(rt, topic, sender, question),
+            Some(Channel::Watch(sender)) => watch::ask(rt, topic, sender, question),
+            None => {
+                let mut topics = topics.lock(rt);
+                ask(rt, &mut *topics, topic, question)
+            }
+        }
+    }
+
+    #[inline(always)]
+    fn by_receiver(
+        &mut self,
+        topic: TopicId,
+        receiver: &mut TopicReceiver,
+        verb: ReceiverVerb,
+    ) -> Result<TopicReceipt, NoEvent> {
+        let SharedDesk { rt, quiet, .. } = self;
+        match verb {
+            ReceiverVerb::Recv | ReceiverVerb::Changed => wake(rt, quiet),
+            _ => {}
+        }
+        match receiver {
+            TopicReceiver::Live(Channel::Broadcast(receiver)) => {
+                broadcast::receive(rt, topic, receiver, verb)
+            }
+            TopicReceiver::Live(Channel::Watch(reader)) => watch::receive(rt, topic, reader, verb),
+            TopicReceiver::Spent(_) => Err(NoEvent::NotLive),
+        }
+    }
+
+    fn resubscribe(
+        &mut self,
+        topic: TopicId,
+        receiver: &mut TopicReceiver,
+    ) -> Result<Made<TopicReceiver>, NoEvent> {
+        let SharedDesk {
+            rt, shares, live, ..
+        } = self;
+        if !make_room(shares, *live) {
+            return Err(NoEvent::Short);
+        }
+        let (after, said) = match replace(receiver, TopicReceiver::Spent(0)) {
+            TopicReceiver::Live(Channel::Broadcast(old)) => {
+                broadcast::resubscribe(rt, topic, old)
+            }
+            other => (other, Err(NoEvent::WrongKind)),
+        };
+        *receiver = after;
+        match said {
+            Ok((made, share)) => {
+                if let Some(share) = share {
+                    *live = live.saturating_add(1);
+                    keep(shares, live, topic, share);
+                }
+                Ok(made)
+            }
+            Err(why) => Err(why),
+        }
+    }
+
+    fn spend_sender(
+        &mut self,
+        topic: TopicId,
+        sender: TopicSender,
+    ) -> Result<ChannelReply, Unspent<TopicSender>> {
+        let SharedDesk {
+            rt, shares, live, ..
+        } = self;
+        match sender {
+            Channel::Broadcast(sender) => match broadcast::spend(rt, topic, sender) {
+                Ok((share, reply)) => {
+                    keep(shares, live, topic, share);
+                    Ok(reply)
+                }
+                Err((sender, why)) => Err(Unspent {
+                    handle: Channel::Broadcast(sender),
+                    why,
+                }),
+            },
+            Channel::Watch(sender) => match watch::spend(rt, topic, sender) {
+                Ok((share, reply)) => {
+                    keep(shares, live, topic, share);
+                    Ok(reply)
+                }
+                Err((sender, why)) => Err(Unspent {
+                    handle: Channel::Watch(sender),
+                    why,
+                }),
+            },
+        }
+    }
+
+    fn spend_receiver(
+        &mut self,
+        topic: TopicId,
+        receiver: TopicReceiver,
+    ) -> Result<ChannelReply, Unspent<TopicReceiver>> {
+        let SharedDesk {
+            rt, shares, live, ..
+        } = self;
+        match receiver {
+            TopicReceiver::Live(Channel::Broadcast(receiver)) => {
+                match broadcast::spend(rt, topic, receiver) {
+                    Ok((share, reply)) => {
+                        keep(shares, live, topic, share);
+                        Ok(reply)
+                    }
+                    Err((receiver, why)) => Err(Unspent {
+                        handle: TopicReceiver::Live(Channel::Broadcast(receiver)),
+                        why,
+                    }),
+                }
+            }
+            TopicReceiver::Live(Channel::Watch(reader)) => match watch::spend(rt, topic, reader) {
+                Ok((share, reply)) => {
+                    keep(shares, live, topic, share);
+                    Ok(reply)
+                }
+                Err((reader, why)) => Err(Unspent {
+                    handle: TopicReceiver::Live(Channel::Watch(reader)),
+                    why,
+                }),
+            },
+            TopicReceiver::Spent(number) => Err(Unspent {
+                handle: TopicReceiver::Spent(number),
+                why: NoEvent::NotLive,
+            }),
+        }
+    }
+
+    fn end(&mut self, topic: TopicId) -> Result<ChannelReply, NoEvent> {
+        let SharedDesk { rt, topics, .. } = self;
+        let mut topics = topics.lock(rt);
+        end(rt, &mut *topics, topic)
+    }
+
+    fn cut(&mut self, topic: TopicId) -> Result<TopicSegment, NoEvent> {
+        let SharedDesk { rt, topics, .. } = self;
+        let owner = {
+            let topics = topics.lock(rt);
+            owner_of(&*topics, topic)
+        };
+        match owner {
+            Ok(Channel::Broadcast(owner)) => match owner.cut(rt) {
+                Ok(segment) => Ok(Channel::Broadcast(segment)),
+                Err(_) => Err(NoEvent::Short),
+            },
+            Ok(Channel::Watch(owner)) => match owner.cut(rt) {
+                Ok(segment) => Ok(Channel::Watch(segment)),
+                Err(_) => Err(NoEvent::Short),
+            },
+            Err(why) => Err(why),
+        }
+    }
+
+    fn wake(&mut self) {
+        let SharedDesk { rt, quiet, .. } = self;
+        wake(rt, quiet);
+    }
+
+    fn would_wait(&mut self, _topic: TopicId, receiver: &mut TopicReceiver) -> bool {
+        let rt = &self.rt;
+        match receiver {
+            TopicReceiver::Live(Channel::Broadcast(receiver)) => {
+                receiver.would_wait(rt, &BCall::Recv(RxId(receiver.number())))
+            }
+            TopicReceiver::Live(Channel::Watch(reader)) => {
+                reader.would_wait(rt, &WCall::Changed(RxId(reader.number())))
+            }
+            TopicReceiver::Spent(_) => false,
+        }
+    }
 }

@@ -1,5 +1,8 @@
 //! What is left of a topic once nobody serves it any more.
-use crate::topic::{Own, SharedTopic, Topic};
+ghost use Rattle.std.specs.Prelude.{◌≡◌, is_some, not};
+
+use crate::topic::{First, SharedTopic, Topic};
+use th_block::Side;
 use th_log::Logged;
 use th_model::Name;
 use th_registry::Channel;
@@ -17,13 +20,26 @@ pub enum Ended {
     Held(Name, Share),
 }
 
-// The hub's own share of a topic, and the log, where no handle is left elsewhere.
-fn end<O: th_block::Channel>(topic: Topic<O>) -> (Option<Logged<O>>, Share) {
-    let Topic { owner, own } = topic;
-    let share = match own {
-        Own::Live(own) => own.handle.release(),
-        Own::Ended(share) => share,
-    };
+// The share of the hub's own sender.
+fn own_share<O: th_block::Channel, S: Side<O>>(
+    own: Option<First<O, S>>,
+    share: Option<Share>,
+) -> Share
+    requires { is_some share ≡ not (is_some own) }
+{
+    match own {
+        Some(First { handle }) => handle.release(),
+        None => match share {
+            Some(share) => share,
+            None => unreachable!(),
+        },
+    }
+}
+
+// That share, and the log, where no handle is left elsewhere.
+fn end<O: th_block::Channel, S: Side<O>>(topic: Topic<O, S>) -> (Option<Logged<O>>, Share) {
+    let Topic { owner, own, share } = topic;
+    let share = own_share(own, share);
     match owner.finish() {
         Ok(log) => (Some(log), share),
         Err(_) => (None, share),
@@ -31,7 +47,7 @@ fn end<O: th_block::Channel>(topic: Topic<O>) -> (Option<Logged<O>>, Share) {
 }
 
 /// What is left of the topic of this name.
-pub(crate) fn ended(name: Name, topic: SharedTopic) -> Ended {
+pub(crate) fn end_of(name: Name, topic: SharedTopic) -> Ended {
     match topic {
         Channel::Broadcast(topic) => {
             let (log, share) = end(topic);

@@ -8,15 +8,14 @@ ghost use Rattle.th_shared.specs.Saying.{MaySay};
 
 use crate::broadcast;
 use crate::handles::{TopicReceiver, TopicSender};
-use crate::topic::{First, Own, SharedTopic, Topic};
+use crate::topic::{First, SharedTopic, Topic};
 use crate::watch;
 use indexmap::IndexMap;
 use std::alloc::Global;
-use std::mem::replace_with;
 use std::sync::Wait;
-use th_block::{Handle, Sends};
+use th_block::{Handle, Shared, Side};
 use th_model::{Capacity, Making, Name, NameRef, Question, Start, Value};
-use th_registry::channel::TopicReceipt;
+use th_registry::channel::{HubBroadcast, HubWatch, TopicReceipt};
 use th_registry::topics::find;
 use th_registry::{Channel, ChannelReply, Made, NoEvent, Refusal, TopicId};
 
@@ -30,13 +29,14 @@ const MOST_ENTRIES: u64 = 1_000_000;
 pub(crate) type Topics = IndexMap<Name, SharedTopic>;
 
 // A topic behind the first sender of its channel, which is the hub's own.
-fn opened<O: th_block::Channel>(handle: Handle<O, Sends>) -> Option<Topic<O>>
+fn opened<O: th_block::Channel, S: Side<O>>(handle: Handle<O, S>) -> Option<Topic<O, S>>
     requires { handle.number ≡ 1 }
 {
     match handle.shared() {
         Ok(owner) => Some(Topic {
             owner,
-            own: Own::Live(First { handle }),
+            own: Some(First { handle }),
+            share: None,
         }),
         Err(_) => None,
     }
@@ -122,13 +122,13 @@ pub(crate) fn bind<R: Wait>(
 {
     match topics.get_index_mut(topic.0 as usize) {
         None => Err(NoEvent::NoTopic),
-        Some(Channel::Broadcast(Topic { own, .. })) => match own {
-            Own::Live(first) => broadcast::bind(rt, topic, &mut first.handle),
-            Own::Ended(_) => Err(NoEvent::NoSender),
+        Some(Channel::Broadcast(at)) => match &mut at.own {
+            Some(first) => broadcast::bind(rt, topic, &mut first.handle),
+            None => Err(NoEvent::NoSender),
         },
-        Some(Channel::Watch(Topic { own, .. })) => match own {
-            Own::Live(first) => watch::bind(rt, topic, &mut first.handle),
-            Own::Ended(_) => Err(NoEvent::NoSender),
+        Some(Channel::Watch(at)) => match &mut at.own {
+            Some(first) => watch::bind(rt, topic, &mut first.handle),
+            None => Err(NoEvent::NoSender),
         },
     }
 }
@@ -144,13 +144,13 @@ pub(crate) fn subscribe<R: Wait>(
 {
     match topics.get_index_mut(topic.0 as usize) {
         None => Err(NoEvent::NoTopic),
-        Some(Channel::Broadcast(Topic { own, .. })) => match own {
-            Own::Live(first) => broadcast::subscribe(rt, topic, start, &mut first.handle),
-            Own::Ended(_) => Err(NoEvent::NoSender),
+        Some(Channel::Broadcast(at)) => match &mut at.own {
+            Some(first) => broadcast::subscribe(rt, topic, start, &mut first.handle),
+            None => Err(NoEvent::NoSender),
         },
-        Some(Channel::Watch(Topic { own, .. })) => match own {
-            Own::Live(first) => watch::subscribe(rt, topic, start, &mut first.handle),
-            Own::Ended(_) => Err(NoEvent::NoSender),
+        Some(Channel::Watch(at)) => match &mut at.own {
+            Some(first) => watch::subscribe(rt, topic, start, &mut first.handle),
+            None => Err(NoEvent::NoSender),
         },
     }
 }
@@ -166,13 +166,13 @@ pub(crate) fn ask<R: Wait>(
 {
     match topics.get_index_mut(topic.0 as usize) {
         None => Err(NoEvent::NoTopic),
-        Some(Channel::Broadcast(Topic { own, .. })) => match own {
-            Own::Live(first) => broadcast::ask(rt, topic, &mut first.handle, question),
-            Own::Ended(_) => Err(NoEvent::NoSender),
+        Some(Channel::Broadcast(at)) => match &mut at.own {
+            Some(first) => broadcast::ask(rt, topic, &mut first.handle, question),
+            None => Err(NoEvent::NoSender),
         },
-        Some(Channel::Watch(Topic { own, .. })) => match own {
-            Own::Live(first) => watch::ask(rt, topic, &mut first.handle, question),
-            Own::Ended(_) => Err(NoEvent::NoSender),
+        Some(Channel::Watch(at)) => match &mut at.own {
+            Some(first) => watch::ask(rt, topic, &mut first.handle, question),
+            None => Err(NoEvent::NoSender),
         },
     }
 }
@@ -187,9 +187,25 @@ pub(crate) fn end<R: Wait>(
 {
     match topics.get_index_mut(topic.0 as usize) {
         None => Err(NoEvent::NoTopic),
-        Some(Channel::Broadcast(Topic { own, .. })) => {
-            replace_with(own, (rt, topic), broadcast::end)
-        }
-        Some(Channel::Watch(Topic { own, .. })) => replace_with(own, (rt, topic), watch::end),
+        Some(Channel::Broadcast(at)) => broadcast::end(rt, topic, at),
+        Some(Channel::Watch(at)) => watch::end(rt, topic, at),
+    }
+}
+
+/// An owner of a topic's channel, by which its log is cut.
+pub(crate) fn owner_of(
+    topics: &Topics,
+    topic: TopicId,
+) -> Result<Channel<Shared<HubBroadcast>, Shared<HubWatch>>, NoEvent> {
+    match topics.get_index(topic.0 as usize) {
+        None => Err(NoEvent::NoTopic),
+        Some((_, Channel::Broadcast(topic))) => match topic.owner.another() {
+            Ok(owner) => Ok(Channel::Broadcast(owner)),
+            Err(_) => Err(NoEvent::Short),
+        },
+        Some((_, Channel::Watch(topic))) => match topic.owner.another() {
+            Ok(owner) => Ok(Channel::Watch(owner)),
+            Err(_) => Err(NoEvent::Short),
+        },
     }
 }

@@ -1,5 +1,5 @@
 //! One topic that threads share: its channel, and the hub's own sender.
-ghost use Rattle.std.specs.Prelude.{◌≡◌};
+ghost use Rattle.std.specs.Prelude.{◌≡◌, is_some, not};
 
 use th_block::{Handle, Sends, Shared};
 use th_log::Object;
@@ -9,25 +9,21 @@ use th_seats::Share;
 
 /// A live sender that is the first handle of its channel.
 #[derive(Drop)]
-pub(crate) struct First<O: Object> {
-    pub(crate) handle: Handle<O, Sends>,
+pub(crate) struct First<O: Object, S> {
+    pub(crate) handle: Handle<O, S>,
     ghost first: { handle.number ≡ 1 },
-}
-
-/// The hub's own sender of a topic.
-#[derive(Drop)]
-pub(crate) enum Own<O: Object> {
-    Live(First<O>),
-    /// It was ended, and this is its share.
-    Ended(Share),
 }
 
 /// A topic's channel, and the hub's own sender of it.
 #[derive(Drop)]
-pub(crate) struct Topic<O: Object> {
+pub(crate) struct Topic<O: Object, S> {
     pub(crate) owner: Shared<O>,
-    pub(crate) own: Own<O>,
+    // Until its end.
+    pub(crate) own: Option<First<O, S>>,
+    // Its share, after its end.
+    pub(crate) share: Option<Share>,
+    ghost one: { is_some share ≡ not (is_some own) },
 }
 
 /// A topic of either kind.
-pub(crate) type SharedTopic = Channel<Topic<HubBroadcast>, Topic<HubWatch>>;
+pub(crate) type SharedTopic = Channel<Topic<HubBroadcast, Sends>, Topic<HubWatch, Sends>>;

@@ -10,9 +10,9 @@ ghost use Rattle.th_shared.specs.Saying.{IsLast, IsNumbered, MaySay};
 
 use crate::event::{event, is_on, last_event, why};
 use crate::handles::{TopicReceiver, TopicSender};
-use crate::topic::{First, Own};
+use crate::topic::{First, Topic};
 use std::sync::Wait;
-use th_block::{WReader, WSender, Handle, Side};
+use th_block::{WReader, WSender, Handle, Sends, Side};
 use th_log::Receipt;
 use th_model::{WReply, Question, ReceiverVerb, RxId, SenderVerb, Start, TxId, Value};
 use th_registry::calls::{watch_asked, watch_by_receiver, watch_by_sender};
@@ -184,19 +184,25 @@ pub(crate) fn spend<S: Side<HubWatch>, R: Wait>(
     }
 }
 
-/// The end of the hub's own sender: what it is then, and what was replied.
+/// The end of the hub's own sender.
 pub(crate) fn end<R: Wait>(
-    own: Own<HubWatch>,
-    at: (&R, TopicId),
-) -> (Own<HubWatch>, Result<ChannelReply, NoEvent>)
-    ensures { MaySay (On at.1.0 (DropsTx Hub)) (ended result.1) }
+    rt: &R,
+    topic: TopicId,
+    at: &mut Topic<HubWatch, Sends>,
+) -> Result<ChannelReply, NoEvent>
+    ensures { MaySay (On topic.0 (DropsTx Hub)) (ended result) }
 {
-    let (rt, topic) = at;
-    match own {
-        Own::Live(First { handle }) => match spend(rt, topic, handle) {
-            Ok((share, reply)) => (Own::Ended(share), Ok(reply)),
-            Err((handle, why)) => (Own::Live(First { handle }), Err(why)),
-        },
-        Own::Ended(share) => (Own::Ended(share), Err(NoEvent::NoSender)),
+    let Some(First { handle }) = at.own.take() else {
+        return Err(NoEvent::NoSender);
+    };
+    match spend(rt, topic, handle) {
+        Ok((share, reply)) => {
+            at.share = Some(share);
+            Ok(reply)
+        }
+        Err((handle, why)) => {
+            at.own = Some(First { handle });
+            Err(why)
+        }
     }
 }
