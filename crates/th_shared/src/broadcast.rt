@@ -10,9 +10,9 @@ ghost use Rattle.th_shared.specs.Saying.{IsLast, IsNumbered, MaySay, first};
 
 use crate::event::{event, is_on, last_event, why};
 use crate::handles::{TopicReceiver, TopicSender};
-use crate::topic::{First, Topic};
+use crate::topic::{BroadcastTopic, First};
 use std::sync::Wait;
-use th_block::{BReceiver, BSender, Handle, Replaced, Sends, Side};
+use th_block::{BReceiver, BSender, Handle, Replaced, Side};
 use th_log::Receipt;
 use th_model::{BReply, Question, ReceiverVerb, RxId, SenderVerb, Start, TxId, Value};
 use th_registry::calls::{broadcast_asked, broadcast_by_receiver, broadcast_by_sender};
@@ -206,13 +206,13 @@ pub(crate) fn resubscribe<R: Wait>(
         return (live(old), Err(NoEvent::Short));
     };
     match owner.pair_resub(rt, old) {
-        Ok((receipt, Replaced::New(new, share))) => (
-            TopicReceiver::Spent(number),
-            Ok((made_receiver(receipt, Some(new)), Some(share))),
-        ),
-        Ok((receipt, Replaced::Kept(old))) => {
-            (live(old), Ok((made_receiver(receipt, None), None)))
-        }
+        Ok((receipt, replaced)) => match replaced {
+            Replaced::New(new, share) => (
+                TopicReceiver::Spent(number),
+                Ok((made_receiver(receipt, Some(new)), Some(share))),
+            ),
+            Replaced::Kept(old) => (live(old), Ok((made_receiver(receipt, None), None))),
+        },
         Err((old, refused)) => (live(old), Err(why(refused))),
     }
 }
@@ -228,7 +228,7 @@ fn live(receiver: BReceiver<Value>) -> TopicReceiver
 pub(crate) fn end<R: Wait>(
     rt: &R,
     topic: TopicId,
-    at: &mut Topic<HubBroadcast, Sends>,
+    at: &mut BroadcastTopic,
 ) -> Result<ChannelReply, NoEvent>
     ensures { MaySay (On topic.0 (DropsTx Hub)) (ended result) }
 {

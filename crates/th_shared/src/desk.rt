@@ -45,8 +45,6 @@ pub struct SharedDesk<R: Wait + Clone> {
 }
 
 impl<R: Wait + Clone> Model for SharedDesk<R> {
-    ghost use Rattle.std.specs.Prelude.{Unit};
-
     // What other threads do is not seen at it, so contracts see nothing of it.
     ghost Value = { Unit {0} };
 

@@ -25,5 +25,11 @@ pub(crate) struct Topic<O: Object, S> {
     ghost one: { is_some share ≡ not (is_some own) },
 }
 
+/// A broadcast topic.
+pub(crate) type BroadcastTopic = Topic<HubBroadcast, Sends>;
+
+/// A watch topic.
+pub(crate) type WatchTopic = Topic<HubWatch, Sends>;
+
 /// A topic of either kind.
-pub(crate) type SharedTopic = Channel<Topic<HubBroadcast, Sends>, Topic<HubWatch, Sends>>;
+pub(crate) type SharedTopic = Channel<BroadcastTopic, WatchTopic>;

@@ -10,9 +10,9 @@ ghost use Rattle.th_shared.specs.Saying.{IsLast, IsNumbered, MaySay};
 
 use crate::event::{event, is_on, last_event, why};
 use crate::handles::{TopicReceiver, TopicSender};
-use crate::topic::{First, Topic};
+use crate::topic::{WatchTopic, First};
 use std::sync::Wait;
-use th_block::{WReader, WSender, Handle, Sends, Side};
+use th_block::{WReader, WSender, Handle, Side};
 use th_log::Receipt;
 use th_model::{WReply, Question, ReceiverVerb, RxId, SenderVerb, Start, TxId, Value};
 use th_registry::calls::{watch_asked, watch_by_receiver, watch_by_sender};
@@ -188,7 +188,7 @@ pub(crate) fn spend<S: Side<HubWatch>, R: Wait>(
 pub(crate) fn end<R: Wait>(
     rt: &R,
     topic: TopicId,
-    at: &mut Topic<HubWatch, Sends>,
+    at: &mut WatchTopic,
 ) -> Result<ChannelReply, NoEvent>
     ensures { MaySay (On topic.0 (DropsTx Hub)) (ended result) }
 {

@@ -2,8 +2,11 @@
 #![tactic(auto)]
 
 use std::process::ExitCode;
-use th_program::run_on_streams;
+use th_program::{run_on_streams, serve_by_words};
 
 fn main(rt: HostRuntime) -> ExitCode {
-    run_on_streams(&rt)
+    match serve_by_words(&rt, rt.alloc(), rt.stdout(), rt.stderr()) {
+        Some(status) => status,
+        None => run_on_streams(&rt),
+    }
 }

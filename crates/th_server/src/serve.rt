@@ -1,0 +1,158 @@
+//! A thread for each connection.
+ghost use Rattle.std.specs.Prelude.{◌≡◌, ◌<◌, ◌≤◌};
+
+use crate::observer::Observer;
+use std::alloc::Global;
+use std::os::unix::net::{UnixListener, UnixStream};
+use std::sync::Wait;
+use std::thread;
+use std::thread::Threads;
+use std::time::Clock;
+use th_lines::Counted;
+use th_registry::TopicId;
+use th_seats::Share;
+use th_session::{Gate, Session, SessionFault, run_session};
+use th_shared::SharedDesk;
+
+/// A session that has ended. It holds no handle.
+#[derive(Drop)]
+pub struct Attended<R: Wait + Clone> {
+    /// Its receipts and segments.
+    pub session: Session<SharedDesk<R>>,
+    /// The shares of the handles that it held.
+    pub shares: Vec<(TopicId, Share)>,
+    /// Why it ended before its input did, and before it was answered `BYE`.
+    pub fault: Option<SessionFault>,
+}
+
+/// What is left once all sessions have ended.
+#[derive(Drop)]
+pub struct Served<R: Wait + Clone> {
+    /// The last owner of the topics.
+    pub desk: SharedDesk<R>,
+    /// The sessions in the order of their numbers.
+    pub sessions: Vec<Attended<R>>,
+}
+
+/// Why there were fewer sessions than were asked for. Those that began have all ended.
+#[derive(Drop)]
+pub enum ServeFault<R: Wait + Clone> {
+    /// A connection could not be accepted.
+    Accept(Served<R>),
+    /// A thread could not be started. Its connection is closed.
+    Start(Served<R>),
+    /// There was no memory; `None` where there was none for the desk.
+    Short(Option<Served<R>>),
+}
+
+// Why no further connection is accepted.
+#[derive(Clone, Copy, Debug)]
+enum Stop {
+    Accept,
+    Start,
+    Short,
+}
+
+// The session of one connection, in its thread.
+fn attend<R: Wait + Clock + Clone, G: Gate, O: Observer>(
+    rt: &R,
+    alloc: Global,
+    stream: UnixStream,
+    desk: SharedDesk<R>,
+    gate: &G,
+    observer: &O,
+    number: u64,
+) -> Attended<R> {
+    let mut desk = desk;
+    let mut reader = Counted::new(&stream);
+    let mut writer = Counted::new(&stream);
+    let (session, fault) = run_session(
+        rt,
+        alloc,
+        &mut reader,
+        &mut writer,
+        &mut desk,
+        gate,
+        number,
+    );
+    observer.ended(number, fault);
+    Attended {
+        session,
+        shares: desk.into_shares(),
+        fault,
+    }
+}
+
+/// Accepts so many connections, 1 to 64, one after another, and serves each as a session in a thread of its own: they are
+/// numbered from 1, each line waits at the gate, and the observer hears of each end. It ends when all have ended.
+///
+/// # Errors
+///
+/// A connection could not be accepted, a thread could not be started, or there was no memory. No further connection is
+/// accepted then, and those that began are served to their ends.
+pub fn serve_on<R: Threads + Wait + Clock + Clone + Send + Sync, G: Gate + Sync, O: Observer + Sync>(
+    rt: &R,
+    alloc: Global,
+    listener: &UnixListener,
+    sessions: u64,
+    gate: &G,
+    observer: &O,
+) -> Result<Served<R>, ServeFault<R>>
+    requires least { 1 ≤ sessions }
+    requires most { sessions ≤ 64 }
+{
+    let Ok(own) = rt.clone() else {
+        return Err(ServeFault::Short(None));
+    };
+    let Ok(desk) = SharedDesk::new(own, alloc) else {
+        return Err(ServeFault::Short(None));
+    };
+    let shared = &desk;
+    let (ended, stop) = thread::scope(thread::scope_env(), rt, |scope| {
+        let mut ended = Vec::new(alloc);
+        let mut threads = Vec::new(alloc);
+        let mut stop = None;
+        if ended.reserve(sessions as usize).is_err()
+            || threads.reserve(sessions as usize).is_err()
+        {
+            return (ended, Some(Stop::Short));
+        }
+        for number in 0..sessions {
+            let Ok(theirs) = shared.another() else {
+                stop = Some(Stop::Short);
+                break;
+            };
+            let Ok((stream, _)) = listener.accept() else {
+                stop = Some(Stop::Accept);
+                break;
+            };
+            let Ok(handle) = scope
+                .spawn(move || attend(rt, alloc, stream, theirs, gate, observer, number + 1))
+            else {
+                stop = Some(Stop::Start);
+                break;
+            };
+            let Ok(()) = threads.push(handle) else {
+                stop = Some(Stop::Short);
+                break;
+            };
+        }
+        for handle in threads {
+            let Ok(()) = ended.push(handle.join(rt)) else {
+                stop = Some(Stop::Short);
+                break;
+            };
+        }
+        (ended, stop)
+    });
+    let served = Served {
+        desk,
+        sessions: ended,
+    };
+    match stop {
+        None => Ok(served),
+        Some(Stop::Accept) => Err(ServeFault::Accept(served)),
+        Some(Stop::Start) => Err(ServeFault::Start(served)),
+        Some(Stop::Short) => Err(ServeFault::Short(Some(served))),
+    }
+}
