@@ -1,15 +1,16 @@
 -- How a run of lines goes on, step after step.
-use Rattle.std.proofs.Common.{◌≡◌, ℕ, ◌+◌, Bool, true, false, List, [], ◌∷◌, ◌++◌, refl, sym, ap, ◌∙◌, append_assoc, append-nil, arith, length-append, add-zero, subst}
-use Rattle.std.specs.Io.KnownBytes.{Appends}
+use Rattle.std.proofs.Common.{◌≡◌, ℕ, ◌+◌, ◌<◌, Bool, true, false, List, [], ◌∷◌, ◌++◌, refl, sym, ap, ◌∙◌, append_assoc, append-nil, arith, length-append, add-zero, subst, Option}
+use Rattle.std.specs.Io.KnownBytes.{Appends, Consumes}
 use Rattle.std.specs.List.{concat}
 use Rattle.std.proofs.lemmas.List.Folds.{concat-append}
-use Rattle.std.proofs.KnownBytes.{Appends-trans}
-use Rattle.th_lines.specs.Intake.{Came, Reading, Finds, IsSameLine, lines_after}
+use Rattle.std.proofs.KnownBytes.{Appends-trans, Consumes-nil, Consumes-trans, Consumes-kept}
+use Rattle.th_lines.specs.Intake.{Came, Reading, Fills, Finds, IsSameLine, lines_after}
 use Rattle.th_lines.specs.Lines.{Line, line_of, lines_from}
-use Rattle.th_lines.specs.Output.{Output, Adds}
-use Rattle.th_lines.specs.Standing.{Standing, Turned, Advances, Stops, Ended}
+use Rattle.th_lines.specs.Output.{Output, Adds, WritesAll}
+use Rattle.th_lines.specs.Standing.{Standing, Turned, Advances, Stops, Ended, AnswersOne, Underway}
+use Rattle.th_lines.specs.declared.counted.Moved.TheVariants.{Bytes, Again}
 use Rattle.th_lines.proofs.LineLemmas.{lines_from-same}
-use Rattle.th_lines.proofs.OutputLemmas.{adds_none, adds_both, front_after, front_as}
+use Rattle.th_lines.proofs.OutputLemmas.{adds_none, adds_both, flushed_adds, front_after, front_as}
 
 -- what was written ends so after something came behind what waited
 pub ended_after : (whole : Bool) {a b : Output} {x : List ℕ} (c : Output) (y : List ℕ) → Adds x a b → Ended whole (b.waiting ++ y) b c → Ended whole (a.waiting ++ (x ++ y)) a c
@@ -33,6 +34,10 @@ module _ {S : Type 0} (turn : S → Line → List ℕ → S → Type 0) where
   turned-append [] ys s m e (r ∷ a) b p q = absurd p
   turned-append (x ∷ xs) ys s m e [] b p q = absurd p
   turned-append (x ∷ xs) ys s m e (r ∷ a) b p q = (p.0, p.1, turned-append xs ys p.0 m e a b p.2 q)
+
+-- nothing is ahead after a flush
+looked_at : {S : Type 0} (a b : Standing S) → b ≡ record a { out = b.out } → a.came.ahead ≡ [] → b.came.ahead ≡ []
+looked_at {S} a b at_first none = ap (λ (o : Standing S). o.came.ahead) at_first ∙ none
 
 module _ {S : Type 0} {turn : S → Line → List ℕ → S → Type 0} where
   -- the lines are the same, and no text was given
@@ -133,3 +138,71 @@ module _ {S : Type 0} {turn : S → Line → List ℕ → S → Type 0} where
     turned = (s, t, refl);
     said = ended_as whole o.out out (ap (λ (l : List ℕ). o.out.waiting ++ l) (sym (append-nil text))) said;
   }
+
+  -- the next line was handed out and answered
+  pub next_one : (old : Standing S) (mid : Reading) (line : Line) (text : List ℕ) (s : S) (out : Output) → Finds old.came true mid
+      → line ≡ line_of true mid.line → turn old.state line text s → Adds text old.out out → old.answered < old.limit
+      → AnswersOne turn old (record old { state = s; came = mid.came; answered = old.answered + 1; out = out })
+  next_one old mid line text s out found e t said room = record {
+    ran = answers_line old mid text s out found (subst (λ (l : Line). turn old.state l text s) e t) said;
+    one = refl;
+    within = omega (arith, room);
+  }
+
+  -- all that waited was written
+  pub flushed : (old new : Standing S) → new ≡ record old { out = new.out } → WritesAll old.out.waiting old.out new.out × (new.out.waiting ≡ [])
+      → Advances turn old [] new
+  flushed old new e f = subst (λ (o : Standing S). Advances turn old [] o) (sym e) (writes_on old new.out (flushed_adds f.0 f.1))
+
+  -- nothing was read yet
+  pub starts : (r : Option (List ℕ)) (a : Standing S) → Underway turn r r a a
+  starts r a = record { input = []; read = Consumes-nil r; ran = stands a }
+
+  module _ {r r1 : Option (List ℕ)} {a b : Standing S} (u : Underway turn r r1 a b) where
+    -- lines were answered, or replies written
+    pub goes_on : (c : Standing S) → Advances turn b [] c → Underway turn r r1 a c
+    goes_on c p = record {
+      input = u.input ++ [];
+      read = subst (λ (l : List ℕ). Consumes r r1 l) (sym (append-nil u.input)) u.read;
+      ran = both u.ran p;
+    }
+
+    -- the reader was asked for more
+    pub fills_on : (r2 : Option (List ℕ)) (n : ℕ) (c : Standing S) → c ≡ record b { came = c.came } → b.came.ahead ≡ []
+        → Fills r1 r2 (Bytes n) b.came c.came → Underway turn r r2 a c
+    fills_on r2 n c e none f = record {
+      input = u.input ++ c.came.ahead;
+      read = Consumes-trans r r1 r2 u.input c.came.ahead u.read f.2;
+      ran = both u.ran (subst (λ (o : Standing S). Advances turn b c.came.ahead o) (sym e) (takes_on b c.came none f.0));
+    }
+
+    pub waits : (r2 : Option (List ℕ)) (c : Standing S) → c ≡ record b { came = c.came } → b.came.ahead ≡ []
+        → Fills r1 r2 Again b.came c.came → Underway turn r r2 a c
+    waits r2 c e none f = record {
+      input = u.input ++ [];
+      read = subst (λ (l : List ℕ). Consumes r r2 l) (sym (append-nil u.input)) (Consumes-kept r r1 r2 u.input u.read f.2);
+      ran =
+          let came : Advances turn b [] (record b { came = c.came }) =
+          subst (λ (l : List ℕ). Advances turn b l (record b { came = c.came })) f.1 (takes_on b c.came none f.0) in
+          both u.ran (subst (λ (o : Standing S). Advances turn b [] o) (sym e) came);
+    }
+
+    -- one more read, and what came of it
+    pub underway_after : (r2 : Option (List ℕ)) (c : Standing S) → Underway turn r1 r2 b c → Underway turn r r2 a c
+    underway_after r2 c q = record {
+      input = u.input ++ q.input;
+      read = Consumes-trans r r1 r2 u.input q.input u.read q.read;
+      ran = both u.ran q.ran;
+    }
+
+  -- all that waited was written, and then the reader was asked for more
+  module _ (r r2 : Option (List ℕ)) (a b c : Standing S) (at_first : b ≡ record a { out = b.out })
+      (wrote : WritesAll a.out.waiting a.out b.out × (b.out.waiting ≡ [])) (none : a.came.ahead ≡ []) (then : c ≡ record b { came = c.came }) where
+    written : Underway turn r r a b
+    written = goes_on (starts r a) b (flushed a b at_first wrote)
+
+    pub read_some : (n : ℕ) → Fills r r2 (Bytes n) b.came c.came → Underway turn r r2 a c
+    read_some n f = fills_on written r2 n c then (looked_at a b at_first none) f
+
+    pub read_nothing : Fills r r2 Again b.came c.came → Underway turn r r2 a c
+    read_nothing f = waits written r2 c then (looked_at a b at_first none) f

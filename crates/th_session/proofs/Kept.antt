@@ -4,7 +4,7 @@ use Rattle.std.specs.Option.{option_map}
 use Rattle.std.proofs.lemmas.List.{length-append}
 use Rattle.std.proofs.lemmas.Option.{none-some, same_Some}
 use Rattle.th_lines.specs.Commands.{carries_value}
-use Rattle.th_lines.specs.Reads.{IsAsked, Reads}
+use Rattle.th_lines.specs.Reads.{Reads}
 use Rattle.th_lines.specs.declared.fault.LineFault.{LineFault}
 use Rattle.th_lines.specs.declared.fault.LineFault.TheVariants as Faults
 use Rattle.th_lines.specs.declared.command.Command.{Command}
@@ -17,7 +17,7 @@ use Rattle.th_registry.specs.History.{ChannelSegment}
 use Rattle.th_registry.specs.Receipts.{ChannelReceipt, reply_in}
 use Rattle.th_registry.specs.Hub.{Query, Said}
 use Rattle.th_session.specs.declared.session.Answer.TheVariants as answers
-use Rattle.th_session.specs.Answer.{AnswersAs, said, trace_told}
+use Rattle.th_session.specs.Answer.{AnswersAs, refused, said, trace_told}
 use Rattle.th_session.specs.Kept.{IsKept, Kept, last_of, told, with_receipt, with_segment}
 use Rattle.th_session.specs.Script.{Answer, Replied, Told, Traced}
 use Rattle.th_session.specs.Table.{replied_channel}
@@ -35,23 +35,16 @@ last-of {A = A} es e =
     ap (λ n. option_map (λ (p : TopicId × A). p.1) (slice_get (es ++ e ∷ []) n)) at
     ∙ ap (option_map (λ (p : TopicId × A). p.1)) (at-end es e)
 
--- a line that spells no command, and one for which memory was refused
 module _ {D : Type 0} (says : D → (q : Query) → Said q → D → Type 0) (had : Kept) (old : D) where
-  pub bad_line : (command : Option Command) (fault : LineFault) → fault ≡ Faults.BadLine → Reads {A = Command} carries_value (Err fault) command → AnswersAs says command had old (Replied (Refused Codes.BadLine)) had old
-  bad_line None fault is r = (refl, refl, refl)
-  bad_line (Some command) fault is r =
-      let none : Some command ≡ None = subst (λ (f : LineFault). Reads {A = Command} carries_value (Err f) (Some command)) is r in
-      absurd (let bad : ⊥ = cc in bad)
-
-  is-asked : (command : Option Command) → IsAsked carries_value command → AnswersAs says command had old (Replied (Refused Codes.NoMemory)) had old
-  is-asked None w = absurd w
-  is-asked (Some command) w = inr (refl, refl, refl, w)
-
-  pub no_memory : (command : Option Command) (fault : LineFault) → fault ≡ Faults.Short → Reads {A = Command} carries_value (Err fault) command → AnswersAs says command had old (Replied (Refused Codes.NoMemory)) had old
-  no_memory command fault is r = is-asked command (subst (λ (f : LineFault). Reads {A = Command} carries_value (Err f) command) is r)
+  -- a line that spells no command, and one for which memory was refused
+  pub refused_line : (command : Option Command) (fault : LineFault) → Reads {A = Command} carries_value (Err fault) command → AnswersAs says command had old (refused fault) had old
+  refused_line None Faults.BadLine r = (refl, refl, refl)
+  refused_line (Some command) Faults.BadLine r = absurd (let bad : ⊥ = cc in bad)
+  refused_line None Faults.Short r = absurd r
+  refused_line (Some command) Faults.Short r = inr (refl, refl, refl, r)
 
   -- a reply that tells of no event
-  as-before : (has : Kept) (answer : Answer) (reply : Reply) → answer ≡ Replied reply → has ≡ had → IsKept had answer has
+  pub as-before : (has : Kept) (answer : Answer) (reply : Reply) → answer ≡ Replied reply → has ≡ had → IsKept had answer has
   as-before has answer reply is same = (
     ap (λ (k : Kept). k.receipts) same ∙ ap (with_receipt had.receipts) (sym is),
     ap (λ (k : Kept). k.segments) same ∙ ap (with_segment had.segments) (sym is),

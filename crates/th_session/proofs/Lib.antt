@@ -8,3 +8,4 @@ mod Kept
 pub mod Live
 pub mod Living
 mod Telling
+mod Running

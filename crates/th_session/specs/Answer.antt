@@ -4,6 +4,8 @@ use Rattle.th_lines.specs.Commands.{carries_value, command_of}
 use Rattle.th_lines.specs.Output.{AddsOrFails, Output}
 use Rattle.th_lines.specs.Replies.{spell}
 use Rattle.th_lines.specs.declared.command.Command.{Command}
+use Rattle.th_lines.specs.declared.fault.LineFault.{LineFault}
+use Rattle.th_lines.specs.declared.fault.LineFault.TheVariants as Faults
 use Rattle.th_lines.specs.declared.reply.Code.TheVariants as Codes
 use Rattle.th_lines.specs.declared.reply.Reply.TheVariants.{Count, Refused}
 use Rattle.th_traces.specs.Spelled.{Bytes, text}
@@ -39,6 +41,11 @@ abbrev pub PutsTold : {A E : Type 0} → session.Answer → Kept → Output → 
 PutsTold tells has before after result =
     (answer : Answer) (had : Kept) → tells ≡ told answer → IsKept had answer has →
     AddsOrFails (said answer) before after result
+
+-- the answer to a line that gave no command
+abbrev pub refused : LineFault → Answer
+refused Faults.BadLine = Replied (Refused Codes.BadLine)
+refused Faults.Short = Replied (Refused Codes.NoMemory)
 
 module _ {D : Type 0} (says : D → (q : Query) → Said q → D → Type 0) where
   -- by what a line spells: nothing, which is answered 10; or a command, whose step this is, or whose value there was no

@@ -7,3 +7,4 @@ pub mod Live
 pub mod Laws
 pub mod Answer
 pub mod Pieces
+pub mod Run

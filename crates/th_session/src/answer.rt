@@ -1,7 +1,8 @@
 //! One line answered: from its bytes to the bytes of its answer.
+ghost use Rattle.std.specs.Prelude.{◌≡◌};
 ghost use Rattle.th_lines.specs.Output.{output};
-ghost use Rattle.th_session.specs.Answer.{Answers, Puts, PutsTold};
-ghost use Rattle.th_session.specs.Kept.{Tells};
+ghost use Rattle.th_session.specs.Answer.{Answers, Puts, PutsTold, refused};
+ghost use Rattle.th_session.specs.Kept.{Tells, told};
 
 use crate::session::{Answer, Session};
 use crate::told::append_told;
@@ -11,6 +12,16 @@ use std::io::Write;
 use th_lines::{Code, Counted, LineFault, Reply, WriteBuffer, WriteFailed, read_command};
 use th_registry::Desk;
 
+// The answer to a line that gave no command.
+pub(crate) fn refused(fault: LineFault) -> Answer
+    ensures { result ≡ told (refused fault) }
+{
+    match fault {
+        LineFault::BadLine => Answer::Reply(Reply::Refused(Code::BadLine)),
+        LineFault::Short => Answer::Reply(Reply::Refused(Code::NoMemory)),
+    }
+}
+
 impl<D: Desk> Session<D> {
     // The answer to a line.
     fn answer_to(&mut self, alloc: Global, desk: &mut D, line: &[u8]) -> Answer
@@ -19,8 +30,7 @@ impl<D: Desk> Session<D> {
     {
         match read_command(alloc, line) {
             Ok(command) => self.step(desk, command),
-            Err(LineFault::BadLine) => Answer::Reply(Reply::Refused(Code::BadLine)),
-            Err(LineFault::Short) => Answer::Reply(Reply::Refused(Code::NoMemory)),
+            Err(fault) => refused(fault),
         }
     }
 

@@ -13,15 +13,22 @@
 
 mod action;
 pub mod answer;
+mod fault;
+mod gate;
 pub mod laws;
 pub mod local;
 mod quit;
 mod receipts;
+mod replies;
+mod run;
 pub mod seats;
 pub mod session;
 mod table;
 mod told;
 mod trace;
 
+pub use fault::SessionFault;
+pub use gate::{Gate, OpenGate};
+pub use run::run_session;
 pub use seats::Seats;
 pub use session::{Answer, Session};

@@ -1,4 +1,5 @@
 //! The end of all that an actor holds.
+ghost use Rattle.std.specs.Prelude.{◌≡◌, []};
 ghost use Rattle.std.specs.Option.{option_map};
 ghost use Rattle.th_session.specs.Held.{Holding, held, numbers};
 ghost use Rattle.th_session.specs.Script.{Answer, Plays, Replied, Script, spend_all, spend_receiver, spend_sender};
@@ -45,12 +46,12 @@ fn leave<D: Desk>(desk: &mut D, topic: TopicId, seats: Seats<D::Tx, D::Rx>)
 }
 
 // Spends each handle, topics in order of opening, whatever is said of it.
-pub(crate) fn quit<D: Desk>(seats: &mut BTreeMap<u64, Seats<D::Tx, D::Rx>>, desk: &mut D) -> Reply
-    ensures { Plays D.says (spend_all (held D.tx D.rx seats.old.entries)) desk.old
-        (Replied result) (held D.tx D.rx seats.new.entries) desk.new }
+pub(crate) fn quit<D: Desk>(seats: &mut BTreeMap<u64, Seats<D::Tx, D::Rx>>, desk: &mut D)
+    ensures spent { Plays D.says (spend_all (held D.tx D.rx seats.old.entries)) desk.old
+        (Replied Reply.Bye) [] desk.new }
+    ensures none { seats.new.entries ≡ [] }
 {
     while let Some((topic, both)) = seats.pop_first() {
         leave(desk, TopicId(topic), both);
     }
-    Reply::Bye
 }

@@ -3,7 +3,7 @@ ghost use Rattle.std.specs.Prelude.{◌≡◌, [], option_copied};
 ghost use Rattle.th_registry.specs.Hub.{Find};
 ghost use Rattle.th_session.specs.Held.{Holding, held};
 ghost use Rattle.th_session.specs.Kept.{Tells, last_of, with_receipt, with_segment};
-ghost use Rattle.th_session.specs.Script.{Ask, Plays, at_topic, traced};
+ghost use Rattle.th_session.specs.Script.{Ask, Plays, Replied, at_topic, spend_all, traced};
 ghost use Rattle.th_session.specs.Step.{IsStep};
 
 use crate::action::act;
@@ -15,7 +15,7 @@ use std::alloc::Global;
 use std::collections::BTreeMap;
 use std::marker::Model;
 use th_lines::{Action, Code, Command, Reply};
-use th_model::NameRef;
+use th_model::{NameRef, ReceiverVerb};
 use th_registry::channel::{TopicReceipt, TopicSegment};
 use th_registry::{Desk, TopicId};
 
@@ -106,6 +106,24 @@ fn trace<D: Desk>(
     }
 }
 
+// Whether the actor's own receiver of this topic, if there is one, has its next value still to come.
+fn would_wait<D: Desk>(
+    seats: &mut BTreeMap<u64, Seats<D::Tx, D::Rx>>,
+    desk: &mut D,
+    topic: TopicId,
+) -> bool
+    ensures held { held D.tx D.rx seats.new.entries ≡ held D.tx D.rx seats.old.entries }
+    ensures desk { desk.new ≡ desk.old }
+{
+    let Some(seat) = seats.get_mut(&topic.0) else {
+        return false;
+    };
+    let Some(receiver) = &mut seat.receiver else {
+        return false;
+    };
+    desk.would_wait(topic, receiver)
+}
+
 impl<D: Desk> Session<D> {
     /// An actor that holds nothing, and was told nothing. It takes no memory.
     pub fn new(alloc: Global) -> Session<D>
@@ -176,7 +194,51 @@ impl<D: Desk> Session<D> {
             }
             Command::Trace(name) => trace(&mut self.segments, desk, &name),
             Command::List => Answer::Reply(replied_list(desk.list())),
-            Command::Quit => Answer::Reply(quit(&mut self.seats, desk)),
+            Command::Quit => {
+                quit(&mut self.seats, desk);
+                Answer::Reply(Reply::Bye)
+            }
+        }
+    }
+
+    /// Spends each handle, topics in order of opening and the sender of each before the receiver, as `Quit` does. Nothing
+    /// is held then, whatever the desk said.
+    pub fn spend_all(&mut self, desk: &mut D)
+        ensures spent { Plays D.says (spend_all self.old.handles) desk.old (Replied Reply.Bye) [] desk.new }
+        ensures none { self.new ≡ record self.old { handles = [] } }
+    {
+        quit(&mut self.seats, desk);
+    }
+
+    /// What the actor was told, without the actor: each receipt and each segment, with its topic, in the order of the
+    /// answers. It costs nothing. Handles that are still held are not spent, and stay live: so it comes after `Quit`,
+    /// [`Session::spend_all`], or a run.
+    pub fn parts(self) -> (Vec<(TopicId, TopicReceipt)>, Vec<(TopicId, TopicSegment)>)
+        ensures receipts { result.0.items ≡ self.receipts }
+        ensures segments { result.1.items ≡ self.segments }
+    {
+        let Session {
+            receipts,
+            segments,
+            ..
+        } = self;
+        (receipts, segments)
+    }
+
+    /// Whether this command would wait at the desk now: it is by the actor's receiver, it waits for a value, and that has
+    /// still to come.
+    pub(crate) fn would_wait(&mut self, desk: &mut D, command: &Command<'_>) -> bool
+        ensures session { self.new ≡ self.old }
+        ensures desk { desk.new ≡ desk.old }
+    {
+        let Command::On(name, Action::ByReceiver(ReceiverVerb::Recv | ReceiverVerb::Changed)) =
+            command
+        else {
+            return false;
+        };
+        match desk.find(name) {
+            Some(found) => would_wait(&mut self.seats, desk, found.topic),
+            None => false,
         }
     }
 }

@@ -8,6 +8,7 @@ use Rattle.th_registry.specs.declared.channel.Channel.TheVariants.{Broadcast, Wa
 use Rattle.th_registry.specs.declared.outcome.ChannelReply.{ChannelReply}
 use Rattle.th_registry.specs.declared.outcome.ChannelReply.TheVariants as replies
 use Rattle.th_registry.specs.declared.outcome.Unspent.{Unspent}
+use Rattle.th_registry.specs.Calls.{Bytes}
 use Rattle.th_registry.specs.Events.{DropsRx, DropsTx, Event, Hub, Own, Replied}
 use Rattle.th_registry.specs.Typed.{spent}
 use Rattle.th_shared.specs.declared.handles.TopicReceiver.{TopicReceiver}
@@ -25,25 +26,25 @@ module _ {H : Type 0} (n : ℕ) where
   not-spent e result unspent is = subst (λ r. Says e r) (sym is) refl
 
   module _ (result : Result ChannelReply (Unspent H)) (reply : ChannelReply) (is : result ≡ Ok reply) (h : Holder) where
-    pub sender-spent : (s : Channel Holder Holder) → s ≡ Broadcast h → IsLast n (last_of_sender h.number) (λ r. replies.Broadcast r) reply → Says (DropsTx (Own (sender s))) result
+    pub sender-spent : (s : Channel Holder Holder) → s ≡ Broadcast h → IsLast n (last_of_sender {T = Bytes} h.number) (λ r. replies.Broadcast r) reply → Says (DropsTx (Own (sender s))) result
     sender-spent s side last =
         subst (λ s. Says (DropsTx (Own (sender s))) result) (sym side)
         (subst (λ r. Says (DropsTx (Own (sender (Broadcast h)))) r) (sym is)
         (Broadcast last.0, (last.1, ap (λ r. Replied r) last.2), refl))
 
-    pub writer-spent : (s : Channel Holder Holder) → s ≡ Watch h → IsLast n (last_of_writer h.number) (λ r. replies.Watch r) reply → Says (DropsTx (Own (sender s))) result
+    pub writer-spent : (s : Channel Holder Holder) → s ≡ Watch h → IsLast n (last_of_writer {T = Bytes} h.number) (λ r. replies.Watch r) reply → Says (DropsTx (Own (sender s))) result
     writer-spent s side last =
         subst (λ s. Says (DropsTx (Own (sender s))) result) (sym side)
         (subst (λ r. Says (DropsTx (Own (sender (Watch h)))) r) (sym is)
         (Watch last.0, (last.1, ap (λ r. Replied r) last.2), refl))
 
-    pub receiver-spent : (s : TopicReceiver) → s ≡ Live (Broadcast h) → IsLast n (last_of_receiver h.number) (λ r. replies.Broadcast r) reply → Says (DropsRx (receiver s)) result
+    pub receiver-spent : (s : TopicReceiver) → s ≡ Live (Broadcast h) → IsLast n (last_of_receiver {T = Bytes} h.number) (λ r. replies.Broadcast r) reply → Says (DropsRx (receiver s)) result
     receiver-spent s side last =
         subst (λ s. Says (DropsRx (receiver s)) result) (sym side)
         (subst (λ r. Says (DropsRx (receiver (Live (Broadcast h)))) r) (sym is)
         (Broadcast last.0, (last.1, ap (λ r. Replied r) last.2), refl))
 
-    pub reader-spent : (s : TopicReceiver) → s ≡ Live (Watch h) → IsLast n (last_of_reader h.number) (λ r. replies.Watch r) reply → Says (DropsRx (receiver s)) result
+    pub reader-spent : (s : TopicReceiver) → s ≡ Live (Watch h) → IsLast n (last_of_reader {T = Bytes} h.number) (λ r. replies.Watch r) reply → Says (DropsRx (receiver s)) result
     reader-spent s side last =
         subst (λ s. Says (DropsRx (receiver s)) result) (sym side)
         (subst (λ r. Says (DropsRx (receiver (Live (Watch h)))) r) (sym is)

@@ -1,6 +1,7 @@
 use Rattle.std.proofs.Common.{refl, sym, ap, subst, ◌∙◌}
 use Rattle.th_lines.specs.declared.command.Command.{Command}
 use Rattle.th_lines.specs.declared.command.Command.TheVariants as Commands
+use Rattle.th_lines.specs.declared.reply.Reply.TheVariants.{Bye}
 use Rattle.th_session.specs.Held.{Holding, held}
 use Rattle.th_session.specs.Kept.{Kept, with_receipt, with_segment}
 use Rattle.th_session.specs.Script.{Plays, Replied, script}
@@ -51,6 +52,10 @@ returns-in-List g c =
 
 pub returns-in-Quit : goal.returns-in-Quit
 returns-in-Quit g c =
-    let P : Holding → Command → Type 0 = λ h command. Plays g.D.Desk.says (script h command) c.args.desk.now (Replied c.quit.result) (held g.D.Desk.tx g.D.Desk.rx c.quit.new.seats.entries) c.quit.new.desk in
+    let had = held g.D.Desk.tx g.D.Desk.rx c.self.inside.seats.entries in
+    let P : Holding → Holding → Command → Type 0 = λ h after command. Plays g.D.Desk.says (script h command) c.args.desk.now (Replied Bye) after c.quit.new.desk in
     let same = ap (λ (k : Kept). k.handles) c.self.view_is in
-    (Replied c.quit.result, refl, (subst (P c.args.self.now.handles) (sym c.in-Quit.is) (subst (λ h. P h Commands.Quit) same c.quit.ensures), (ap (λ (k : Kept). k.receipts) c.self.view_is, ap (λ (k : Kept). k.segments) c.self.view_is)))
+    let none = ap (held g.D.Desk.tx g.D.Desk.rx) c.quit.ensures.none in
+    let after = held g.D.Desk.tx g.D.Desk.rx c.quit.new.seats.entries in
+    let spent : P had after Commands.Quit = subst (λ after. P had after Commands.Quit) (sym none) c.quit.ensures.spent in
+    (Replied Bye, refl, (subst (P c.args.self.now.handles after) (sym c.in-Quit.is) (subst (λ h. P h after Commands.Quit) same spent), (ap (λ (k : Kept). k.receipts) c.self.view_is, ap (λ (k : Kept). k.segments) c.self.view_is)))

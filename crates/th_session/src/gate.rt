@@ -1,0 +1,30 @@
+//! When a line may be carried out.
+ghost use Rattle.std.specs.Prelude.{◌≡◌, true};
+
+/// Lets the lines of sessions through, one by one, and is told of their replies. A session asks and tells often, so
+/// neither call is to wait.
+///
+/// A gate holds a line back as long as it says no: so it can set the order of the lines of several sessions. A session
+/// asks for one line at most 1,000 times, and sleeps 10 milliseconds between two times.
+pub trait Gate {
+    /// Whether this line of this session may be carried out now. Lines are counted from 1.
+    fn may(&self, session: u64, line: u64) -> bool;
+
+    /// The reply to this line of this session is written and flushed. This comes once for each line, in their order, but
+    /// for those before which the writer failed.
+    fn answered(&self, session: u64, line: u64);
+}
+
+/// Lets every line through.
+#[derive(Clone, Copy, Debug, Drop)]
+pub struct OpenGate;
+
+impl Gate for OpenGate {
+    fn may(&self, _session: u64, _line: u64) -> bool
+        ensures { result ≡ true }
+    {
+        true
+    }
+
+    fn answered(&self, _session: u64, _line: u64) {}
+}

@@ -1,0 +1,156 @@
+//! The replies of a session that wait to be written, and its gate, which is told of them.
+ghost use Rattle.std.specs.Prelude.{◌≡◌, []};
+ghost use Rattle.th_lines.specs.Output.{AddsOrFails, Flushes, output};
+ghost use Rattle.th_session.specs.Answer.{PutsTold};
+ghost use Rattle.th_session.specs.Run.{Enters};
+
+use crate::fault::SessionFault;
+use crate::gate::Gate;
+use crate::session::{Answer, Session};
+use std::io::Write;
+use std::marker::Model;
+use std::thread::sleep;
+use std::time::{Clock, Duration};
+use th_lines::{Command, Counted, WriteBuffer, WriteFailed};
+use th_registry::Desk;
+
+/// How often a gate is asked for one line.
+const MOST_ASKS: u32 = 1000;
+
+/// How long a session sleeps at a gate before it asks again, in milliseconds.
+const PAUSE: u64 = 10;
+
+/// The replies of a session that wait, and its gate.
+#[derive(Drop)]
+pub(crate) struct Replies<'a, C, G> {
+    clock: &'a C,
+    gate: &'a G,
+    // The session's number.
+    session: u64,
+    // The answers' texts that are not written yet.
+    waiting: WriteBuffer,
+    // For how many lines the gate was told that their replies are written.
+    told: u64,
+}
+
+impl<'a, C, G> Model for Replies<'a, C, G> {
+    ghost use Rattle.std.specs.Prelude.{ℕ, List};
+
+    ghost Value = { List ℕ };
+
+    ghost view = { λ r. r.waiting };
+}
+
+// Tells the gate of each line behind the first ones, up to the one of this number.
+fn tell<G: Gate>(gate: &G, session: u64, told: u64, answered: u64) {
+    for line in told..answered {
+        gate.answered(session, line + 1);
+    }
+}
+
+impl<'a, C: Clock, G: Gate> Replies<'a, C, G> {
+    /// Nothing waits yet.
+    pub(crate) fn new(
+        clock: &'a C,
+        gate: &'a G,
+        session: u64,
+        waiting: WriteBuffer,
+    ) -> Replies<'a, C, G>
+        ensures { result ≡ waiting }
+    {
+        Replies {
+            clock,
+            gate,
+            session,
+            waiting,
+            told: 0,
+        }
+    }
+
+    /// Wakes who waits for what was done, writes all that waits, and tells the gate of the lines whose replies are
+    /// written by that. So many lines were answered.
+    pub(crate) fn settle<D: Desk, W: Write>(
+        &mut self,
+        desk: &mut D,
+        writer: &mut Counted<W>,
+        answered: u64,
+    ) -> Result<(), WriteFailed>
+        ensures desk { desk.new ≡ desk.old }
+        ensures wrote { Flushes
+            (output W.contents writer.old self.old) (output W.contents writer.new self.new) result }
+    {
+        desk.wake();
+        let waiting = &mut self.waiting;
+        match waiting.flush(writer) {
+            Ok(()) => {}
+            Err(e) => return Err(e),
+        }
+        tell(self.gate, self.session, self.told, answered);
+        self.told = answered;
+        Ok(())
+    }
+
+    /// Settles where lines were answered since and this command would wait at the desk. So many lines were answered.
+    pub(crate) fn settle_before<D: Desk, W: Write>(
+        &mut self,
+        session: &mut Session<D>,
+        desk: &mut D,
+        writer: &mut Counted<W>,
+        answered: u64,
+        command: &Command<'_>,
+    ) -> Result<(), WriteFailed>
+        ensures session { session.new ≡ session.old }
+        ensures desk { desk.new ≡ desk.old }
+        ensures wrote { AddsOrFails []
+            (output W.contents writer.old self.old) (output W.contents writer.new self.new) result }
+    {
+        if self.told < answered && session.would_wait(desk, command) {
+            return self.settle(desk, writer, answered);
+        }
+        Ok(())
+    }
+
+    /// Waits until the gate lets the next line through. So many lines were answered. All replies are written before each
+    /// sleep.
+    pub(crate) fn enter<D: Desk, W: Write>(
+        &mut self,
+        desk: &mut D,
+        writer: &mut Counted<W>,
+        answered: u64,
+    ) -> Result<(), SessionFault>
+        ensures desk { desk.new ≡ desk.old }
+        ensures wrote { Enters
+            (output W.contents writer.old self.old) (output W.contents writer.new self.new) result }
+    {
+        let line = answered.saturating_add(1);
+        if self.gate.may(self.session, line) {
+            return Ok(());
+        }
+        for _ in 1..MOST_ASKS {
+            match self.settle(desk, writer, answered) {
+                Ok(()) => {}
+                Err(_) => return Err(SessionFault::Write),
+            }
+            sleep(self.clock, Duration::from_millis(PAUSE));
+            if self.gate.may(self.session, line) {
+                return Ok(());
+            }
+        }
+        Err(SessionFault::Gate)
+    }
+
+    /// Puts the text of the answer that the session was given last behind what waits.
+    #[inline(always)]
+    pub(crate) fn put<D: Desk, W: Write>(
+        &mut self,
+        session: &Session<D>,
+        answer: Answer,
+        writer: &mut Counted<W>,
+    ) -> Result<(), WriteFailed>
+        ensures { PutsTold answer session.now
+            (output W.contents writer.old self.old) (output W.contents writer.new self.new) result }
+    {
+        let waiting = &mut self.waiting;
+        session.put_answer(answer, waiting, writer)
+    }
+}
