@@ -8,10 +8,10 @@ use crate::serve::serve;
 use crate::words::mode;
 use std::alloc::{AllocError, Global};
 use std::env;
-use std::io::{ErrorKind, IsTerminal, Write};
+use std::io::{Eprint, ErrorKind, IsTerminal, Write};
 use std::net::Net;
 use std::process::ExitCode;
-use std::rt::{Env, Eprint, Files};
+use std::rt::{Env, Files};
 use std::sync::Wait;
 use std::thread::Threads;
 use std::time::Clock;
@@ -27,9 +27,9 @@ enum Unknown {
 }
 
 // The words of the command line, the program's name first.
-fn given<R: Env>(rt: &R, alloc: Global) -> Result<Vec<String>, Unknown> {
+fn given<R: Env + AllocGlobal>(rt: &R) -> Result<Vec<String>, Unknown> {
     match env::args(rt) {
-        Ok(words) => match words.collect(alloc) {
+        Ok(words) => match words.collect(rt.alloc()) {
             Ok(words) => Ok(words),
             Err(_) => Err(Unknown::Short),
         },
@@ -65,16 +65,16 @@ fn to_serve(alloc: Global, words: &[&str]) -> Option<(String, u64)>
 /// Serves where the words of the command line ask for it, and answers the exit status; `None` where they ask for
 /// something else, or are wrong. What is said goes to the output, and what stopped it to standard error.
 pub fn serve_by_words<
-    R: Threads + Wait + Clock + Clone + Send + Sync + Env + Eprint + Files + Net,
-    W: Write,
-    E: Write,
+    R: Threads + Wait + Clock + Clone + Send + Sync + Env + Eprint + Files + Net + AllocGlobal,
+    W: Write + Drop,
+    E: Write + Drop,
 >(
     rt: &R,
-    alloc: Global,
     output: W,
     errors: E,
 ) -> Option<ExitCode> {
-    let given = match given(rt, alloc) {
+    let alloc = rt.alloc();
+    let given = match given(rt) {
         Ok(given) => given,
         Err(_) => return None,
     };
@@ -104,7 +104,7 @@ fn is_replay(words: &[&str]) -> bool {
 /// pieces already.
 pub fn run_on_streams(rt: &HostRuntime) -> ExitCode {
     let alloc = rt.alloc();
-    let given = given(rt, alloc);
+    let given = given(rt);
     let words = match &given {
         Ok(given) => match texts(alloc, given.as_slice()) {
             Ok(words) => Ok(words),

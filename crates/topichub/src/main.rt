@@ -5,7 +5,7 @@ use std::process::ExitCode;
 use th_program::{run_on_streams, serve_by_words};
 
 fn main(rt: HostRuntime) -> ExitCode {
-    match serve_by_words(&rt, rt.alloc(), rt.stdout(), rt.stderr()) {
+    match serve_by_words(&rt, rt.stdout(), rt.stderr()) {
         Some(status) => status,
         None => run_on_streams(&rt),
     }
