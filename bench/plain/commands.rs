@@ -26,6 +26,7 @@ pub enum Making<'a> {
 }
 
 /// What is asked of a topic.
+#[derive(Clone, Copy)]
 pub enum Verb<'a> {
     /// Of a topic of any kind.
     Any(Any<'a>),
@@ -41,6 +42,7 @@ pub enum Verb<'a> {
     Write(Change, &'a [u8]),
 }
 
+#[derive(Clone, Copy)]
 pub enum Any<'a> {
     Bind,
     Unbind,
@@ -51,6 +53,7 @@ pub enum Any<'a> {
     End,
 }
 
+#[derive(Clone, Copy)]
 pub enum Receive {
     Try,
     Next,
@@ -58,6 +61,7 @@ pub enum Receive {
     Left,
 }
 
+#[derive(Clone, Copy)]
 pub enum Look {
     Get,
     Take,
@@ -68,6 +72,7 @@ pub enum Look {
     Unmark,
 }
 
+#[derive(Clone, Copy)]
 pub enum Change {
     Swap,
     Set,
@@ -195,16 +200,21 @@ fn command<'a>(word: &[u8], rest: &'a [u8]) -> Option<Command<'a>> {
     }
 }
 
+/// The command of a line that names no actor.
+pub fn read(line: &[u8]) -> Option<Command<'_>> {
+    match line {
+        b"LIST" => Some(Command::List),
+        b"QUIT" => Some(Command::Quit),
+        _ => {
+            let (word, rest) = split_field(line)?;
+            command(word, rest)
+        }
+    }
+}
+
 /// The actor and the command of a line.
+#[allow(dead_code)] // a session's lines name no actor
 pub fn step(line: &[u8]) -> Option<(&[u8], Command<'_>)> {
     let (actor, rest) = name_field(line)?;
-    let command = match rest {
-        b"LIST" => Command::List,
-        b"QUIT" => Command::Quit,
-        _ => {
-            let (word, rest) = split_field(rest)?;
-            command(word, rest)?
-        }
-    };
-    Some((actor, command))
+    Some((actor, read(rest)?))
 }

@@ -3,13 +3,10 @@
 // The schedules of the bench have no `TRACE`, so nothing reads a log.
 #![allow(dead_code)]
 
-use std::rc::Rc;
+use crate::Value;
 
 /// The most entries of a log.
 const ENTRIES_LIMIT: u64 = 1_000_000;
-
-/// The bytes of a value stand in memory once, for the channel, the log, the receipts and the reply.
-pub type Value = Rc<[u8]>;
 
 /// What was asked by the handle with this number.
 #[derive(Clone)]
