@@ -16,14 +16,14 @@ use th_replay::{ReplayFault, replay, replay_bounded};
 /// How a device behaves: it moves at most so many bytes at a call, and from its k-th call on, counted from 1, so many
 /// calls fail so.
 #[derive(Clone, Copy)]
-struct Manner {
-    most: usize,
-    fails_at: u64,
-    times: u64,
-    kind: ErrorKind,
+pub(crate) struct Manner {
+    pub(crate) most: usize,
+    pub(crate) fails_at: u64,
+    pub(crate) times: u64,
+    pub(crate) kind: ErrorKind,
 }
 
-const WELL: Manner = Manner {
+pub(crate) const WELL: Manner = Manner {
     most: usize::MAX,
     fails_at: 0,
     times: 1,
@@ -38,7 +38,7 @@ impl Manner {
 }
 
 #[derive(Drop)]
-struct Source<'a> {
+pub(crate) struct Source<'a> {
     rest: &'a [u8],
     calls: u64,
     manner: Manner,
@@ -58,8 +58,8 @@ impl<'a> Read for Source<'a> {
 }
 
 #[derive(Drop)]
-struct Sink {
-    text: Vec<u8>,
+pub(crate) struct Sink {
+    pub(crate) text: Vec<u8>,
     flushed: usize,
     calls: u64,
     manner: Manner,
@@ -100,7 +100,7 @@ struct Outcome {
     is_counted: bool,
 }
 
-fn reader_of(input: &[u8], manner: Manner) -> Counted<Source<'_>> {
+pub(crate) fn reader_of(input: &[u8], manner: Manner) -> Counted<Source<'_>> {
     Counted::new(Source {
         rest: input,
         calls: 0,
@@ -108,7 +108,7 @@ fn reader_of(input: &[u8], manner: Manner) -> Counted<Source<'_>> {
     })
 }
 
-fn writer_to(alloc: Global, manner: Manner) -> Result<Counted<Sink>, AllocError> {
+pub(crate) fn writer_to(alloc: Global, manner: Manner) -> Result<Counted<Sink>, AllocError> {
     let text = Vec::with_capacity(alloc, 32768)?;
     Ok(Counted::new(Sink {
         text,

@@ -9,6 +9,7 @@ mod memory;
 mod order;
 mod receipts;
 mod rows;
+mod runs;
 mod segments;
 mod traces;
 

@@ -1,4 +1,4 @@
-//! Sessions: what one actor has, and its commands carried out at a desk.
+//! Sessions: what one actor has, and its commands carried out at a desk, one by one or a whole run of lines.
 //!
 //! ```text
 //! let mut desk = LocalDesk::new(alloc);
@@ -8,6 +8,12 @@
 //! step(&mut bob, &mut desk, read_command(alloc, b"NEXT news")?);         // Blocked: nothing is sent yet
 //! step(&mut bob, &mut desk, read_command(alloc, b"TRACE news")?);        // Trace: of the segment that bob keeps last
 //! step(&mut bob, &mut desk, Command::Quit);                              // Bye
+//!
+//! let mut reader = Counted::new(&b"READERS news\nSUB news\nQUIT\n"[..]);
+//! let mut writer = Counted::new(Vec::new(alloc));
+//! let (carol, fault) = run_session(&rt, alloc, &mut reader, &mut writer, &mut desk, &OpenGate, 1);
+//! // fault is None, writer.device() has "OK 0\nOK\nBYE\n", and carol holds nothing
+//! let (receipts, segments) = carol.parts();                              // the two receipts, and no segment
 //! ```
 #![tactic(auto)]
 
