@@ -10,8 +10,8 @@ pub trait Gate {
     /// Whether this line of this session may be carried out now. Lines are counted from 1.
     fn may(&self, session: u64, line: u64) -> bool;
 
-    /// The reply to this line of this session is written and flushed. This comes once for each line, in their order, but
-    /// for those before which the writer failed.
+    /// The reply to this line of this session is written and flushed. This comes once for each line that was carried
+    /// out, in their order, but for those whose replies were not written since the writer failed.
     fn answered(&self, session: u64, line: u64);
 }
 

@@ -110,8 +110,8 @@ impl<'a, C: Clock, G: Gate> Replies<'a, C, G> {
         Ok(())
     }
 
-    /// Waits until the gate lets the next line through. So many lines were answered. All replies are written before each
-    /// sleep.
+    /// Waits until the gate lets the next line through. So many lines were answered. All replies are written before
+    /// each sleep.
     pub(crate) fn enter<D: Desk, W: Write>(
         &mut self,
         desk: &mut D,

@@ -1,6 +1,5 @@
 //! A session's run: lines are read, carried out one by one, and answered.
 ghost use Rattle.std.specs.Prelude.{◌≡◌, [], IfOk, true};
-ghost use Rattle.th_lines.specs.Device.{failures_after, one_more};
 ghost use Rattle.th_lines.specs.Intake.{line_given};
 ghost use Rattle.th_lines.specs.Output.{output};
 ghost use Rattle.th_lines.specs.Standing.{FlushesOn};
@@ -172,10 +171,8 @@ impl<'a, D: Desk, C: Clock, G: Gate> Run<'a, D, C, G> {
     // Makes one read.
     fn fill<R: Read>(&mut self, reader: &mut Counted<R>) -> Moved
         requires { self.old.came.ahead ≡ [] }
-        ensures filled { FillsOn
-            (R.remaining reader.old.device) (R.remaining reader.new.device) result
+        ensures { FillsOn (R.remaining reader.old.device) (R.remaining reader.new.device) result
             self.old self.new }
-        ensures failures { reader.new.failures ≡ failures_after reader.old.failures result }
     {
         self.intake.fill(reader)
     }
@@ -302,7 +299,8 @@ impl<'a, D: Desk, C: Clock, G: Gate> Run<'a, D, C, G> {
         }
     }
 
-    // Reads on until the run is over, by at most so many reads, and answers the lines as they come. Replies may wait then.
+    // Reads on until the run is over, by at most so many reads, and answers the lines as they come. Replies may wait
+    // then.
     fn read_all<R: Read, W: Write>(
         &mut self,
         alloc: Global,
@@ -362,27 +360,27 @@ fn is_whole(fault: Option<SessionFault>) -> bool
 }
 
 /// Carries out the lines of a reader as the session of this number, one by one, and writes their replies. The session
-/// ends after the line that is answered `BYE`, of which no further line is read; at the end of its input, where what
-/// stands after the last LF is a line too; or by a fault. However it ends, it then spends all its handles: what it hands
-/// out holds none, and has the receipts and the segments that it was answered ([`Session::parts`]).
+/// ends after the line that is answered `BYE`, behind which none is read; at the end of its input, where what stands
+/// after the last LF is a line too; or by a fault. However it ends, it then spends all its handles: the session that is
+/// handed out holds none, and has the receipts and the segments that it was answered ([`Session::parts`]).
 ///
-/// Lines that come together are carried out together, and their replies are written by one call: before each read, before
-/// a command that would wait at the desk, before each sleep at the gate, and at the end. So no reply is held back while
-/// the session waits for anything. Each time the desk wakes who waits for what was done, and the gate is told of each line
-/// whose reply is written.
+/// Lines that come together are carried out together, and their replies are written in one piece: before each read,
+/// before a command that would wait at the desk, before each sleep at the gate, and at the end. So no reply is held back
+/// while the session waits for anything. Each time the desk wakes who waits for what was done, and the gate is told of
+/// each line whose reply is written.
 ///
-/// It answers at most 1,000,000 lines and makes at most 2^32 reads, of which an interrupted one is made again and counts;
-/// at most 1,000 interrupted writes and flushes are made again. All its buffers, 133 KiB, are made at the start; where
-/// memory is refused later, the line is answered `ERR 21 no-memory` and nothing else has changed. A line of more than 4,096
-/// bytes is answered `ERR 23 long-line`. A line costs no call of the reader or the writer, and no memory but for what its
-/// command takes. Each line's receipt is kept until the session is let go.
+/// It answers at most 1,000,000 lines and makes at most 2^32 reads, of which an interrupted one is made again and
+/// counts; at most 1,000 interrupted writes and flushes are made again. All its buffers, 132 KiB, are made at the start;
+/// where memory is refused later, the line is answered `ERR 21 no-memory` and nothing else has changed. A line of more
+/// than 4,096 bytes is answered `ERR 23 long-line`. A line costs no call of the reader or the writer, and no memory but
+/// for what its command takes; its receipt is kept until the session is let go.
 ///
 /// # Faults
 ///
-/// `Read` and `Write` where the reader and the writer failed; `Gate` at the 1,000th no to one line, some 10 seconds after
-/// the first; `TooLong` where a line beyond the bound begins or one more read would be needed; `Short` where there is no
-/// memory for the buffers, before the first read. All lines that were carried out are answered, and but for `Write` all
-/// replies are written.
+/// `Read` and `Write` where the reader and the writer failed; `Gate` at the 1,000th no to one line, some 10 seconds
+/// after the first; `TooLong` where a line beyond the bound begins or one more read would be needed; `Short` where there
+/// is no memory for the buffers, before the first read. All lines that were carried out are answered, and but for `Write`
+/// all replies are written.
 pub fn run_session<C: Clock, R: Read, W: Write, D: Desk, G: Gate>(
     rt: &C,
     alloc: Global,

@@ -201,18 +201,19 @@ impl<D: Desk> Session<D> {
         }
     }
 
-    /// Spends each handle, topics in order of opening and the sender of each before the receiver, as `Quit` does. Nothing
-    /// is held then, whatever the desk said.
+    /// Spends each handle, topics in order of opening and the sender of each before the receiver, as `Quit` does.
+    /// Nothing is held then, whatever the desk said. It costs one event for each handle.
     pub fn spend_all(&mut self, desk: &mut D)
-        ensures spent { Plays D.says (spend_all self.old.handles) desk.old (Replied Reply.Bye) [] desk.new }
+        ensures spent { Plays D.says (spend_all self.old.handles) desk.old
+            (Replied Reply.Bye) [] desk.new }
         ensures none { self.new ≡ record self.old { handles = [] } }
     {
         quit(&mut self.seats, desk);
     }
 
-    /// What the actor was told, without the actor: each receipt and each segment, with its topic, in the order of the
-    /// answers. It costs nothing. Handles that are still held are not spent, and stay live: so it comes after `Quit`,
-    /// [`Session::spend_all`], or a run.
+    /// What the actor was told, without the actor: the receipts and the segments, each with its topic, in the order of
+    /// the answers. They are moved, so it costs nothing. Handles that are still held are not spent, and stay live: so it
+    /// comes after `Quit`, [`Session::spend_all`] or a run.
     pub fn parts(self) -> (Vec<(TopicId, TopicReceipt)>, Vec<(TopicId, TopicSegment)>)
         ensures receipts { result.0.items ≡ self.receipts }
         ensures segments { result.1.items ≡ self.segments }
@@ -225,8 +226,8 @@ impl<D: Desk> Session<D> {
         (receipts, segments)
     }
 
-    /// Whether this command would wait at the desk now: it is by the actor's receiver, it waits for a value, and that has
-    /// still to come.
+    /// Whether this command would wait at the desk now: it is by the actor's receiver, it waits for a value, and that
+    /// has still to come.
     pub(crate) fn would_wait(&mut self, desk: &mut D, command: &Command<'_>) -> bool
         ensures session { self.new ≡ self.old }
         ensures desk { desk.new ≡ desk.old }

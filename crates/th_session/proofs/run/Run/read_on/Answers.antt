@@ -13,30 +13,30 @@ returns-in-Err g c =
 
 pub returns-in-Ok-finish : goal.returns-in-Ok-finish
 returns-in-Ok-finish g c =
-    let then = ap (λ (k : Course). stands g.W.Write.contents c.settle.new.writer c.settle.new.desk k) c.in-Bytes-eq0.ensures.filled.0 in
-    let u = lines.read_some {turn = line_turn g.D.Desk.says} _ _ _ _ _ c.in-Ok.ensures.0 c.in-Ok.ensures.1 c.requires then _ c.in-Bytes-eq0.ensures.filled.1 in
-    halted g.D.Desk.says u true None _ _ (λ _. c.in-Bytes-eq0.ensures.filled.1.3 c.in-Bytes-eq0.field-0-test) c.in-Ok-finish.ensures
+    let then = ap (λ (k : Course). stands g.W.Write.contents c.settle.new.writer c.settle.new.desk k) c.in-Bytes-eq0.ensures.0 in
+    let u = lines.read_some {turn = line_turn g.D.Desk.says} _ _ _ _ _ c.in-Ok.ensures.0 c.in-Ok.ensures.1 c.requires then _ c.in-Bytes-eq0.ensures.1 in
+    halted g.D.Desk.says u true None _ _ (λ _. c.in-Bytes-eq0.ensures.1.3 c.in-Bytes-eq0.field-0-test) c.in-Ok-finish.ensures
 
 pub returns-in-Err-finish : goal.returns-in-Err-finish
 returns-in-Err-finish g c =
-    let then = ap (λ (k : Course). stands g.W.Write.contents c.settle.new.writer c.settle.new.desk k) c.in-Bytes-eq0.ensures.filled.0 in
-    let u = lines.read_some {turn = line_turn g.D.Desk.says} _ _ _ _ _ c.in-Ok.ensures.0 c.in-Ok.ensures.1 c.requires then _ c.in-Bytes-eq0.ensures.filled.1 in
-    halted g.D.Desk.says u true (Some c.in-Err-finish.e) _ _ (λ _. c.in-Bytes-eq0.ensures.filled.1.3 c.in-Bytes-eq0.field-0-test) c.in-Err-finish.ensures
+    let then = ap (λ (k : Course). stands g.W.Write.contents c.settle.new.writer c.settle.new.desk k) c.in-Bytes-eq0.ensures.0 in
+    let u = lines.read_some {turn = line_turn g.D.Desk.says} _ _ _ _ _ c.in-Ok.ensures.0 c.in-Ok.ensures.1 c.requires then _ c.in-Bytes-eq0.ensures.1 in
+    halted g.D.Desk.says u true (Some c.in-Err-finish.e) _ _ (λ _. c.in-Bytes-eq0.ensures.1.3 c.in-Bytes-eq0.field-0-test) c.in-Err-finish.ensures
 
 pub returns-in-Bytes : goal.returns-in-Bytes
 returns-in-Bytes g c =
-    let then = ap (λ (k : Course). stands g.W.Write.contents c.settle.new.writer c.settle.new.desk k) c.in-Bytes.ensures.filled.0 in
-    let u = lines.read_some {turn = line_turn g.D.Desk.says} _ _ _ _ _ c.in-Ok.ensures.0 c.in-Ok.ensures.1 c.requires then _ c.in-Bytes.ensures.filled.1 in
+    let then = ap (λ (k : Course). stands g.W.Write.contents c.settle.new.writer c.settle.new.desk k) c.in-Bytes.ensures.0 in
+    let u = lines.read_some {turn = line_turn g.D.Desk.says} _ _ _ _ _ c.in-Ok.ensures.0 c.in-Ok.ensures.1 c.requires then _ c.in-Bytes.ensures.1 in
     reads_goes g.D.Desk.says u _ c.answer_all.result c.answer_all.ensures
 
 pub returns-in-Again : goal.returns-in-Again
 returns-in-Again g c =
-    let then = ap (λ (k : Course). stands g.W.Write.contents c.settle.new.writer c.settle.new.desk k) c.in-Again.ensures.filled.0 in
-    let u = lines.read_nothing {turn = line_turn g.D.Desk.says} _ _ _ _ _ c.in-Ok.ensures.0 c.in-Ok.ensures.1 c.requires then c.in-Again.ensures.filled.1 in
-    (u, c.in-Again.ensures.filled.1.1)
+    let then = ap (λ (k : Course). stands g.W.Write.contents c.settle.new.writer c.settle.new.desk k) c.in-Again.ensures.0 in
+    let u = lines.read_nothing {turn = line_turn g.D.Desk.says} _ _ _ _ _ c.in-Ok.ensures.0 c.in-Ok.ensures.1 c.requires then c.in-Again.ensures.1 in
+    (u, c.in-Again.ensures.1.1)
 
 pub returns-in-Failed : goal.returns-in-Failed
 returns-in-Failed g c =
-    let then = ap (λ (k : Course). stands g.W.Write.contents c.settle.new.writer c.settle.new.desk k) c.in-Failed.ensures.filled.0 in
-    let u = lines.read_nothing {turn = line_turn g.D.Desk.says} _ _ _ _ _ c.in-Ok.ensures.0 c.in-Ok.ensures.1 c.requires then c.in-Failed.ensures.filled.1 in
+    let then = ap (λ (k : Course). stands g.W.Write.contents c.settle.new.writer c.settle.new.desk k) c.in-Failed.ensures.0 in
+    let u = lines.read_nothing {turn = line_turn g.D.Desk.says} _ _ _ _ _ c.in-Ok.ensures.0 c.in-Ok.ensures.1 c.requires then c.in-Failed.ensures.1 in
     halted_here g.D.Desk.says u Read refl
