@@ -5,12 +5,12 @@ use Rattle.std.specs.List.{concat}
 use Rattle.std.proofs.Math.Seq.{take-append_seam}
 use Rattle.th_lines.specs.Intake.{lines_after, nothing_came}
 use Rattle.th_lines.specs.Lines.{Line, lines_from, lines_of}
-use Rattle.th_lines.specs.Standing.{Standing}
+use Rattle.th_lines.specs.Standing.{Standing, Underway}
 use Rattle.th_lines.proofs.LineLemmas.{last_line-none, lines_from-some}
 use Rattle.th_lines.proofs.OutputLemmas.{adds_all}
 use Rattle.th_replay.specs.Outcome.{AllAnswered, BrokenOff, Comes, Devices, PastLines, Replayed}
-use Rattle.th_replay.specs.Progress.{BreaksOff, Finishes, IsAtRest, IsFull, ReadsOn, Underway}
-use Rattle.th_replay.specs.Session.{LineMachine, session_end, session_text}
+use Rattle.th_replay.specs.Progress.{BreaksOff, Finishes, IsAtRest, IsFull, ReadsOn}
+use Rattle.th_replay.specs.Session.{LineMachine, Turns, session_end, session_text}
 use Rattle.th_replay.specs.declared.fault.ReplayFault.{ReplayFault}
 use Rattle.th_replay.specs.declared.fault.ReplayFault.TheVariants.{Read, Write, TooLong, Short}
 use Rattle.th_replay.proofs.SessionLemmas.{session_text-append}
@@ -36,7 +36,7 @@ module _ {S : Type 0} (m : LineMachine S) (start : S) (limit failures : ℕ) (ol
   begun = first start limit old.contents failures
 
   -- what was written is the session text of the lines that were answered
-  texts : (u : Underway m old.remaining new.remaining begun now) → now.out.waiting ≡ []
+  texts : (u : Underway (Turns m) old.remaining new.remaining begun now) → now.out.waiting ≡ []
       → (marks : List Bool) × (length marks ≡ length u.ran.done) × Appends old.contents new.contents (session_text m start u.ran.done marks)
   texts u none =
       let t = turned_text m u.ran.done start u.ran.texts now.state u.ran.turned in
@@ -47,7 +47,7 @@ module _ {S : Type 0} (m : LineMachine S) (start : S) (limit failures : ℕ) (ol
             (subst (λ (l : List ℕ). Appends old.contents now.out.written l) (sym t.text) all.wrote),
       )
 
-  pub all_answered : Underway m old.remaining new.remaining begun now → IsAtRest now → AllAnswered m start old new
+  pub all_answered : Underway (Turns m) old.remaining new.remaining begun now → IsAtRest now → AllAnswered m start old new
   all_answered u rest =
       let t = texts u rest.0 in
       let none : lines_after false now.came [] ≡ [] =
@@ -62,7 +62,7 @@ module _ {S : Type 0} (m : LineMachine S) (start : S) (limit failures : ℕ) (ol
         wrote = subst (λ (l : List Line). Appends old.contents new.contents (session_text m start l t.0)) (sym all) t.2;
       }
 
-  past_lines : Underway m old.remaining new.remaining begun now → now.out.waiting ≡ [] → IsFull now → PastLines m start limit old new
+  past_lines : Underway (Turns m) old.remaining new.remaining begun now → now.out.waiting ≡ [] → IsFull now → PastLines m start limit old new
   past_lines u none full =
       let t = texts u none in
       let rest : List Line = lines_after true now.came [] in

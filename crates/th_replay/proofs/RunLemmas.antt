@@ -2,18 +2,17 @@
 use Rattle.std.proofs.Common.{◌≡◌, ℕ, ◌+◌, ◌<◌, ◌≤◌, Bool, true, false, List, [], ◌∷◌, ◌++◌, length, refl, sym, ap, ◌∙◌, append-nil, arith, Option, Some, None, Ok, Err, subst, length-append}
 use Rattle.std.specs.Prelude.{Result, IfOk}
 use Rattle.std.specs.Io.KnownBytes.{Consumes, IsAtEnd}
-use Rattle.std.proofs.KnownBytes.{Consumes-nil, Consumes-trans, Consumes-kept}
+use Rattle.std.proofs.KnownBytes.{Consumes-trans}
 use Rattle.std.proofs.lemmas.Bool.{false≢true}
-use Rattle.th_lines.specs.Intake.{Came, Reading, Fills, Finds, lines_after, nothing_came}
+use Rattle.th_lines.specs.Intake.{Came, Reading, Finds, lines_after, nothing_came}
 use Rattle.th_lines.specs.Lines.{Line, line_of, lines_from}
 use Rattle.th_lines.specs.Output.{Output, Adds, Flushes, WritesAll, WritesFront}
-use Rattle.th_lines.specs.Standing.{Standing, Advances, Stops}
-use Rattle.th_lines.specs.declared.counted.Moved.TheVariants.{Bytes, Again}
+use Rattle.th_lines.specs.Standing.{Standing, Advances, AnswersOne, FlushesOn, Stops, Underway}
 use Rattle.th_lines.proofs.LineLemmas.{last_line-one}
-use Rattle.th_lines.proofs.OutputLemmas.{adds_flushed, flushed_adds, waiting_front}
-use Rattle.th_lines.proofs.StandingLemmas.{answers_line, both, looks_on, stands, stops_after, stops_at, stops_here, takes_on, writes_on}
+use Rattle.th_lines.proofs.OutputLemmas.{adds_flushed, waiting_front}
+use Rattle.th_lines.proofs.StandingLemmas.{both, looks_on, stands, stops_after, stops_at, stops_here, underway_after}
 use Rattle.th_replay.specs.Session.{LineMachine, Turns}
-use Rattle.th_replay.specs.Progress.{AnswersAll, AnswersNext, AnswersOne, BreaksOff, Closes, ClosesOrFails, Finishes, FlushesOn, IsFull, ReadsOn, Underway}
+use Rattle.th_replay.specs.Progress.{AnswersAll, AnswersNext, BreaksOff, Closes, ClosesOrFails, Finishes, IsFull, ReadsOn}
 use Rattle.th_replay.specs.declared.fault.RunFault.{RunFault}
 use Rattle.th_replay.specs.declared.fault.RunFault.TheVariants.{Write, TooLong}
 use Rattle.th_replay.specs.declared.fault.ReplayFault.{ReplayFault}
@@ -23,16 +22,6 @@ pub none_came : (c : Came) → c.begun ≡ [] → c.ahead ≡ [] → c ≡ nothi
 none_came c e f = λ i. record { begun = e i; ahead = f i }
 
 module _ {S : Type 0} (m : LineMachine S) where
-  -- the next line was handed out and answered
-  pub next_one : (old : Standing S) (mid : Reading) (line : Line) (text : List ℕ) (s : S) (out : Output) → Finds old.came true mid
-      → line ≡ line_of true mid.line → Turns m old.state line text s → Adds text old.out out → old.answered < old.limit
-      → AnswersOne m old (record old { state = s; came = mid.came; answered = old.answered + 1; out = out })
-  next_one old mid line text s out found e t said room = record {
-    ran = answers_line old mid text s out found (subst (λ (l : Line). Turns m old.state l text s) e t) said;
-    one = refl;
-    within = omega (arith, room);
-  }
-
   -- it was answered, and the writer failed
   pub next_broken : (old : Standing S) (mid : Reading) (line : Line) (text : List ℕ) (s : S) (out : Output) → Finds old.came true mid
       → line ≡ line_of true mid.line → Turns m old.state line text s → WritesFront (old.out.waiting ++ text) old.out out
@@ -54,7 +43,7 @@ module _ {S : Type 0} (m : LineMachine S) where
   full old e some = (stands old, record { bound = e; beyond = some })
 
   -- by the answer whether there was a line
-  pub next_true : (old new : Standing S) (more : Bool) → more ≡ true → AnswersNext m old new (Ok more) → AnswersOne m old new
+  pub next_true : (old new : Standing S) (more : Bool) → more ≡ true → AnswersNext m old new (Ok more) → AnswersOne (Turns m) old new
   next_true old new more e h = subst (λ (b : Bool). AnswersNext m old new (Ok b)) e h
 
   pub next_false : (old new : Standing S) (more : Bool) → more ≡ false → AnswersNext m old new (Ok more)
@@ -76,11 +65,7 @@ module _ {S : Type 0} (m : LineMachine S) where
       → Advances (Turns m) old [] new × IsFull new
   all_full old new fault e h = subst (λ (f : RunFault). AnswersAll m {A = Unit {0}} old new (Err f)) e h
 
-  -- all that waited was written
-  pub flushed : (old new : Standing S) → new ≡ record old { out = new.out } → WritesAll old.out.waiting old.out new.out × (new.out.waiting ≡ [])
-      → Advances (Turns m) old [] new
-  flushed old new e f = subst (λ (o : Standing S). Advances (Turns m) old [] o) (sym e) (writes_on old new.out (flushed_adds f.0 f.1))
-
+  -- the writer failed where all that waited was to be written
   pub flush_broken : (old new : Standing S) (ended : Bool) → new ≡ record old { out = new.out } → WritesFront old.out.waiting old.out new.out
       → Stops (Turns m) old [] ended false new.state new.out
   flush_broken old new ended e f =
@@ -132,39 +117,7 @@ module _ {S : Type 0} (m : LineMachine S) where
   closes_empty old new (Ok count) none f counted within = closes_none old new count none f.0 f.1.0 counted within
   closes_empty old new (Err e) none f counted within = flush_broken old new true f.0 f.1
 
-  -- nothing was read yet
-  pub starts : (r : Option (List ℕ)) (a : Standing S) → Underway m r r a a
-  starts r a = record { input = []; read = Consumes-nil r; ran = stands a }
-
-  module _ {r r1 : Option (List ℕ)} {a b : Standing S} (u : Underway m r r1 a b) where
-    -- lines were answered, or replies written
-    pub goes_on : (c : Standing S) → Advances (Turns m) b [] c → Underway m r r1 a c
-    goes_on c p = record {
-      input = u.input ++ [];
-      read = subst (λ (l : List ℕ). Consumes r r1 l) (sym (append-nil u.input)) u.read;
-      ran = both u.ran p;
-    }
-
-    -- the reader was asked for more
-    pub fills_on : (r2 : Option (List ℕ)) (n : ℕ) (c : Standing S) → c ≡ record b { came = c.came } → b.came.ahead ≡ []
-        → Fills r1 r2 (Bytes n) b.came c.came → Underway m r r2 a c
-    fills_on r2 n c e none f = record {
-      input = u.input ++ c.came.ahead;
-      read = Consumes-trans r r1 r2 u.input c.came.ahead u.read f.2;
-      ran = both u.ran (subst (λ (o : Standing S). Advances (Turns m) b c.came.ahead o) (sym e) (takes_on b c.came none f.0));
-    }
-
-    pub waits : (r2 : Option (List ℕ)) (c : Standing S) → c ≡ record b { came = c.came } → b.came.ahead ≡ []
-        → Fills r1 r2 Again b.came c.came → Underway m r r2 a c
-    waits r2 c e none f = record {
-      input = u.input ++ [];
-      read = subst (λ (l : List ℕ). Consumes r r2 l) (sym (append-nil u.input)) (Consumes-kept r r1 r2 u.input u.read f.2);
-      ran =
-          let came : Advances (Turns m) b [] (record b { came = c.came }) =
-          subst (λ (l : List ℕ). Advances (Turns m) b l (record b { came = c.came })) f.1 (takes_on b c.came none f.0) in
-          both u.ran (subst (λ (o : Standing S). Advances (Turns m) b [] o) (sym e) came);
-    }
-
+  module _ {r r1 : Option (List ℕ)} {a b : Standing S} (u : Underway (Turns m) r r1 a b) where
     -- the writer failed
     pub breaks : (ended : Bool) (c : Standing S) → (ended ≡ true → IsAtEnd r1) → Stops (Turns m) b [] ended false c.state c.out
         → BreaksOff m r r1 a c
@@ -198,22 +151,15 @@ module _ {S : Type 0} (m : LineMachine S) where
     }
 
     -- one more read, and what came of it
-    underway_after : (r2 : Option (List ℕ)) (c : Standing S) → Underway m r1 r2 b c → Underway m r r2 a c
-    underway_after r2 c q = record {
-      input = u.input ++ q.input;
-      read = Consumes-trans r r1 r2 u.input q.input u.read q.read;
-      ran = both u.ran q.ran;
-    }
-
     pub reads_after : (r2 : Option (List ℕ)) (c : Standing S) (result : Result (Option ℕ) ReplayFault) → ReadsOn m r1 r2 b c result → ReadsOn m r r2 a c result
-    reads_after r2 c (Ok None) q = (underway_after r2 c q.0, q.1)
+    reads_after r2 c (Ok None) q = (underway_after u r2 c q.0, q.1)
     reads_after r2 c (Ok (Some count)) q = record {
       input = u.input ++ q.input;
       read = Consumes-trans r r1 r2 u.input q.input u.read q.read;
       end = q.end;
       closed = closes_after q.input c count q.closed;
     }
-    reads_after r2 c (Err Faults.Read) q = (underway_after r2 c q.0, q.1)
+    reads_after r2 c (Err Faults.Read) q = (underway_after u r2 c q.0, q.1)
     reads_after r2 c (Err Faults.Write) q = record {
       input = u.input ++ q.input;
       read = Consumes-trans r r1 r2 u.input q.input u.read q.read;
@@ -221,26 +167,11 @@ module _ {S : Type 0} (m : LineMachine S) where
       whole = q.whole;
       stopped = stops_after u.ran q.stopped;
     }
-    reads_after r2 c (Err Faults.TooLong) q = (underway_after r2 c q.0, q.1, q.2)
+    reads_after r2 c (Err Faults.TooLong) q = (underway_after u r2 c q.0, q.1, q.2)
     reads_after r2 c (Err Faults.Short) q = absurd q
 
-  -- all that waited was written, and then the reader was asked for more
-  module _ (r r2 : Option (List ℕ)) (a b c : Standing S) (at_first : b ≡ record a { out = b.out })
-      (wrote : WritesAll a.out.waiting a.out b.out × (b.out.waiting ≡ [])) (none : a.came.ahead ≡ []) (then : c ≡ record b { came = c.came }) where
-    written : Underway m r r a b
-    written = goes_on (starts r a) b (flushed a b at_first wrote)
-
-    looked_at : b.came.ahead ≡ []
-    looked_at = ap (λ (o : Standing S). o.came.ahead) at_first ∙ none
-
-    pub read_some : (n : ℕ) → Fills r r2 (Bytes n) b.came c.came → Underway m r r2 a c
-    read_some n f = fills_on written r2 n c then looked_at f
-
-    pub read_nothing : Fills r r2 Again b.came c.came → Underway m r r2 a c
-    read_nothing f = waits written r2 c then looked_at f
-
   -- by the answer of one read
-  pub reads_none : (r r' : Option (List ℕ)) (o n : Standing S) (x : Option ℕ) → x ≡ None → ReadsOn m r r' o n (Ok x) → Underway m r r' o n × (n.came.ahead ≡ [])
+  pub reads_none : (r r' : Option (List ℕ)) (o n : Standing S) (x : Option ℕ) → x ≡ None → ReadsOn m r r' o n (Ok x) → Underway (Turns m) r r' o n × (n.came.ahead ≡ [])
   reads_none r r' o n x e h = subst (λ (y : Option ℕ). ReadsOn m r r' o n (Ok y)) e h
 
   pub reads_some : (r r' : Option (List ℕ)) (o n : Standing S) (x : Option ℕ) (count : ℕ) → x ≡ Some count → ReadsOn m r r' o n (Ok x) → Finishes m r r' o n count

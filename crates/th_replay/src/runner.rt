@@ -2,7 +2,8 @@
 ghost use Rattle.std.specs.Prelude.{◌≡◌, ◌≤◌, ◌+◌, [], IfOk, OnOk};
 ghost use Rattle.th_lines.specs.Device.{failures_after, one_more};
 ghost use Rattle.th_replay.specs.Outcome.{Comes, devices, reader_failures, writer_failures};
-ghost use Rattle.th_replay.specs.Progress.{AnswersAll, AnswersNext, ClosesOrFails, FillsOn, FlushesOn, ReadsOn, beginning, stands};
+ghost use Rattle.th_lines.specs.Standing.{FlushesOn};
+ghost use Rattle.th_replay.specs.Progress.{AnswersAll, AnswersNext, ClosesOrFails, FillsOn, ReadsOn, beginning, stands};
 ghost use Rattle.th_replay.specs.Schedule.{answers, seen_start};
 
 use crate::actors::Hub;

@@ -1,13 +1,14 @@
 use Rattle.std.proofs.Common.{◌≡◌, ◌∙◌, ◌+◌, Bool, [], ap, arith, false, subst, sym}
 use Rattle.std.specs.Prelude.{Result}
 use Rattle.th_lines.specs.Output.{Output, output}
-use Rattle.th_lines.specs.Standing.{Advances, Standing, Stops}
+use Rattle.th_lines.specs.Standing.{Advances, AnswersOne, Standing, Stops}
+use Rattle.th_lines.proofs.StandingLemmas.{next_one}
 use Rattle.th_registry.specs.Pictures.{SeenTopics}
 use Rattle.th_replay.specs.declared.fault.RunFault.{RunFault}
-use Rattle.th_replay.specs.Progress.{AnswersNext, AnswersOne, Course, IsFull, stands}
+use Rattle.th_replay.specs.Progress.{AnswersNext, Course, IsFull, stands}
 use Rattle.th_replay.specs.Schedule.{Hub, answers}
 use Rattle.th_replay.specs.Session.{Turns}
-use Rattle.th_replay.proofs.RunLemmas.{full, next_broken, next_none, next_one, nothing_next}
+use Rattle.th_replay.proofs.RunLemmas.{full, next_broken, next_none, nothing_next}
 use Rattle.th_replay.proofs.runner.Runner.answer_next.Goals.{in-Ok, in-Err}
 use Rattle.th_replay.proofs.runner.Runner.answer_next.Goals as goal
 
@@ -46,8 +47,8 @@ returns g c =
       | in-Ok w ↦
           (let answer = w.in-Ok.ensures in
           subst P (sym w.result-is)
-          (subst (λ (k : Course). AnswersOne answers (at k) new) c.self.view_is
-          (next_one answers (at o) mid _ answer.0 c.answer.new.self out c.if-not-next_line.ensures c.line-line.ensures answer.1 answer.2 c.if-self.false)))
+          (subst (λ (k : Course). AnswersOne (Turns answers) (at k) new) c.self.view_is
+          (next_one (at o) mid _ answer.0 c.answer.new.self out c.if-not-next_line.ensures c.line-line.ensures answer.1 answer.2 c.if-self.false)))
       | in-Err w ↦
           (let answer = w.in-Err.ensures in
           subst P (sym w.result-is)

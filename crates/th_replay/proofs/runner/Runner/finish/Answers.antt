@@ -2,9 +2,9 @@ use Rattle.std.proofs.Common.{◌≡◌, ◌<◌, ◌∙◌, ◌+◌, [], ap, fa
 use Rattle.th_lines.specs.Intake.{Came, Reading, line_given, nothing_came}
 use Rattle.th_lines.specs.Lines.{Line, line_of}
 use Rattle.th_lines.specs.Output.{Output, output}
-use Rattle.th_lines.specs.Standing.{Standing, Stops}
+use Rattle.th_lines.specs.Standing.{FlushesOn, Standing, Stops}
 use Rattle.th_registry.specs.Pictures.{SeenTopics}
-use Rattle.th_replay.specs.Progress.{ClosesOrFails, Course, FlushesOn, stands}
+use Rattle.th_replay.specs.Progress.{ClosesOrFails, Course, stands}
 use Rattle.th_replay.specs.Schedule.{Hub, answers}
 use Rattle.th_replay.specs.Session.{Turns}
 use Rattle.th_replay.proofs.RunLemmas.{closes_broken, closes_empty, closes_last, none_came}

@@ -1,12 +1,14 @@
 use Rattle.std.proofs.Common.{◌∙◌, List, ℕ, Err, None, Ok, Some, ap, arith, inr, refl, subst, sym}
 use Rattle.std.specs.Prelude.{Option}
 use Rattle.th_registry.specs.Pictures.{SeenTopics}
-use Rattle.th_lines.specs.Standing.{Standing}
+use Rattle.th_lines.specs.Standing.{Standing, Underway}
+use Rattle.th_lines.proofs.StandingLemmas.{flushed, goes_on, starts}
 use Rattle.th_replay.specs.Outcome.{Devices, devices}
-use Rattle.th_replay.specs.Progress.{Course, Underway, beginning, stands}
+use Rattle.th_replay.specs.Progress.{Course, beginning, stands}
 use Rattle.th_replay.specs.Schedule.{Hub, answers, seen_start}
+use Rattle.th_replay.specs.Session.{Turns}
 use Rattle.th_replay.proofs.Endings.{all_answered, broken_off, comes_done, comes_fault}
-use Rattle.th_replay.proofs.RunLemmas.{breaks_in, flush_broken, flushed, goes_on, reads_after, reads_none, reads_some, starts}
+use Rattle.th_replay.proofs.RunLemmas.{breaks_in, flush_broken, reads_after, reads_none, reads_some}
 use Rattle.th_replay.proofs.runner.Runner.run.Goals as goal
 
 pub loop-made-init : goal.loop-made-init
@@ -15,7 +17,7 @@ loop-made-init g c =
     let at : Course → Standing (Hub SeenTopics) = λ k. stands g.W.Write.contents c.args.writer.now k in
     let start : Standing (Hub SeenTopics) = at (beginning c.args.self.now.limit) in
     record {
-      under = subst (λ (k : Course). Underway answers r r start (at k)) (sym c.requires) (starts answers r start);
+      under = subst (λ (k : Course). Underway (Turns answers) r r start (at k)) (sym c.requires) (starts r start);
       looked_at = ap (λ (k : Course). k.came.ahead) c.requires;
       calls = omega arith;
       reads = omega arith;
@@ -57,7 +59,7 @@ returns-in-Ok-clause-comes g c =
     let new : Devices = devices g.R.Read.remaining c.loop-made.reader g.W.Write.contents c.flush.new.writer in
     let now = stands g.W.Write.contents c.flush.new.writer c.flush.new.self in
     let looked_at = ap (λ (o : Standing (Hub SeenTopics)). o.came.ahead) c.in-Ok.ensures.0 ∙ c.loop-made.invariant.looked_at in
-    let after = goes_on answers c.loop-made.invariant.under now (flushed answers _ now c.in-Ok.ensures.0 c.in-Ok.ensures.1) in
+    let after = goes_on c.loop-made.invariant.under now (flushed _ now c.in-Ok.ensures.0 c.in-Ok.ensures.1) in
     inr (
       all_answered answers seen_start c.args.self.now.limit c.args.writer.now.failures old new now refl after (c.in-Ok.ensures.1.1, looked_at),
       omega (arith, c.loop-made.invariant.calls),
