@@ -1,6 +1,7 @@
 //! The words of the command line.
 
-ghost use Rattle.std.specs.Prelude.{◌≡◌, ◌≢◌, ◌⊎◌, ◌≤◌, IfErr, IfOk, IfSome, Ok, OnOk, [], codes, map, option_map};
+ghost use Rattle.std.specs.Prelude.{◌≡◌, ◌≢◌, ◌⊎◌, ◌≤◌, IfErr, IfOk, IfSome, Ok, OnOk, [], codes, false, map, option_map};
+ghost use Rattle.clap.specs.declared.builder.command.Command.TheViews.{out-Command};
 ghost use Rattle.clap.specs.Words.{app_of, fault_of, kind_of, new_app, subcommand_name_of, with_subcommand};
 ghost use Rattle.th_program.specs.Words.{AreCheck, AreReplay, AreHelp, AreVersion, AreNone, IsHelp, IsUsage, GivesCheck, GivesMode, GivesReplay, GivesFault, HasSessions, asked_by, asked_of, command_line, serve_line, with_required};
 
@@ -48,7 +49,8 @@ fn with_check<'a>(alloc: Global, program: Command<'a>) -> Result<Command<'a>, Al
 
 // The mode that serves, with its words.
 fn serve_command<'a>(alloc: Global) -> Result<Command<'a>, AllocError>
-    ensures { IfOk result (λ c. app_of c ≡ serve_line) }
+    ensures app { IfOk result (λ c. app_of c ≡ serve_line) }
+    ensures local { IfOk result (λ c. (out-Command c).has_globals ≡ false) }
 {
     let path = Arg::new(alloc, "PATH")
         .help(SERVE_PATH)

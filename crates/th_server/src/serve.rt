@@ -90,7 +90,11 @@ fn attend<R: Wait + Clock + Clone, G: Gate, O: Observer>(
 ///
 /// A connection could not be accepted, a thread could not be started, or there was no memory. No further connection is
 /// accepted then, and those that began are served to their ends.
-pub fn serve_on<R: Threads + Wait + Clock + Clone + Send + Sync, G: Gate + Sync, O: Observer + Sync>(
+pub fn serve_on<
+    R: Threads + Wait + Clock + Clone + Send + Sync,
+    G: Gate + Sync,
+    O: Observer + Sync,
+>(
     rt: &R,
     alloc: Global,
     listener: &UnixListener,
@@ -117,7 +121,8 @@ pub fn serve_on<R: Threads + Wait + Clock + Clone + Send + Sync, G: Gate + Sync,
         {
             return (ended, Some(Stop::Short));
         }
-        for number in 0..sessions {
+        for before in 0..sessions {
+            let number = before.saturating_add(1);
             let Ok(theirs) = shared.another() else {
                 stop = Some(Stop::Short);
                 break;
@@ -126,9 +131,9 @@ pub fn serve_on<R: Threads + Wait + Clock + Clone + Send + Sync, G: Gate + Sync,
                 stop = Some(Stop::Accept);
                 break;
             };
-            let Ok(handle) = scope
-                .spawn(move || attend(rt, alloc, stream, theirs, gate, observer, number + 1))
-            else {
+            let Ok(handle) = scope.spawn(move || attend(
+                rt, alloc, stream, theirs, gate, observer, number,
+            )) else {
                 stop = Some(Stop::Start);
                 break;
             };

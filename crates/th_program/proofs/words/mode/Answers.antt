@@ -84,11 +84,11 @@ returns-in-Err-clause-none c =
 -- the mode of the command that the matches name
 pub returns-in-Ok-try_get_matches_from-clause-replay : goal.returns-in-Ok-try_get_matches_from-clause-replay
 returns-in-Ok-try_get_matches_from-clause-replay c = λ (name, words).
-    c.taken.ensures.replay (ap asked_of (replay_named c.in-Ok-try_get_matches_from.matches _ _ c.in-Ok.ensures c.in-Ok-try_get_matches_from.ensures.matches name words)
+    c.taken.ensures.replay (ap asked_of (replay_named c.in-Ok-try_get_matches_from.matches _ _ c.in-Ok.ensures c.in-Ok-try_get_matches_from.ensures.matches name words))
 
 pub returns-in-Ok-try_get_matches_from-clause-check : goal.returns-in-Ok-try_get_matches_from-clause-check
 returns-in-Ok-try_get_matches_from-clause-check c = λ (name, words).
-    c.taken.ensures.check (ap asked_of (check_named c.in-Ok-try_get_matches_from.matches _ _ c.in-Ok.ensures c.in-Ok-try_get_matches_from.ensures.matches name words)
+    c.taken.ensures.check (ap asked_of (check_named c.in-Ok-try_get_matches_from.matches _ _ c.in-Ok.ensures c.in-Ok-try_get_matches_from.ensures.matches name words))
 
 pub returns-in-Err-clause-check : goal.returns-in-Err-clause-check
 returns-in-Err-clause-check c =
