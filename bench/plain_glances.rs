@@ -32,16 +32,20 @@ impl Eye {
 
 fn load(word: &AtomicU64, calls: u64) -> u64 {
     let mut total = 0u64;
-    for _ in 0..calls {
-        total = total.wrapping_add(word.load(Ordering::Acquire));
+    for _ in 0..calls / 8 {
+        for _ in 0..8 {
+            total = total.wrapping_add(word.load(Ordering::Acquire));
+        }
     }
     total
 }
 
 fn look(eye: &mut Eye, calls: u64) -> u64 {
     let mut total = 0u64;
-    for _ in 0..calls {
-        total = total.wrapping_add(eye.glance().count);
+    for _ in 0..calls / 8 {
+        for _ in 0..8 {
+            total = total.wrapping_add(eye.glance().count);
+        }
     }
     total
 }
