@@ -12,7 +12,7 @@ use Rattle.th_lines.specs.Commands.{command_of}
 use Rattle.th_lines.specs.Lines.{Line, Good, Long, line_of, lines_from}
 use Rattle.th_lines.specs.Output.{Output, Adds, AddsOrFails, Flushes, WritesAll, WritesFront}
 use Rattle.th_lines.specs.Replies.{spell}
-use Rattle.th_lines.specs.Standing.{Standing, Turned, Advances, AnswersOne, Ended, FlushesOn, Underway}
+use Rattle.th_lines.specs.Standing.{Standing, Advances, AnswersOne, Ended, Underway}
 use Rattle.th_lines.specs.declared.reply.Code.TheVariants as Codes
 use Rattle.th_lines.specs.declared.reply.Reply.TheVariants.{Bye, Refused}
 use Rattle.th_lines.proofs.LineLemmas.{last_line-one}
@@ -22,7 +22,7 @@ use Rattle.th_registry.specs.Hub.{Query, Said}
 use Rattle.th_session.specs.declared.run.After.{After}
 use Rattle.th_session.specs.declared.run.After.TheVariants.{More, Over}
 use Rattle.th_session.specs.declared.fault.SessionFault.{SessionFault}
-use Rattle.th_session.specs.declared.fault.SessionFault.TheVariants.{Read, Write, TooLong, Gate, Short}
+use Rattle.th_session.specs.declared.fault.SessionFault.TheVariants.{Write, Short}
 use Rattle.th_session.specs.declared.session.Answer as session
 use Rattle.th_session.specs.declared.session.Answer.TheVariants as answers
 use Rattle.th_session.specs.Answer.{said}

@@ -1,12 +1,10 @@
 use Rattle.std.proofs.Common.{◌≡◌, ◌+◌, ◌∙◌, [], None, Some, ap, false, subst, sym}
-use Rattle.std.specs.Prelude.{Option}
 use Rattle.th_lines.specs.Intake.{Came, line_given, lines_after}
 use Rattle.th_lines.specs.Lines.{Line}
 use Rattle.th_lines.specs.Output.{Output, output}
 use Rattle.th_lines.specs.Standing.{Advances, AnswersOne, Standing}
 use Rattle.th_lines.proofs.OutputLemmas.{adds_none}
 use Rattle.th_lines.proofs.StandingLemmas as lines
-use Rattle.th_session.specs.declared.fault.SessionFault.{SessionFault}
 use Rattle.th_session.specs.declared.fault.SessionFault.TheVariants.{TooLong}
 use Rattle.th_session.specs.Kept.{Kept}
 use Rattle.th_session.specs.Run.{Course, Halts, line_turn, stands}
