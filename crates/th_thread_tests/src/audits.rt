@@ -64,18 +64,18 @@ fn one_diary(rt: &impl Abort, alloc: Global, receipts: Vec<Receipt<News>>) -> Ve
 fn says(
     rt: &impl Abort,
     alloc: Global,
-    segment: &Segment<News>,
-    diaries: &[Diary<News>],
+    segment: Segment<News>,
+    diaries: Vec<Diary<News>>,
     want: Result<Audited, AuditFault>,
 ) {
-    assert_eq!(rt; audited(alloc, segment, diaries), want);
+    assert_eq!(rt; audited(alloc, &segment, diaries.as_slice()), want);
 }
 
 #[test]
 fn an_honest_diary_is_audited(rt: HostRuntime) {
     let (segment, receipts) = four(&rt, rt.alloc(), 7);
     let diaries = one_diary(&rt, rt.alloc(), receipts);
-    says(&rt, rt.alloc(), &segment, diaries.as_slice(), Ok(Audited));
+    says(&rt, rt.alloc(), segment, diaries, Ok(Audited));
 }
 
 // The receipts but the last, in the other order.
@@ -90,7 +90,7 @@ fn a_diary_out_of_order_is_a_strangers(rt: HostRuntime) {
     let (segment, receipts) = four(&rt, rt.alloc(), 7);
     let diaries = one_diary(&rt, rt.alloc(), turned(receipts));
     let strange = Err(AuditFault::Stranger { place: 1 });
-    says(&rt, rt.alloc(), &segment, diaries.as_slice(), strange);
+    says(&rt, rt.alloc(), segment, diaries, strange);
 }
 
 // Another channel that did the same is told apart by its key.
@@ -101,5 +101,5 @@ fn a_diary_of_another_channel_is_a_strangers(rt: HostRuntime) {
     let mut diaries = one_diary(&rt, rt.alloc(), receipts);
     add_diary(&rt, &mut diaries, noted(&rt, rt.alloc(), others));
     let strange = Err(AuditFault::Stranger { place: 0 });
-    says(&rt, rt.alloc(), &segment, diaries.as_slice(), strange);
+    says(&rt, rt.alloc(), segment, diaries, strange);
 }

@@ -48,7 +48,7 @@ pub(crate) fn is_sent<R: Wait>(rt: &R, tx: &mut BSender<u64>, value: u64) -> boo
 }
 
 pub(crate) fn is_sent_quietly<R: Wait>(rt: &R, tx: &mut BSender<u64>, value: u64) -> bool {
-    let number = sender_number(tx);
+    let number = tx.number();
     tx.call_quietly(rt, BCall::Send(TxId(number), value))
         .is_ok()
 }
@@ -77,19 +77,19 @@ pub(crate) fn sender_number(tx: &BSender<u64>) -> u64 {
     tx.number()
 }
 
-pub(crate) fn sender_seen(tx: &BSender<u64>) -> u64 {
+pub(crate) fn sender_seen<T: Clone + Drop>(tx: &BSender<T>) -> u64 {
     tx.seen()
 }
 
-pub(crate) fn owner_of(rt: &impl Abort, tx: &BSender<u64>) -> Shared<News> {
+pub(crate) fn owner_of<T: Clone + Drop>(
+    rt: &impl Abort,
+    tx: &BSender<T>,
+) -> Shared<RingBroadcast<T>> {
     tx.shared().expect(rt, "an owner")
 }
 
 pub(crate) fn spend_sender<R: Wait + Abort>(rt: &R, tx: BSender<u64>) -> Share {
-    let Ok(share) = tx.spend(rt) else {
-        panic!(rt; "a spending was refused");
-    };
-    share
+    tx.spend(rt).ok().expect(rt, "the sender's share")
 }
 
 pub(crate) fn release_sender(tx: BSender<u64>) -> Share {
@@ -139,10 +139,7 @@ pub(crate) fn receiver_seen(rx: &BReceiver<u64>) -> u64 {
 }
 
 pub(crate) fn spend_receiver<R: Wait + Abort>(rt: &R, rx: BReceiver<u64>) -> Share {
-    let Ok(share) = rx.spend(rt) else {
-        panic!(rt; "a spending was refused");
-    };
-    share
+    rx.spend(rt).ok().expect(rt, "the receiver's share")
 }
 
 pub(crate) fn release_receiver(rx: BReceiver<u64>) -> Share {

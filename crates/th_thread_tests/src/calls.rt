@@ -5,12 +5,11 @@ use crate::broadcast_calls::{
     sender_seen, spend_sender, subscribe, subscribe_oldest, try_recv,
 };
 use crate::channels::{made, opened, subscribed};
-use crate::histories::{finished, is_told, told, total};
+use crate::histories::{finished, told, total};
 use crate::watch_calls;
 use std::alloc::Global;
 use std::process::Abort;
 use std::sync::Wait;
-use std::test::Fail;
 use th_block::{BReceiver, BSender, Shared, WReader, WSender};
 use th_log::MakeFault;
 use th_model::BReply::{Closed, Count, Empty, Exhausted, Lagged, NewRx, NewTx, Sent, Value};
@@ -48,13 +47,6 @@ fn sends<R: Wait + Abort>(rt: &R, tx: &mut BSender<u64>, values: &[u64], receive
     }
 }
 
-// The next answers of a receiver that waits for each.
-fn receives<R: Wait + Abort>(rt: &R, rx: &mut BReceiver<u64>, replies: &[BReply<u64>]) {
-    for reply in replies {
-        is_told(rt, recv(rt, rx), reply);
-    }
-}
-
 #[test]
 fn calls_of_a_sender(rt: HostRuntime) {
     let mut tx = opened_at(&rt, rt.alloc(), 9);
@@ -64,7 +56,8 @@ fn calls_of_a_sender(rt: HostRuntime) {
     let mut late = made(&rt, subscribe_oldest(&rt, &mut two), NewRx(RxId(4)));
     told(&rt, queued(&rt, &mut two), Count(2));
     told(&rt, readers(&rt, &mut two), Count(2));
-    receives(&rt, &mut late, &[Value(2), Value(3)]);
+    told(&rt, recv(&rt, &mut late), Value(2));
+    told(&rt, recv(&rt, &mut late), Value(3));
 }
 
 #[test]
@@ -76,7 +69,10 @@ fn calls_of_a_receiver(rt: HostRuntime) {
     sends(&rt, &mut tx, &[1, 2, 3], 2);
     told(&rt, left(&rt, &mut other), Count(3));
     spend_sender(&rt, tx);
-    receives(&rt, &mut rx, &[Lagged(1), Value(2), Value(3), Closed]);
+    told(&rt, recv(&rt, &mut rx), Lagged(1));
+    told(&rt, recv(&rt, &mut rx), Value(2));
+    told(&rt, recv(&rt, &mut rx), Value(3));
+    told(&rt, recv(&rt, &mut rx), Closed);
 }
 
 // `next` gives what `recv` gives.

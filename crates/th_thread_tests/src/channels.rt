@@ -55,9 +55,7 @@ pub(crate) fn begun_anew<R: Wait + Abort>(
     owner: &Shared<News>,
     rx: BReceiver<u64>,
 ) -> (Receipt<News>, BReceiver<u64>, Share) {
-    let Ok((receipt, became)) = pair_resub(rt, owner, rx) else {
-        panic!(rt; "refused");
-    };
+    let (receipt, became) = pair_resub(rt, owner, rx).ok().expect(rt, "an event");
     let (new, share) = new_one(rt, became);
     (receipt, new, share)
 }
@@ -74,8 +72,7 @@ pub(crate) fn ended<R: Wait + Abort>(
 }
 
 pub(crate) fn two_shares(rt: &impl Abort, alloc: Global, one: Share, other: Share) -> Vec<Share> {
-    let Ok(shares) = Vec::from_array(alloc, [one, other]) else {
-        panic!(rt; "no memory for shares");
-    };
-    shares
+    Vec::from_array(alloc, [one, other])
+        .ok()
+        .expect(rt, "memory for shares")
 }

@@ -9,6 +9,7 @@ use crate::histories::{
     add_diary, answered, audited, closed, finished, joined_two, new_diary, note, receipts_of,
     reply_of,
 };
+use crate::threads::{add, started};
 use std::alloc::Global;
 use std::process::Abort;
 use std::sync::Wait;
@@ -67,6 +68,18 @@ fn send_one<R: Wait + Abort>(
     }
 }
 
+fn send_values<R: Wait + Abort>(
+    rt: &R,
+    left: &mut Left,
+    tx: &mut BSender<u64>,
+    owner: &Option<Shared<News>>,
+    first: u64,
+) {
+    for number in 0..VALUES {
+        send_one(rt, left, tx, owner, first, number);
+    }
+}
+
 // Sends its values.
 fn send_all<R: Wait + Abort>(
     rt: &R,
@@ -77,9 +90,7 @@ fn send_all<R: Wait + Abort>(
 ) -> Left {
     let mut tx = tx;
     let mut left = Left::new(alloc);
-    for number in 0..VALUES {
-        send_one(rt, &mut left, &mut tx, &owner, first, number);
-    }
+    send_values(rt, &mut left, &mut tx, &owner, first);
     keep_share(rt, &mut left.shares, spend_sender(rt, tx));
     left
 }
@@ -182,10 +193,7 @@ fn sending<R: Threads + Wait + Abort + Copy + Send + 'static>(
     owner: Option<Shared<News>>,
     first: u64,
 ) -> Running {
-    let Ok(running) = thread::spawn(&rt, move || send_all(&rt, alloc, tx, owner, first)) else {
-        panic!(rt; "no thread");
-    };
-    running
+    started(&rt, move || send_all(&rt, alloc, tx, owner, first))
 }
 
 fn receiving<R: Threads + Wait + Abort + Copy + Send + 'static>(
@@ -196,17 +204,10 @@ fn receiving<R: Threads + Wait + Abort + Copy + Send + 'static>(
     manner: Manner,
     making: Receipt<News>,
 ) -> Running {
-    let Ok(running) = thread::spawn(
+    started(
         &rt,
         move || receive_all(&rt, alloc, rx, owner, manner, making),
-    ) else {
-        panic!(rt; "no thread");
-    };
-    running
-}
-
-fn run(rt: &impl Abort, running: &mut Vec<Running>, thread: Running) {
-    running.push(thread).expect(rt, "memory for a thread");
+    )
 }
 
 /// A receiver that was made and does not run yet.
@@ -269,11 +270,8 @@ fn start_receiver<R: Threads + Wait + Abort + Copy + Send + 'static>(
     waiting: Waiting,
 ) {
     let Waiting { rx, manner, making } = waiting;
-    run(
-        &rt,
-        running,
-        receiving(rt, alloc, rx, owner, manner, making),
-    );
+    let thread = receiving(rt, alloc, rx, owner, manner, making);
+    add(&rt, running, thread);
 }
 
 fn receivers_started<R: Threads + Wait + Abort + Copy + Send + 'static>(
@@ -295,6 +293,32 @@ fn add_sender<R: Wait + Abort>(rt: &R, tx: &mut BSender<u64>, senders: &mut Vec<
     senders.push(sender).expect(rt, "memory for a sender");
 }
 
+// Seven senders more.
+fn more_senders<R: Wait + Abort>(
+    rt: &R,
+    alloc: Global,
+    tx: &mut BSender<u64>,
+) -> Vec<BSender<u64>> {
+    let mut senders = Vec::new(alloc);
+    for _ in 1..8 {
+        add_sender(rt, tx, &mut senders);
+    }
+    senders
+}
+
+fn start_others<R: Threads + Wait + Abort + Copy + Send + 'static>(
+    rt: R,
+    alloc: Global,
+    running: &mut Vec<Running>,
+    senders: Vec<BSender<u64>>,
+) {
+    let mut first = 2_000_000u64;
+    for sender in senders {
+        add(&rt, running, sending(rt, alloc, sender, None, first));
+        first = first.wrapping_add(1_000_000);
+    }
+}
+
 // Starts eight senders, the first of which cuts.
 fn start_senders<R: Threads + Wait + Abort + Copy + Send + 'static>(
     rt: R,
@@ -304,21 +328,10 @@ fn start_senders<R: Threads + Wait + Abort + Copy + Send + 'static>(
     owner: &Shared<News>,
 ) {
     let mut tx = tx;
-    let mut senders = Vec::new(alloc);
-    for _ in 1..8 {
-        add_sender(&rt, &mut tx, &mut senders);
-    }
-    let cutter = another(&rt, owner);
-    run(
-        &rt,
-        running,
-        sending(rt, alloc, tx, Some(cutter), 1_000_000),
-    );
-    let mut first = 2_000_000u64;
-    for sender in senders {
-        run(&rt, running, sending(rt, alloc, sender, None, first));
-        first = first.wrapping_add(1_000_000);
-    }
+    let others = more_senders(&rt, alloc, &mut tx);
+    let cutter = Some(another(&rt, owner));
+    add(&rt, running, sending(rt, alloc, tx, cutter, 1_000_000));
+    start_others(rt, alloc, running, others);
 }
 
 // What the threads left, all together: their shares, their diaries and the segments.
@@ -339,6 +352,18 @@ impl All {
     }
 }
 
+fn keep_shares(rt: &impl Abort, all: &mut All, shares: Vec<Share>) {
+    for share in shares {
+        keep_share(rt, &mut all.shares, share);
+    }
+}
+
+fn keep_segments(rt: &impl Abort, all: &mut All, segments: Vec<Segment<News>>) {
+    for segment in segments {
+        keep_segment(rt, &mut all.segments, segment);
+    }
+}
+
 // What one thread left, beside the others'.
 fn gather(rt: &impl Abort, all: &mut All, left: Left) {
     let Left {
@@ -346,12 +371,8 @@ fn gather(rt: &impl Abort, all: &mut All, left: Left) {
         diary,
         segments,
     } = left;
-    for share in shares {
-        keep_share(rt, &mut all.shares, share);
-    }
-    for segment in segments {
-        keep_segment(rt, &mut all.segments, segment);
-    }
+    keep_shares(rt, all, shares);
+    keep_segments(rt, all, segments);
     add_diary(rt, &mut all.diaries, diary);
 }
 
@@ -374,11 +395,17 @@ fn joined_to(
     }
 }
 
+// The segment goes behind the ones before.
+fn append(rt: &impl Abort, whole: &mut Option<Segment<News>>, segment: Segment<News>) {
+    let before = whole.take();
+    *whole = Some(joined_to(rt, before, segment));
+}
+
 // The segments, joined in the order in which they were cut, up to the last.
 fn whole_of(rt: &impl Abort, segments: Vec<Segment<News>>, last: Segment<News>) -> Segment<News> {
-    let mut whole: Option<Segment<News>> = None;
+    let mut whole = None;
     for segment in segments {
-        whole = Some(joined_to(rt, whole, segment));
+        append(rt, &mut whole, segment);
     }
     joined_to(rt, whole, last)
 }

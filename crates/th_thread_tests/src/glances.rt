@@ -1,6 +1,7 @@
 //! Glances follow the events, take no lock, and never go back.
 use crate::broadcast_calls::{glance, is_sent, learn, sender_seen, spend_sender};
 use crate::channels::{opened, subscribed};
+use crate::threads::{add, started};
 use std::alloc::Global;
 use std::process::Abort;
 use std::sync::{Arc, Mutex, Wait};
@@ -49,6 +50,8 @@ fn a_handle_learns(rt: HostRuntime) {
     assert!(rt; learn(&mut rx, 2) && !learn(&mut rx, 3));
     looks(&rt, &mut rx, 2, false);
     looks(&rt, &mut rx, 2, false);
+    drop(tx);
+    drop(rx);
 }
 
 /// What a thread saw that glances.
@@ -135,26 +138,19 @@ fn glancing<R: Threads + Wait + Abort + Copy + Send + 'static>(
     list: Arc<Mutex<Vec<u64>>>,
     number: usize,
 ) -> JoinHandle<Seen> {
-    let Ok(running) = thread::spawn(&rt, move || glance_and_learn(&rt, rx, list, number)) else {
-        panic!(rt; "no thread");
-    };
-    running
+    started(&rt, move || glance_and_learn(&rt, rx, list, number))
 }
 
 // Four counts, none of which was told of yet.
 fn no_counts(rt: &impl Abort, alloc: Global) -> Arc<Mutex<Vec<u64>>> {
-    let Ok(counts) = Vec::from_array(alloc, [0, 0, 0, 0]) else {
-        panic!(rt; "no memory for a list");
-    };
+    let counts = Vec::from_array(alloc, [0, 0, 0, 0])
+        .ok()
+        .expect(rt, "memory for a list");
     Arc::new(alloc, Mutex::new(counts)).expect(rt, "memory for a list")
 }
 
 fn another(rt: &impl Abort, list: &Arc<Mutex<Vec<u64>>>) -> Arc<Mutex<Vec<u64>>> {
     Arc::try_clone(list).expect(rt, "an owner of the list")
-}
-
-fn run(rt: &impl Abort, running: &mut Vec<JoinHandle<Seen>>, thread: JoinHandle<Seen>) {
-    running.push(thread).expect(rt, "memory for a thread");
 }
 
 // Four subscriptions, the sends, and the end of the sender.
@@ -165,7 +161,7 @@ fn four_threads_learn_from_each_other(rt: HostRuntime) {
     let mut running = Vec::new(rt.alloc());
     for number in 0..4 {
         let rx = subscribed(&rt, &mut tx);
-        run(
+        add(
             &rt,
             &mut running,
             glancing(rt, rx, another(&rt, &list), number),

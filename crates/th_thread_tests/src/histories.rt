@@ -31,12 +31,8 @@ pub(crate) fn answered(rt: &impl Abort, answer: Answer) -> Receipt<News> {
 
 /// The call was answered so. Its place comes back.
 pub(crate) fn told(rt: &impl Abort, answer: Answer, reply: BReply<u64>) -> u64 {
-    is_told(rt, answer, &reply)
-}
-
-pub(crate) fn is_told(rt: &impl Abort, answer: Answer, reply: &BReply<u64>) -> u64 {
     let receipt = answered(rt, answer);
-    assert_eq!(rt; reply_of(&receipt), reply);
+    assert_eq!(rt; reply_of(&receipt), &reply);
     place_of(&receipt)
 }
 
@@ -62,10 +58,7 @@ pub(crate) fn receipts_of(diary: &Diary<News>) -> &[Receipt<News>] {
 
 /// The channel's log, whose last owner this is.
 pub(crate) fn finished(rt: &impl Abort, owner: Shared<News>) -> Logged<News> {
-    let Ok(log) = finish(owner) else {
-        panic!(rt; "another owner is left");
-    };
-    log
+    finish(owner).ok().expect(rt, "the last owner's log")
 }
 
 /// How many events there were.
@@ -113,10 +106,9 @@ pub(crate) fn joined_two(
     one: Segment<News>,
     other: Segment<News>,
 ) -> Segment<News> {
-    let Ok(both) = Segment::join(one, other) else {
-        panic!(rt; "the segments are apart");
-    };
-    both
+    Segment::join(one, other)
+        .ok()
+        .expect(rt, "segments that meet")
 }
 
 pub(crate) fn audited(

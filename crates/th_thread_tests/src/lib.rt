@@ -27,6 +27,8 @@ mod shares;
 #[cfg(test)]
 mod story;
 #[cfg(test)]
+mod threads;
+#[cfg(test)]
 mod waking;
 #[cfg(test)]
 mod watch_calls;

@@ -4,7 +4,7 @@
 //! and so on).
 ghost use Rattle.std.specs.Prelude.{◌≡◌};
 
-use crate::broadcast_calls::{self, owner_of, spend_receiver, spend_sender};
+use crate::broadcast_calls::{self, owner_of, sender_seen, spend_receiver, spend_sender};
 use crate::histories::{closed, finished, total};
 use std::alloc::{AllocError, Global};
 use std::clone::Clone;
@@ -36,9 +36,7 @@ fn opened(rt: &impl Abort, alloc: Global) -> BSender<Stubborn> {
 }
 
 fn received_by<R: Wait + Abort>(rt: &R, tx: &mut BSender<Stubborn>) -> BReceiver<Stubborn> {
-    let Ok((_, made)) = tx.subscribe(rt) else {
-        panic!(rt; "refused");
-    };
+    let (_, made) = tx.subscribe(rt).expect(rt, "an event");
     made.expect(rt, "a receiver")
 }
 
@@ -54,32 +52,16 @@ fn refused<R: Wait + Abort>(
     call
 }
 
-fn seen(tx: &BSender<Stubborn>) -> u64 {
-    tx.seen()
-}
-
-fn owner(rt: &impl Abort, tx: &BSender<Stubborn>) -> Shared<RingBroadcast<Stubborn>> {
-    tx.shared().expect(rt, "an owner")
-}
-
 fn sender_is_spent<R: Wait + Abort>(rt: &R, tx: BSender<Stubborn>) -> Share {
-    let Ok(share) = tx.spend(rt) else {
-        panic!(rt; "a spending was refused");
-    };
-    share
+    tx.spend(rt).ok().expect(rt, "the sender's share")
 }
 
 fn receiver_is_spent<R: Wait + Abort>(rt: &R, rx: BReceiver<Stubborn>) -> Share {
-    let Ok(share) = rx.spend(rt) else {
-        panic!(rt; "a spending was refused");
-    };
-    share
+    rx.spend(rt).ok().expect(rt, "the receiver's share")
 }
 
 fn events(rt: &impl Abort, owner: Shared<RingBroadcast<Stubborn>>) -> u64 {
-    let Ok(log) = owner.finish() else {
-        panic!(rt; "another owner is left");
-    };
+    let log = owner.finish().ok().expect(rt, "the last owner's log");
     log.total()
 }
 
@@ -89,8 +71,8 @@ fn a_refused_send_comes_back(rt: HostRuntime) {
     let rx = received_by(&rt, &mut tx);
     let call = refused(&rt, &mut tx, Stubborn(5));
     assert_eq!(rt; call, BCall::Send(TxId(1), Stubborn(5)));
-    assert_eq!(rt; seen(&tx), 1);
-    let owner = owner(&rt, &tx);
+    assert_eq!(rt; sender_seen(&tx), 1);
+    let owner = owner_of(&rt, &tx);
     let (tx, rx) = (sender_is_spent(&rt, tx), receiver_is_spent(&rt, rx));
     assert_eq!(rt; (tx.count(), rx.count()), (2, 1));
     assert_eq!(rt; events(&rt, owner), 3);

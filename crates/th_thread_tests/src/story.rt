@@ -61,14 +61,19 @@ fn is_first_told_of_a_lag(rt: &impl Abort, diary: &Diary<News>) -> bool {
     matches!(reply_of(first), Lagged(_))
 }
 
+// Three numbers are sent, to one receiver: 1 to 3, at the places 1 to 3.
+fn send_first<R: Wait + Abort>(rt: &R, news: &mut BSender<u64>) {
+    for value in 1..4 {
+        assert_eq!(rt; told(rt, send(rt, news, value), Sent(1)), value);
+    }
+}
+
 #[test]
 fn alice_and_bob_show_what_they_were_told(rt: HostRuntime) {
     let mut news = opened(&rt, rt.alloc(), 2, 1_000, 7);
     let owner = owner_of(&rt, &news);
     let bob = subscribed(&rt, &mut news);
-    for value in 1..4 {
-        assert_eq!(rt; told(&rt, send(&rt, &mut news, value), Sent(1)), value);
-    }
+    send_first(&rt, &mut news);
     let ((alice, sent), (bob, told)) = thread::join(
         &rt,
         || send_rest(&rt, rt.alloc(), news),

@@ -2,6 +2,7 @@
 use crate::broadcast_calls::{is_sent, is_sent_quietly, next, owner_of, send, spend_sender, wake};
 use crate::channels::{opened, subscribed};
 use crate::histories::{answered, into_reply};
+use crate::threads::{add, started};
 use crate::watch_calls;
 use std::alloc::Global;
 use std::process::Abort;
@@ -29,33 +30,32 @@ fn is_passed<R: Wait>(rt: &R, from: &mut BReceiver<u64>, to: &mut BSender<u64>) 
     number < HAND_OVERS && is_sent(rt, to, number.wrapping_add(1))
 }
 
-// Passes on what comes, one higher, up to the last number. Then the sender is spent, so that the next thread ends too.
-fn pass<R: Wait + Abort>(rt: &R, from: BReceiver<u64>, to: BSender<u64>) -> u64 {
-    let (mut from, mut to) = (from, to);
+// Passes on what comes, one higher, up to the last number. How often.
+fn pass_all<R: Wait>(rt: &R, from: &mut BReceiver<u64>, to: &mut BSender<u64>) -> u64 {
     let mut passed = 0u64;
     for _ in rt.forever() {
-        if !is_passed(rt, &mut from, &mut to) {
+        if !is_passed(rt, from, to) {
             break;
         }
         passed = passed.wrapping_add(1);
     }
+    passed
+}
+
+// Passes on all. Then the sender is spent, so that the next thread ends too.
+fn pass<R: Wait + Abort>(rt: &R, from: BReceiver<u64>, to: BSender<u64>) -> u64 {
+    let (mut from, mut to) = (from, to);
+    let passed = pass_all(rt, &mut from, &mut to);
     spend_sender(rt, to);
     passed
 }
 
-fn started<R: Threads + Wait + Abort + Copy + Send + 'static>(
+fn passing<R: Threads + Wait + Abort + Copy + Send + 'static>(
     rt: R,
     from: BReceiver<u64>,
     to: BSender<u64>,
 ) -> JoinHandle<u64> {
-    let Ok(running) = thread::spawn(&rt, move || pass(&rt, from, to)) else {
-        panic!(rt; "no thread");
-    };
-    running
-}
-
-fn run(rt: &impl Abort, running: &mut Vec<JoinHandle<u64>>, thread: JoinHandle<u64>) {
-    running.push(thread).expect(rt, "memory for a thread");
+    started(&rt, move || pass(&rt, from, to))
 }
 
 // How often the number was passed on, by all together.
@@ -80,10 +80,10 @@ fn passed_round<R: Threads + Wait + Abort + Copy + Send + 'static>(
     for key in 1..threads {
         let mut to = opened(&rt, alloc, 1, 1_000_000, key);
         let next = subscribed(&rt, &mut to);
-        run(&rt, &mut running, started(rt, from, to));
+        add(&rt, &mut running, passing(rt, from, to));
         from = next;
     }
-    run(&rt, &mut running, started(rt, from, first));
+    add(&rt, &mut running, passing(rt, from, first));
     all_passed(&rt, running)
 }
 
@@ -157,9 +157,7 @@ fn watched(rt: &impl Abort, alloc: Global, key: u64) -> WSender<u64> {
 }
 
 fn reader<R: Wait + Abort>(rt: &R, tx: &mut WSender<u64>) -> WReader<u64> {
-    let Ok((_, made)) = watch_calls::subscribe(rt, tx) else {
-        panic!(rt; "refused");
-    };
+    let (_, made) = watch_calls::subscribe(rt, tx).expect(rt, "an event");
     made.expect(rt, "a reader")
 }
 
