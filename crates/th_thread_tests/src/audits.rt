@@ -61,7 +61,8 @@ fn one_diary(rt: &impl Abort, alloc: Global, receipts: Vec<Receipt<News>>) -> Ve
     diaries
 }
 
-fn says(
+/// The audit of these diaries ends so.
+pub(crate) fn says(
     rt: &impl Abort,
     alloc: Global,
     segment: Segment<News>,

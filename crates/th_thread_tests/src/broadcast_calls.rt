@@ -89,12 +89,18 @@ pub(crate) fn owner_of<T: Clone + Drop>(
 }
 
 pub(crate) fn spend_sender<R: Wait + Abort>(rt: &R, tx: BSender<u64>) -> Share {
-    tx.spend(rt).ok().expect(rt, "the sender's share")
+    match tx.spend(rt) {
+        Ok(share) => share,
+        Err(_back) => panic!(rt; "a spending was refused"),
+    }
 }
 
 pub(crate) fn release_sender(tx: BSender<u64>) -> Share {
     tx.release()
 }
+
+/// A handle that is let go is neither spent nor released. Its parts are let go here, in one place.
+pub(crate) fn drop_sender(_tx: BSender<u64>) {}
 
 // The calls of a receiver.
 
@@ -139,12 +145,17 @@ pub(crate) fn receiver_seen(rx: &BReceiver<u64>) -> u64 {
 }
 
 pub(crate) fn spend_receiver<R: Wait + Abort>(rt: &R, rx: BReceiver<u64>) -> Share {
-    rx.spend(rt).ok().expect(rt, "the receiver's share")
+    match rx.spend(rt) {
+        Ok(share) => share,
+        Err(_back) => panic!(rt; "a spending was refused"),
+    }
 }
 
 pub(crate) fn release_receiver(rx: BReceiver<u64>) -> Share {
     rx.release()
 }
+
+pub(crate) fn drop_receiver(_rx: BReceiver<u64>) {}
 
 // The calls of an owner.
 
@@ -167,6 +178,8 @@ pub(crate) fn pair_resub<R: Wait>(
 ) -> Result<(Receipt<News>, Resub<u64>), (BReceiver<u64>, Refused<BCall<u64>>)> {
     owner.pair_resub(rt, rx)
 }
+
+pub(crate) fn drop_owner(_owner: Shared<News>) {}
 
 /// The channel's log, if no other owner is left.
 pub(crate) fn finish(owner: Shared<News>) -> Result<Logged<News>, Shared<News>> {

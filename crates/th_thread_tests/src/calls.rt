@@ -1,8 +1,8 @@
 //! Each call of each handle, once.
 use crate::broadcast_calls::{
-    News, clone_tx, finish, left, make_at, next, owner_of, queued, readers, receiver_number,
-    receiver_seen, recv, release_receiver, release_sender, resubscribe, send, sender_number,
-    sender_seen, spend_sender, subscribe, subscribe_oldest, try_recv,
+    News, clone_tx, drop_receiver, drop_sender, finish, left, make_at, next, owner_of, queued,
+    readers, receiver_number, receiver_seen, recv, release_receiver, release_sender, resubscribe,
+    send, sender_number, sender_seen, spend_sender, subscribe, subscribe_oldest, try_recv,
 };
 use crate::channels::{made, opened, subscribed};
 use crate::histories::{finished, told, total};
@@ -28,7 +28,7 @@ fn watched(rt: &impl Abort, alloc: Global) -> WSender<u64> {
 }
 
 // The handle that was made, where the reply is this one.
-fn made_watch<H: Drop>(rt: &impl Abort, answer: watch_calls::Making<H>, reply: WReply<u64>) -> H {
+fn made_watch<H>(rt: &impl Abort, answer: watch_calls::Making<H>, reply: WReply<u64>) -> H {
     let (receipt, handle) = answer.expect(rt, "an event");
     assert_eq!(rt; watch_calls::reply_of(&receipt), &reply);
     handle.expect(rt, "a handle")
@@ -51,13 +51,17 @@ fn sends<R: Wait + Abort>(rt: &R, tx: &mut BSender<u64>, values: &[u64], receive
 fn calls_of_a_sender(rt: HostRuntime) {
     let mut tx = opened_at(&rt, rt.alloc(), 9);
     let mut two = made(&rt, clone_tx(&rt, &mut tx), NewTx(TxId(2)));
-    let _one = made(&rt, subscribe(&rt, &mut two), NewRx(RxId(3)));
+    let one = made(&rt, subscribe(&rt, &mut two), NewRx(RxId(3)));
     sends(&rt, &mut tx, &[1, 2, 3], 1);
     let mut late = made(&rt, subscribe_oldest(&rt, &mut two), NewRx(RxId(4)));
     told(&rt, queued(&rt, &mut two), Count(2));
     told(&rt, readers(&rt, &mut two), Count(2));
     told(&rt, recv(&rt, &mut late), Value(2));
     told(&rt, recv(&rt, &mut late), Value(3));
+    drop_receiver(one);
+    drop_receiver(late);
+    drop_sender(tx);
+    drop_sender(two);
 }
 
 #[test]
@@ -73,6 +77,8 @@ fn calls_of_a_receiver(rt: HostRuntime) {
     told(&rt, recv(&rt, &mut rx), Value(2));
     told(&rt, recv(&rt, &mut rx), Value(3));
     told(&rt, recv(&rt, &mut rx), Closed);
+    drop_receiver(rx);
+    drop_receiver(other);
 }
 
 // `next` gives what `recv` gives.
@@ -95,13 +101,14 @@ fn a_loop_ends_with_the_channel(rt: HostRuntime) {
     spend_sender(&rt, tx);
     assert_eq!(rt; gives(&rt, &mut rx, Value(5)), 3);
     assert!(rt; ends(&rt, &mut rx));
+    drop_receiver(rx);
 }
 
 #[test]
 fn calls_of_a_watch_sender(rt: HostRuntime) {
     let mut tx = watched(&rt, rt.alloc());
     shown(&rt, watch_calls::send(&rt, &mut tx, 6), NoReceivers(6));
-    let _one = made_watch(
+    let one = made_watch(
         &rt,
         watch_calls::subscribe(&rt, &mut tx),
         WReply::NewRx(RxId(2)),
@@ -120,6 +127,9 @@ fn calls_of_a_watch_sender(rt: HostRuntime) {
     );
     shown(&rt, watch_calls::readers(&rt, &mut two), WReply::Count(1));
     shown(&rt, watch_calls::is_closed(&rt, &mut two), Gone(false));
+    watch_calls::drop_reader(one);
+    watch_calls::drop_sender(tx);
+    watch_calls::drop_sender(two);
 }
 
 #[test]
@@ -141,6 +151,9 @@ fn calls_of_a_reader(rt: HostRuntime) {
     shown(&rt, watch_calls::borrow(&rt, &mut rx), Shown(6, true));
     shown(&rt, watch_calls::take(&rt, &mut rx), Shown(6, true));
     shown(&rt, watch_calls::has_changed(&rt, &mut rx), Changed(false));
+    watch_calls::drop_sender(tx);
+    watch_calls::drop_reader(rx);
+    watch_calls::drop_reader(two);
 }
 
 // `next` gives what `changed` gives.
@@ -167,39 +180,53 @@ fn marks_of_a_reader(rt: HostRuntime) {
     shown(&rt, watch_calls::mark_unchanged(&rt, &mut rx), WReply::Done);
     assert!(rt; watch_calls::is_spent(&rt, tx));
     assert!(rt; ends_watch(&rt, &mut rx));
+    watch_calls::drop_reader(rx);
 }
 
-// Both channels refuse the limit.
-fn is_bad_limit(rt: &impl Abort, alloc: Global, limit: u64) -> bool {
+// Why there is no broadcast channel with this limit.
+fn fault_at(rt: &impl Abort, alloc: Global, limit: u64) -> MakeFault {
     let capacity = Capacity::new(2).expect(rt, "a capacity");
-    let refused = make_at(alloc, capacity, 0, limit, 7);
-    let refused_watch = watch_calls::make(alloc, 5, limit, 7);
-    matches!(refused, Err(MakeFault::BadLimit)) && matches!(refused_watch, Err(MakeFault::BadLimit))
+    match make_at(alloc, capacity, 0, limit, 7) {
+        Ok(_tx) => panic!(rt; "a channel"),
+        Err(fault) => fault,
+    }
+}
+
+// Why there is no watch channel with this limit.
+fn watch_fault_at(rt: &impl Abort, alloc: Global, limit: u64) -> MakeFault {
+    match watch_calls::make(alloc, 5, limit, 7) {
+        Ok(_tx) => panic!(rt; "a channel"),
+        Err(fault) => fault,
+    }
 }
 
 #[test]
 fn a_limit_is_1_to_1_000_000(rt: HostRuntime) {
     for limit in [0, 1_000_001] {
-        assert!(rt; is_bad_limit(&rt, rt.alloc(), limit));
+        assert_eq!(rt; fault_at(&rt, rt.alloc(), limit), MakeFault::BadLimit);
+        assert_eq!(rt; watch_fault_at(&rt, rt.alloc(), limit), MakeFault::BadLimit);
     }
-    assert!(rt; watch_calls::make(rt.alloc(), 5, 1_000_000, 7).is_ok());
+    let tx = watch_calls::make(rt.alloc(), 5, 1_000_000, 7).expect(&rt, "a channel");
+    watch_calls::drop_sender(tx);
 }
 
 // Its one value stands at the position 2^64 - 2.
 #[test]
 fn a_channel_ends_at_the_last_position(rt: HostRuntime) {
     let mut tx = opened_at(&rt, rt.alloc(), u64::MAX - 1);
-    let _rx = subscribed(&rt, &mut tx);
+    let rx = subscribed(&rt, &mut tx);
     told(&rt, send(&rt, &mut tx, 5), Sent(1));
     told(&rt, send(&rt, &mut tx, 6), Exhausted(6));
+    drop_sender(tx);
+    drop_receiver(rx);
 }
 
 // Another owner is left, so that this one comes back.
 fn not_last(rt: &impl Abort, owner: Shared<News>) -> Shared<News> {
-    let Err(owner) = finish(owner) else {
-        panic!(rt; "two handles are left");
-    };
-    owner
+    match finish(owner) {
+        Ok(_log) => panic!(rt; "two handles are left"),
+        Err(owner) => owner,
+    }
 }
 
 // The numbers of the handles, and how far each has seen.

@@ -24,13 +24,13 @@ pub(crate) fn opened(
 }
 
 /// The new handle, with the receipt of its making.
-pub(crate) fn with_receipt<H: Drop>(rt: &impl Abort, answer: Making<H>) -> (Receipt<News>, H) {
+pub(crate) fn with_receipt<H>(rt: &impl Abort, answer: Making<H>) -> (Receipt<News>, H) {
     let (receipt, made) = answer.expect(rt, "an event");
     (receipt, made.expect(rt, "a handle"))
 }
 
 /// The new handle, of which the call was told so.
-pub(crate) fn made<H: Drop>(rt: &impl Abort, answer: Making<H>, reply: BReply<u64>) -> H {
+pub(crate) fn made<H>(rt: &impl Abort, answer: Making<H>, reply: BReply<u64>) -> H {
     let (receipt, handle) = with_receipt(rt, answer);
     assert_eq!(rt; reply_of(&receipt), &reply);
     handle
@@ -38,26 +38,30 @@ pub(crate) fn made<H: Drop>(rt: &impl Abort, answer: Making<H>, reply: BReply<u6
 
 /// A new receiver.
 pub(crate) fn subscribed<R: Wait + Abort>(rt: &R, tx: &mut BSender<u64>) -> BReceiver<u64> {
-    let (_, rx) = with_receipt(rt, subscribe(rt, tx));
+    let (_receipt, rx) = with_receipt(rt, subscribe(rt, tx));
     rx
 }
 
 fn new_one(rt: &impl Abort, became: Resub<u64>) -> (BReceiver<u64>, Share) {
-    let Replaced::New(new, share) = became else {
-        panic!(rt; "no new receiver");
-    };
-    (new, share)
+    match became {
+        Replaced::New(new, share) => (new, share),
+        Replaced::Kept(_old) => panic!(rt; "no new receiver"),
+    }
 }
 
-/// A new receiver in the place of this one, with the receipt of its making and the share of the old one.
+/// The new receiver in the place of this one, with the receipt of its making and the share of the old one.
 pub(crate) fn begun_anew<R: Wait + Abort>(
     rt: &R,
     owner: &Shared<News>,
     rx: BReceiver<u64>,
 ) -> (Receipt<News>, BReceiver<u64>, Share) {
-    let (receipt, became) = pair_resub(rt, owner, rx).ok().expect(rt, "an event");
-    let (new, share) = new_one(rt, became);
-    (receipt, new, share)
+    match pair_resub(rt, owner, rx) {
+        Ok((receipt, became)) => {
+            let (new, share) = new_one(rt, became);
+            (receipt, new, share)
+        }
+        Err(_refused) => panic!(rt; "refused"),
+    }
 }
 
 /// The channel's last two handles are spent: its log, and their shares.

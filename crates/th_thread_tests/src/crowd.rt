@@ -287,39 +287,19 @@ fn receivers_started<R: Threads + Wait + Abort + Copy + Send + 'static>(
     running
 }
 
-// One sender more.
-fn add_sender<R: Wait + Abort>(rt: &R, tx: &mut BSender<u64>, senders: &mut Vec<BSender<u64>>) {
-    let (_, sender) = with_receipt(rt, clone_tx(rt, tx));
-    senders.push(sender).expect(rt, "memory for a sender");
-}
-
-// Seven senders more.
-fn more_senders<R: Wait + Abort>(
-    rt: &R,
-    alloc: Global,
-    tx: &mut BSender<u64>,
-) -> Vec<BSender<u64>> {
-    let mut senders = Vec::new(alloc);
-    for _ in 1..8 {
-        add_sender(rt, tx, &mut senders);
-    }
-    senders
-}
-
-fn start_others<R: Threads + Wait + Abort + Copy + Send + 'static>(
+// A sender more, which has a thread.
+fn start_sender<R: Threads + Wait + Abort + Copy + Send + 'static>(
     rt: R,
     alloc: Global,
     running: &mut Vec<Running>,
-    senders: Vec<BSender<u64>>,
+    tx: &mut BSender<u64>,
+    first: u64,
 ) {
-    let mut first = 2_000_000u64;
-    for sender in senders {
-        add(&rt, running, sending(rt, alloc, sender, None, first));
-        first = first.wrapping_add(1_000_000);
-    }
+    let (_receipt, sender) = with_receipt(&rt, clone_tx(&rt, tx));
+    add(&rt, running, sending(rt, alloc, sender, None, first));
 }
 
-// Starts eight senders, the first of which cuts.
+// Starts eight senders, the last of which cuts.
 fn start_senders<R: Threads + Wait + Abort + Copy + Send + 'static>(
     rt: R,
     alloc: Global,
@@ -328,10 +308,12 @@ fn start_senders<R: Threads + Wait + Abort + Copy + Send + 'static>(
     owner: &Shared<News>,
 ) {
     let mut tx = tx;
-    let others = more_senders(&rt, alloc, &mut tx);
+    for number in 1..8u64 {
+        let first = number.wrapping_mul(1_000_000);
+        start_sender(rt, alloc, running, &mut tx, first);
+    }
     let cutter = Some(another(&rt, owner));
-    add(&rt, running, sending(rt, alloc, tx, cutter, 1_000_000));
-    start_others(rt, alloc, running, others);
+    add(&rt, running, sending(rt, alloc, tx, cutter, 8_000_000));
 }
 
 // What the threads left, all together: their shares, their diaries and the segments.
@@ -352,15 +334,9 @@ impl All {
     }
 }
 
-fn keep_shares(rt: &impl Abort, all: &mut All, shares: Vec<Share>) {
-    for share in shares {
-        keep_share(rt, &mut all.shares, share);
-    }
-}
-
-fn keep_segments(rt: &impl Abort, all: &mut All, segments: Vec<Segment<News>>) {
-    for segment in segments {
-        keep_segment(rt, &mut all.segments, segment);
+fn keep_all<T: Drop>(rt: &impl Abort, all: &mut Vec<T>, more: Vec<T>) {
+    for one in more {
+        all.push(one).expect(rt, "memory for what a thread left");
     }
 }
 
@@ -371,8 +347,8 @@ fn gather(rt: &impl Abort, all: &mut All, left: Left) {
         diary,
         segments,
     } = left;
-    keep_shares(rt, all, shares);
-    keep_segments(rt, all, segments);
+    keep_all(rt, &mut all.shares, shares);
+    keep_all(rt, &mut all.segments, segments);
     add_diary(rt, &mut all.diaries, diary);
 }
 

@@ -1,5 +1,7 @@
 //! Glances follow the events, take no lock, and never go back.
-use crate::broadcast_calls::{glance, is_sent, learn, sender_seen, spend_sender};
+use crate::broadcast_calls::{
+    drop_receiver, drop_sender, glance, is_sent, learn, sender_seen, spend_sender,
+};
 use crate::channels::{opened, subscribed};
 use crate::threads::{add, started};
 use std::alloc::Global;
@@ -39,6 +41,7 @@ fn a_glance_follows_the_events(rt: HostRuntime) {
     looks(&rt, &mut rx, 3, false);
     spend_sender(&rt, tx);
     looks(&rt, &mut rx, 4, true);
+    drop_receiver(rx);
 }
 
 #[test]
@@ -50,8 +53,8 @@ fn a_handle_learns(rt: HostRuntime) {
     assert!(rt; learn(&mut rx, 2) && !learn(&mut rx, 3));
     looks(&rt, &mut rx, 2, false);
     looks(&rt, &mut rx, 2, false);
-    drop(tx);
-    drop(rx);
+    drop_sender(tx);
+    drop_receiver(rx);
 }
 
 /// What a thread saw that glances.
@@ -91,6 +94,8 @@ fn glances_beside_a_sender(rt: HostRuntime) {
     );
     assert!(rt; sent && !seen.fell && seen.last <= 1_001);
     looks(&rt, &mut rx, 1_001, false);
+    drop_sender(tx);
+    drop_receiver(rx);
 }
 
 // Puts a count into the list, and answers the highest that stands there.

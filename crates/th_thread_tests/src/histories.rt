@@ -58,7 +58,10 @@ pub(crate) fn receipts_of(diary: &Diary<News>) -> &[Receipt<News>] {
 
 /// The channel's log, whose last owner this is.
 pub(crate) fn finished(rt: &impl Abort, owner: Shared<News>) -> Logged<News> {
-    finish(owner).ok().expect(rt, "the last owner's log")
+    match finish(owner) {
+        Ok(log) => log,
+        Err(_owner) => panic!(rt; "another owner is left"),
+    }
 }
 
 /// How many events there were.
@@ -106,9 +109,10 @@ pub(crate) fn joined_two(
     one: Segment<News>,
     other: Segment<News>,
 ) -> Segment<News> {
-    Segment::join(one, other)
-        .ok()
-        .expect(rt, "segments that meet")
+    match Segment::join(one, other) {
+        Ok(both) => both,
+        Err(_apart) => panic!(rt; "the segments are apart"),
+    }
 }
 
 pub(crate) fn audited(

@@ -53,16 +53,24 @@ fn refused<R: Wait + Abort>(
 }
 
 fn sender_is_spent<R: Wait + Abort>(rt: &R, tx: BSender<Stubborn>) -> Share {
-    tx.spend(rt).ok().expect(rt, "the sender's share")
+    match tx.spend(rt) {
+        Ok(share) => share,
+        Err(_back) => panic!(rt; "a spending was refused"),
+    }
 }
 
 fn receiver_is_spent<R: Wait + Abort>(rt: &R, rx: BReceiver<Stubborn>) -> Share {
-    rx.spend(rt).ok().expect(rt, "the receiver's share")
+    match rx.spend(rt) {
+        Ok(share) => share,
+        Err(_back) => panic!(rt; "a spending was refused"),
+    }
 }
 
 fn events(rt: &impl Abort, owner: Shared<RingBroadcast<Stubborn>>) -> u64 {
-    let log = owner.finish().ok().expect(rt, "the last owner's log");
-    log.total()
+    match owner.finish() {
+        Ok(log) => log.total(),
+        Err(_owner) => panic!(rt; "another owner is left"),
+    }
 }
 
 #[test]

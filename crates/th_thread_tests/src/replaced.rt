@@ -1,7 +1,7 @@
 //! A receiver that begins anew.
 use crate::broadcast_calls::{
-    News, owner_of, pair_resub, readers, receiver_number, receiver_seen, send, spend_receiver,
-    try_recv,
+    News, drop_owner, drop_receiver, drop_sender, owner_of, pair_resub, readers, receiver_number,
+    receiver_seen, send, spend_receiver, try_recv,
 };
 use crate::channels::{begun_anew, opened, subscribed};
 use crate::histories::{place_of, told};
@@ -42,6 +42,9 @@ fn a_receiver_begins_anew(rt: HostRuntime) {
     );
     assert_eq!(rt; told(&rt, try_recv(&rt, &mut new), Empty), 4);
     told(&rt, readers(&rt, &mut tx), Count(1));
+    drop_sender(tx);
+    drop_receiver(new);
+    drop_owner(owner);
 }
 
 // The receiver of another channel comes back.
@@ -50,11 +53,13 @@ fn refused<R: Wait + Abort>(
     owner: &Shared<News>,
     strange: BReceiver<u64>,
 ) -> BReceiver<u64> {
-    let Err((strange, refused)) = pair_resub(rt, owner, strange) else {
-        panic!(rt; "not refused");
-    };
-    assert!(rt; matches!(refused, Refused::Foreign(_)));
-    strange
+    match pair_resub(rt, owner, strange) {
+        Ok(_became) => panic!(rt; "not refused"),
+        Err((strange, refused)) => {
+            assert!(rt; matches!(refused, Refused::Foreign(_)));
+            strange
+        }
+    }
 }
 
 #[test]
@@ -65,4 +70,7 @@ fn a_receiver_of_another_channel_comes_back(rt: HostRuntime) {
     let strange = subscribed(&rt, &mut other);
     let strange = refused(&rt, &owner, strange);
     spend_receiver(&rt, strange);
+    drop_sender(tx);
+    drop_sender(other);
+    drop_owner(owner);
 }

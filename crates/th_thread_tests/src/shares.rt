@@ -1,13 +1,16 @@
 //! The shares of a channel account for all of its events.
-use crate::broadcast_calls::{News, clone_tx, cut, is_received, is_sent, owner_of, send};
+use crate::broadcast_calls::{
+    News, clone_tx, cut, drop_owner, is_received, is_sent, owner_of, send,
+};
 use crate::channels::{ended, opened, subscribed, two_shares};
-use crate::histories::{answered, first_of, len_of, place_of, settled, span, split_up, total};
+use crate::histories::{first_of, len_of, settled, span, split_up, told, total};
 use std::alloc::Global;
 use std::process::Abort;
 use std::sync::Wait;
 use std::thread;
 use th_block::{BReceiver, BSender, Shared};
 use th_log::{Logged, Refused};
+use th_model::BReply::Sent;
 use th_seats::Share;
 
 // Sends on one channel and then receives on the other, a hundred times.
@@ -73,8 +76,11 @@ fn is_full_for_sending<R: Wait>(rt: &R, tx: &mut BSender<u64>) -> bool {
     matches!(send(rt, tx, 6), Err(Refused::LogFull(_)))
 }
 
-fn is_full_for_cloning<R: Wait>(rt: &R, tx: &mut BSender<u64>) -> bool {
-    matches!(clone_tx(rt, tx), Err(Refused::LogFull(_)))
+fn is_full_for_cloning<R: Wait + Abort>(rt: &R, tx: &mut BSender<u64>) -> bool {
+    match clone_tx(rt, tx) {
+        Ok(_made) => panic!(rt; "not refused"),
+        Err(refused) => matches!(refused, Refused::LogFull(_)),
+    }
 }
 
 #[test]
@@ -94,6 +100,12 @@ fn cuts<R: Wait + Abort>(rt: &R, owner: &Shared<News>, first: u64, len: u64) {
     assert_eq!(rt; (first_of(&segment), len_of(&segment)), (first, len));
 }
 
+// What is left of the log begins and is as long as this, and so many events were made.
+fn spans(rt: &impl Abort, log: Logged<News>, left: (u64, u64), events: u64) {
+    assert_eq!(rt; span(&log), left);
+    assert_eq!(rt; total(&log), events);
+}
+
 // A log that is cut has room again, and the next place goes on.
 #[test]
 fn a_cut_makes_room(rt: HostRuntime) {
@@ -102,10 +114,9 @@ fn a_cut_makes_room(rt: HostRuntime) {
     let owner = owner_of(&rt, &tx);
     assert!(rt; is_sent(&rt, &mut tx, 5) && !is_sent(&rt, &mut tx, 6));
     cuts(&rt, &owner, 0, 2);
-    let receipt = answered(&rt, send(&rt, &mut tx, 6));
-    assert_eq!(rt; place_of(&receipt), 2);
-    drop(owner);
+    assert_eq!(rt; told(&rt, send(&rt, &mut tx, 6), Sent(1)), 2);
+    drop_owner(owner);
     let (log, tx, rx) = ended(&rt, tx, rx);
-    assert_eq!(rt; (span(&log), total(&log)), ((2, 3), 5));
+    spans(&rt, log, (2, 3), 5);
     assert_eq!(rt; (tx.count(), rx.count()), (4, 1));
 }

@@ -1,8 +1,9 @@
 //! The example of th_block's root.
+use crate::audits::says;
 use crate::broadcast_calls::{News, next, owner_of, send, spend_receiver, spend_sender};
 use crate::channels::{opened, subscribed, two_shares};
 use crate::histories::{
-    add_diary, answered, audited, closed, finished, new_diary, note, receipts_of, reply_of, told,
+    add_diary, answered, closed, finished, new_diary, note, receipts_of, reply_of, told,
 };
 use std::alloc::Global;
 use std::process::Abort;
@@ -61,6 +62,18 @@ fn is_first_told_of_a_lag(rt: &impl Abort, diary: &Diary<News>) -> bool {
     matches!(reply_of(first), Lagged(_))
 }
 
+fn two_diaries(
+    rt: &impl Abort,
+    alloc: Global,
+    one: Diary<News>,
+    other: Diary<News>,
+) -> Vec<Diary<News>> {
+    let mut diaries = Vec::new(alloc);
+    add_diary(rt, &mut diaries, one);
+    add_diary(rt, &mut diaries, other);
+    diaries
+}
+
 // Three numbers are sent, to one receiver: 1 to 3, at the places 1 to 3.
 fn send_first<R: Wait + Abort>(rt: &R, news: &mut BSender<u64>) {
     for value in 1..4 {
@@ -81,11 +94,6 @@ fn alice_and_bob_show_what_they_were_told(rt: HostRuntime) {
     );
     assert!(rt; is_first_told_of_a_lag(&rt, &told));
     let segment = whole(&rt, rt.alloc(), owner, alice, bob);
-    let mut diaries = Vec::new(rt.alloc());
-    add_diary(&rt, &mut diaries, sent);
-    add_diary(&rt, &mut diaries, told);
-    assert_eq!(rt;
-        audited(rt.alloc(), &segment, diaries.as_slice()),
-        Ok(Audited)
-    );
+    let diaries = two_diaries(&rt, rt.alloc(), sent, told);
+    says(&rt, rt.alloc(), segment, diaries, Ok(Audited));
 }

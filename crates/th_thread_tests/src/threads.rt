@@ -6,11 +6,14 @@ use std::thread::{JoinHandle, Threads};
 /// A thread that does this.
 pub(crate) fn started<R: Threads + Abort, F, T>(rt: &R, does: F) -> JoinHandle<T>
 where
-    F: FnOnce() -> T + Send + Drop + 'static,
+    F: FnOnce() -> T + Send + 'static,
     T: Send + Drop + 'static,
     requires { F.pre does }
 {
-    thread::spawn(rt, does).ok().expect(rt, "a thread")
+    match thread::spawn(rt, does) {
+        Ok(running) => running,
+        Err(_refused) => panic!(rt; "no thread"),
+    }
 }
 
 /// One thread more that runs.

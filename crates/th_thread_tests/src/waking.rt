@@ -1,5 +1,7 @@
 //! Who waits is woken. A wake-up that is lost would leave a thread asleep, and the test would not end.
-use crate::broadcast_calls::{is_sent, is_sent_quietly, next, owner_of, send, spend_sender, wake};
+use crate::broadcast_calls::{
+    drop_owner, drop_receiver, is_sent, is_sent_quietly, next, owner_of, send, spend_sender, wake,
+};
 use crate::channels::{opened, subscribed};
 use crate::histories::{answered, into_reply};
 use crate::threads::{add, started};
@@ -47,6 +49,7 @@ fn pass<R: Wait + Abort>(rt: &R, from: BReceiver<u64>, to: BSender<u64>) -> u64 
     let (mut from, mut to) = (from, to);
     let passed = pass_all(rt, &mut from, &mut to);
     spend_sender(rt, to);
+    drop_receiver(from);
     passed
 }
 
@@ -173,6 +176,10 @@ fn settings_are_taken_one_by_one(rt: HostRuntime) {
         || take(&rt, &mut from, &mut back),
     );
     assert_eq!(rt; ends, (19_999, 19_999));
+    watch_calls::drop_sender(to);
+    watch_calls::drop_reader(from);
+    watch_calls::drop_sender(back);
+    watch_calls::drop_reader(answers);
 }
 
 // What is received, until the channel is closed.
@@ -198,6 +205,7 @@ fn send_quietly<R: Wait + Abort>(rt: &R, tx: BSender<u64>) -> bool {
         all = all && is_sent_quietly(rt, &mut tx, value);
     }
     wake(rt, &owner);
+    drop_owner(owner);
     spend_sender(rt, tx);
     all
 }
@@ -208,4 +216,5 @@ fn many_calls_wake_once(rt: HostRuntime) {
     let mut rx = subscribed(&rt, &mut tx);
     let ends = thread::join(&rt, || sum(&rt, &mut rx), || send_quietly(&rt, tx));
     assert_eq!(rt; ends, (6, true));
+    drop_receiver(rx);
 }

@@ -62,6 +62,8 @@ pub(crate) fn is_spent<R: Wait>(rt: &R, tx: WSender<u64>) -> bool {
     tx.spend(rt).is_ok()
 }
 
+pub(crate) fn drop_sender(_tx: WSender<u64>) {}
+
 // The calls of a reader.
 
 pub(crate) fn borrow<R: Wait>(rt: &R, rx: &mut WReader<u64>) -> Answer {
@@ -99,3 +101,5 @@ pub(crate) fn mark_unchanged<R: Wait>(rt: &R, rx: &mut WReader<u64>) -> Answer {
 pub(crate) fn clone_rx<R: Wait>(rt: &R, rx: &mut WReader<u64>) -> Making<WReader<u64>> {
     rx.clone_rx(rt)
 }
+
+pub(crate) fn drop_reader(_rx: WReader<u64>) {}
