@@ -182,6 +182,8 @@ pub(crate) fn pair_resub<R: Wait>(
 pub(crate) fn drop_owner(_owner: Shared<News>) {}
 
 /// The channel's log, if no other owner is left.
-pub(crate) fn finish(owner: Shared<News>) -> Result<Logged<News>, Shared<News>> {
+pub(crate) fn finish<T: Clone + Drop>(
+    owner: Shared<RingBroadcast<T>>,
+) -> Result<Logged<RingBroadcast<T>>, Shared<RingBroadcast<T>>> {
     owner.finish()
 }

@@ -5,7 +5,7 @@ use crate::broadcast_calls::{
     send, sender_number, sender_seen, spend_sender, subscribe, subscribe_oldest, try_recv,
 };
 use crate::channels::{made, opened, subscribed};
-use crate::histories::{finished, told, total};
+use crate::histories::{drop_log, finished, told, total};
 use crate::watch_calls;
 use std::alloc::Global;
 use std::process::Abort;
@@ -239,5 +239,7 @@ fn an_owner_ends_the_channel_once_it_is_the_last(rt: HostRuntime) {
     let owner = not_last(&rt, owner_of(&rt, &tx));
     let (one, two) = (release_sender(tx), release_receiver(rx));
     assert_eq!(rt; (one.count(), two.count()), (1, 0));
-    assert_eq!(rt; total(&finished(&rt, owner)), 1);
+    let log = finished(&rt, owner);
+    assert_eq!(rt; total(&log), 1);
+    drop_log(log);
 }

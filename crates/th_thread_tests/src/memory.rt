@@ -5,13 +5,13 @@
 ghost use Rattle.std.specs.Prelude.{◌≡◌};
 
 use crate::broadcast_calls::{self, owner_of, sender_seen, spend_receiver, spend_sender};
-use crate::histories::{closed, finished, total};
+use crate::histories::{closed, drop_log, finished, total};
 use std::alloc::{AllocError, Global};
 use std::clone::Clone;
 use std::process::Abort;
 use std::sync::Wait;
 use std::thread;
-use th_block::{BReceiver, BSender, RingBroadcast, Shared, broadcast};
+use th_block::{BReceiver, BSender, broadcast};
 use th_log::Refused;
 use th_model::{BCall, Capacity, TxId};
 use th_seats::Share;
@@ -66,13 +66,6 @@ fn receiver_is_spent<R: Wait + Abort>(rt: &R, rx: BReceiver<Stubborn>) -> Share 
     }
 }
 
-fn events(rt: &impl Abort, owner: Shared<RingBroadcast<Stubborn>>) -> u64 {
-    match owner.finish() {
-        Ok(log) => log.total(),
-        Err(_owner) => panic!(rt; "another owner is left"),
-    }
-}
-
 #[test]
 fn a_refused_send_comes_back(rt: HostRuntime) {
     let mut tx = opened(&rt, rt.alloc());
@@ -83,7 +76,9 @@ fn a_refused_send_comes_back(rt: HostRuntime) {
     let owner = owner_of(&rt, &tx);
     let (tx, rx) = (sender_is_spent(&rt, tx), receiver_is_spent(&rt, rx));
     assert_eq!(rt; (tx.count(), rx.count()), (2, 1));
-    assert_eq!(rt; events(&rt, owner), 3);
+    let log = finished(&rt, owner);
+    assert_eq!(rt; total(&log), 3);
+    drop_log(log);
 }
 
 // The call is made again where memory was refused, which happens once.

@@ -3,7 +3,7 @@ use crate::broadcast_calls::{
     News, clone_tx, cut, drop_owner, is_received, is_sent, owner_of, send,
 };
 use crate::channels::{ended, opened, subscribed, two_shares};
-use crate::histories::{first_of, len_of, settled, span, split_up, told, total};
+use crate::histories::{drop_log, first_of, len_of, settled, span, split_up, told, total};
 use std::alloc::Global;
 use std::process::Abort;
 use std::sync::Wait;
@@ -101,9 +101,9 @@ fn cuts<R: Wait + Abort>(rt: &R, owner: &Shared<News>, first: u64, len: u64) {
 }
 
 // What is left of the log begins and is as long as this, and so many events were made.
-fn spans(rt: &impl Abort, log: Logged<News>, left: (u64, u64), events: u64) {
-    assert_eq!(rt; span(&log), left);
-    assert_eq!(rt; total(&log), events);
+fn spans(rt: &impl Abort, log: &Logged<News>, left: (u64, u64), events: u64) {
+    assert_eq!(rt; span(log), left);
+    assert_eq!(rt; total(log), events);
 }
 
 // A log that is cut has room again, and the next place goes on.
@@ -117,6 +117,7 @@ fn a_cut_makes_room(rt: HostRuntime) {
     assert_eq!(rt; told(&rt, send(&rt, &mut tx, 6), Sent(1)), 2);
     drop_owner(owner);
     let (log, tx, rx) = ended(&rt, tx, rx);
-    spans(&rt, log, (2, 3), 5);
+    spans(&rt, &log, (2, 3), 5);
+    drop_log(log);
     assert_eq!(rt; (tx.count(), rx.count()), (4, 1));
 }
