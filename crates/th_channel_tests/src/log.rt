@@ -13,7 +13,6 @@ mod watch;
 
 use std::alloc::Global;
 use std::process::Abort;
-use std::test::Fail;
 use th_bcast::{Broadcast, PictureParts};
 use th_log::{Logged, MakeFault, Object, Receipt, Refused};
 use th_model::BCall::{CloneTx, DropRx, DropTx, Readers, Recv, Send, Subscribe, TryRecv};
@@ -38,14 +37,19 @@ fn made(alloc: Global, channel: Channel, limit: u64, key: u64) -> Result<(Log, S
 }
 
 // A channel with sender 1 alone.
-fn lone(alloc: Global, capacity: u64) -> Result<Channel, Fail> {
-    Ok(Channel::new(alloc, Capacity::new(capacity)?)?)
+fn lone(rt: &impl Abort, alloc: Global, capacity: u64) -> Channel {
+    let capacity = Capacity::new(capacity).expect(rt, "a capacity");
+    Channel::new(alloc, capacity).expect(rt, "memory for a channel")
 }
 
 // The log of a channel with sender 1 alone, and its share.
-fn opened(alloc: Global, capacity: u64, limit: u64, key: u64) -> Result<(Log, Share), Fail> {
-    Ok(made(alloc, lone(alloc, capacity)?, limit, key)?)
+fn opened(rt: &impl Abort, alloc: Global, capacity: u64, limit: u64, key: u64) -> (Log, Share) {
+    let channel = lone(rt, alloc, capacity);
+    made(alloc, channel, limit, key).expect(rt, "a log")
 }
+
+// A log that a test is done with. Its parts are let go here, in one place.
+fn drop_log(_log: Log) {}
 
 fn is_ready(log: &Log, call: &BCall<u64>) -> bool {
     log.ready(call)
@@ -180,27 +184,32 @@ fn starts_at(rt: &impl Abort, start: &PictureParts<u64>, next: u64, tail: u64) {
 }
 
 // Whether no log is made of a channel, for its limit.
-fn is_bad_limit(alloc: Global, channel: Channel, limit: u64) -> bool {
-    made(alloc, channel, limit, KEY).err() == Some(MakeFault::BadLimit)
+fn is_bad_limit(rt: &impl Abort, alloc: Global, channel: Channel, limit: u64) -> bool {
+    match made(alloc, channel, limit, KEY) {
+        Ok(_log) => panic!(rt; "a log"),
+        Err(fault) => fault == MakeFault::BadLimit,
+    }
 }
 
 #[test]
-fn limits_leave_room_for_the_live_handles(rt: HostRuntime) -> Result<(), Fail> {
-    let pair = Channel::channel(rt.alloc(), Capacity::new(1)?)?;
-    expect(&rt, "for two", is_bad_limit(rt.alloc(), pair, 1));
+fn limits_leave_room_for_the_live_handles(rt: HostRuntime) {
+    let capacity = Capacity::new(1).expect(&rt, "a capacity");
+    let pair = Channel::channel(rt.alloc(), capacity).expect(&rt, "memory for a channel");
+    expect(&rt, "for two", is_bad_limit(&rt, rt.alloc(), pair, 1));
     for limit in [0, 1_000_001] {
-        let one = lone(rt.alloc(), 1)?;
-        expect(&rt, "for one", is_bad_limit(rt.alloc(), one, limit));
+        let one = lone(&rt, rt.alloc(), 1);
+        expect(&rt, "for one", is_bad_limit(&rt, rt.alloc(), one, limit));
     }
-    opened(rt.alloc(), 1, 1, KEY)?;
-    opened(rt.alloc(), 1, 1_000_000, KEY)?;
-    Ok(())
+    for limit in [1, 1_000_000] {
+        let (log, _share) = opened(&rt, rt.alloc(), 1, limit, KEY);
+        drop_log(log);
+    }
 }
 
 // A receive that would wait is no event; each event stands in the log as it was answered.
 #[test]
-fn events_are_entries(rt: HostRuntime) -> Result<(), Fail> {
-    let (mut log, mut share) = opened(rt.alloc(), 2, 9, KEY)?;
+fn events_are_entries(rt: HostRuntime) {
+    let (mut log, mut share) = opened(&rt, rt.alloc(), 2, 9, KEY);
     let rows = [
         (CloneTx(TX), NewTx(TxId(2))),
         (Subscribe(TX), NewRx(RxId(3))),
@@ -220,25 +229,25 @@ fn events_are_entries(rt: HostRuntime) -> Result<(), Fail> {
     );
     expect(&rt, "no third entry", has_no_entry(&log, 2));
     starts_at(&rt, start(&log), 2, 0);
-    Ok(())
+    drop_log(log);
 }
 
 #[test]
-fn reserved_room_is_there(rt: HostRuntime) -> Result<(), Fail> {
-    let (mut log, mut tx) = opened(rt.alloc(), 2, 4, KEY)?;
+fn reserved_room_is_there(rt: HostRuntime) {
+    let (mut log, mut tx) = opened(&rt, rt.alloc(), 2, 4, KEY);
     told(&rt, &mut log, &mut tx, Subscribe(TX), NewRx(RX));
     reserves(&rt, &mut log, 2, Some(Refused::LogFull(())));
     reserves(&rt, &mut log, 1, None);
     told(&rt, &mut log, &mut tx, Readers(TX), Count(1));
     reserves(&rt, &mut log, 1, Some(Refused::LogFull(())));
     reserves(&rt, &mut log, 0, None);
-    Ok(())
+    drop_log(log);
 }
 
 // A cut makes room for a full segment more.
 #[test]
-fn a_cut_makes_room(rt: HostRuntime) -> Result<(), Fail> {
-    let (mut log, mut tx) = opened(rt.alloc(), 2, 4, KEY)?;
+fn a_cut_makes_room(rt: HostRuntime) {
+    let (mut log, mut tx) = opened(&rt, rt.alloc(), 2, 4, KEY);
     let rows = [(Subscribe(TX), NewRx(RX)), (Send(TX, 5), Sent(1))];
     follow(&rt, &mut log, &mut tx, rows);
     refuses(
@@ -252,5 +261,5 @@ fn a_cut_makes_room(rt: HostRuntime) -> Result<(), Fail> {
     told_at(&rt, &mut log, &mut tx, (Send(TX, 6), Sent(1)), 2);
     has_counts(&rt, &log, (2, 1, 3));
     told(&rt, &mut log, &mut tx, TryRecv(RX), Value(5));
-    Ok(())
+    drop_log(log);
 }

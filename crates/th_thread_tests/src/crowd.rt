@@ -1,14 +1,22 @@
 //! Eight senders and eight receivers on one channel, each in a thread of its own.
-use crate::channels::{News, finished, opened, with_receiver};
+use crate::broadcast_calls::{
+    News, another, clone_tx, cut, is_sent, owner_of, recv, resubscribe, send, spend_receiver,
+    spend_sender, subscribe, subscribe_oldest,
+};
+use crate::channels::{begun_anew, opened, with_receipt};
 use crate::delivery::{is_delivery, values_sent};
+use crate::histories::{
+    add_diary, answered, audited, closed, finished, joined_two, new_diary, note, receipts_of,
+    reply_of,
+};
+use crate::threads::{add, started};
 use std::alloc::Global;
 use std::process::Abort;
 use std::sync::Wait;
-use std::test::Fail;
 use std::thread;
 use std::thread::{JoinHandle, Threads};
-use th_block::{BReceiver, BSender, Replaced, Shared};
-use th_log::{Audited, Diary, Receipt, Segment, audit, close};
+use th_block::{BReceiver, BSender, Shared};
+use th_log::{Audited, Diary, Receipt, Segment};
 use th_model::BReply;
 use th_seats::Share;
 
@@ -28,33 +36,63 @@ impl Left {
     fn new(alloc: Global) -> Left {
         Left {
             shares: Vec::new(alloc),
-            diary: Diary::new(alloc),
+            diary: new_diary(alloc),
             segments: Vec::new(alloc),
         }
     }
 }
 
-// Sends its values. The one with an owner cuts the log each thousand.
-fn send_all<R: Wait>(
+fn keep_share(rt: &impl Abort, shares: &mut Vec<Share>, share: Share) {
+    shares.push(share).expect(rt, "memory for a share");
+}
+
+fn keep_segment(rt: &impl Abort, segments: &mut Vec<Segment<News>>, segment: Segment<News>) {
+    segments.push(segment).expect(rt, "memory for a segment");
+}
+
+// Sends one value. The one with an owner cuts the log each thousand.
+fn send_one<R: Wait + Abort>(
+    rt: &R,
+    left: &mut Left,
+    tx: &mut BSender<u64>,
+    owner: &Option<Shared<News>>,
+    first: u64,
+    number: u64,
+) {
+    let receipt = answered(rt, send(rt, tx, first.wrapping_add(number)));
+    note(rt, &mut left.diary, receipt);
+    if number % 1_000 == 999 {
+        if let Some(owner) = owner {
+            keep_segment(rt, &mut left.segments, cut(rt, owner));
+        }
+    }
+}
+
+fn send_values<R: Wait + Abort>(
+    rt: &R,
+    left: &mut Left,
+    tx: &mut BSender<u64>,
+    owner: &Option<Shared<News>>,
+    first: u64,
+) {
+    for number in 0..VALUES {
+        send_one(rt, left, tx, owner, first, number);
+    }
+}
+
+// Sends its values.
+fn send_all<R: Wait + Abort>(
     rt: &R,
     alloc: Global,
     tx: BSender<u64>,
     owner: Option<Shared<News>>,
     first: u64,
-) -> Option<Left> {
+) -> Left {
     let mut tx = tx;
     let mut left = Left::new(alloc);
-    for number in 0..VALUES {
-        let receipt = tx.send(rt, first.wrapping_add(number)).ok()?;
-        left.diary.note(receipt).ok()?;
-        if number % 1_000 == 999 {
-            if let Some(owner) = &owner {
-                left.segments.push(owner.cut(rt).ok()?).ok()?;
-            }
-        }
-    }
-    left.shares.push(tx.spend(rt).ok()?).ok()?;
-    Some(left)
+    send_values(rt, &mut left, &mut tx, &owner, first);
+    keep_share(rt, &mut left.shares, spend_sender(rt, tx));
+    left
 }
 
 /// How a receiver goes about it.
@@ -71,108 +109,135 @@ enum Manner {
 }
 
 // Another receiver in the place of this one.
-fn begun_anew<R: Wait>(
+fn replace<R: Wait + Abort>(
     rt: &R,
     left: &mut Left,
     owner: &Shared<News>,
     rx: BReceiver<u64>,
-) -> Option<BReceiver<u64>> {
-    let (receipt, became) = owner.pair_resub(rt, rx).ok()?;
-    left.diary.note(receipt).ok()?;
-    match became {
-        Replaced::New(new, share) => {
-            left.shares.push(share).ok()?;
-            Some(new)
-        }
-        Replaced::Kept(_) => None,
-    }
+) -> BReceiver<u64> {
+    let (receipt, new, share) = begun_anew(rt, owner, rx);
+    note(rt, &mut left.diary, receipt);
+    keep_share(rt, &mut left.shares, share);
+    new
 }
 
 // Another receiver, after which this one leaves.
-fn come_again<R: Wait>(rt: &R, left: &mut Left, rx: BReceiver<u64>) -> Option<BReceiver<u64>> {
+fn come_again<R: Wait + Abort>(rt: &R, left: &mut Left, rx: BReceiver<u64>) -> BReceiver<u64> {
     let mut rx = rx;
-    let (receipt, made) = rx.resubscribe(rt).ok()?;
-    left.diary.note(receipt).ok()?;
-    left.shares.push(rx.spend(rt).ok()?).ok()?;
+    let (receipt, made) = with_receipt(rt, resubscribe(rt, &mut rx));
+    note(rt, &mut left.diary, receipt);
+    keep_share(rt, &mut left.shares, spend_receiver(rt, rx));
     made
 }
 
+// Receives once. Whether there is more to come.
+fn receive_one<R: Wait + Abort>(rt: &R, left: &mut Left, rx: &mut BReceiver<u64>) -> bool {
+    let receipt = answered(rt, recv(rt, rx));
+    let goes_on = *reply_of(&receipt) != BReply::Closed;
+    note(rt, &mut left.diary, receipt);
+    goes_on
+}
+
+// What a receiver does after so many answers.
+fn behave<R: Wait + Abort>(
+    rt: &R,
+    left: &mut Left,
+    rx: BReceiver<u64>,
+    owner: &Shared<News>,
+    manner: Manner,
+    answers: u64,
+) -> BReceiver<u64> {
+    match manner {
+        Manner::Slow => {
+            for _ in 0..8 {
+                thread::yield_now();
+            }
+            rx
+        }
+        Manner::Replaced if answers % 500 == 0 => replace(rt, left, owner, rx),
+        Manner::Leaves if answers % 500 == 0 => come_again(rt, left, rx),
+        _ => rx,
+    }
+}
+
 // Receives until the channel is closed. The first receipt is that of the receiver's making.
-fn receive_all<R: Wait>(
+fn receive_all<R: Wait + Abort>(
     rt: &R,
     alloc: Global,
     rx: BReceiver<u64>,
     owner: Shared<News>,
     manner: Manner,
     making: Receipt<News>,
-) -> Option<Left> {
+) -> Left {
     let mut rx = rx;
     let mut left = Left::new(alloc);
-    left.diary.note(making).ok()?;
+    note(rt, &mut left.diary, making);
     let mut answers = 0u64;
     for _ in rt.forever() {
-        let receipt = rx.recv(rt).ok()?;
-        let ends = *receipt.reply() == BReply::Closed;
-        left.diary.note(receipt).ok()?;
-        if ends {
+        if !receive_one(rt, &mut left, &mut rx) {
             break;
         }
         answers = answers.wrapping_add(1);
-        rx = match manner {
-            Manner::Slow => {
-                for _ in 0..8 {
-                    thread::yield_now();
-                }
-                rx
-            }
-            Manner::Replaced if answers % 500 == 0 => begun_anew(rt, &mut left, &owner, rx)?,
-            Manner::Leaves if answers % 500 == 0 => come_again(rt, &mut left, rx)?,
-            _ => rx,
-        };
+        rx = behave(rt, &mut left, rx, &owner, manner, answers);
     }
-    left.shares.push(rx.spend(rt).ok()?).ok()?;
-    Some(left)
+    keep_share(rt, &mut left.shares, spend_receiver(rt, rx));
+    left
 }
 
-type Running = JoinHandle<Option<Left>>;
+type Running = JoinHandle<Left>;
 
-fn sending<R: Threads + Wait + Copy + Send + 'static>(
+fn sending<R: Threads + Wait + Abort + Copy + Send + 'static>(
     rt: R,
     alloc: Global,
     tx: BSender<u64>,
     owner: Option<Shared<News>>,
     first: u64,
-) -> Result<Running, Fail> {
-    match thread::spawn(&rt, move || send_all(&rt, alloc, tx, owner, first)) {
-        Ok(running) => Ok(running),
-        Err(_) => Err(Fail::new("no thread")),
-    }
+) -> Running {
+    started(&rt, move || send_all(&rt, alloc, tx, owner, first))
 }
 
-fn receiving<R: Threads + Wait + Copy + Send + 'static>(
+fn receiving<R: Threads + Wait + Abort + Copy + Send + 'static>(
     rt: R,
     alloc: Global,
     rx: BReceiver<u64>,
     owner: Shared<News>,
     manner: Manner,
     making: Receipt<News>,
-) -> Result<Running, Fail> {
-    match thread::spawn(
+) -> Running {
+    started(
         &rt,
         move || receive_all(&rt, alloc, rx, owner, manner, making),
-    ) {
-        Ok(running) => Ok(running),
-        Err(_) => Err(Fail::new("no thread")),
+    )
+}
+
+/// A receiver that was made and does not run yet.
+#[derive(Drop)]
+struct Waiting {
+    rx: BReceiver<u64>,
+    manner: Manner,
+    making: Receipt<News>,
+}
+
+// A receiver of this manner waits.
+fn let_wait(
+    rt: &impl Abort,
+    waiting: &mut Vec<Waiting>,
+    made: (Receipt<News>, BReceiver<u64>),
+    manner: Manner,
+) {
+    let (making, rx) = made;
+    let one = Waiting { rx, manner, making };
+    waiting.push(one).expect(rt, "memory for a receiver");
+}
+
+fn send_twenty<R: Wait + Abort>(rt: &R, tx: &mut BSender<u64>) {
+    for value in 0..20 {
+        assert!(rt; is_sent(rt, tx, value), "refused");
     }
 }
 
 // Seven receivers; twenty values; and an eighth receiver, from the oldest that is kept.
-fn receivers_started<R: Threads + Wait + Copy + Send + 'static>(
-    rt: R,
-    alloc: Global,
-    tx: &mut BSender<u64>,
-    owner: &Shared<News>,
-) -> Result<Vec<Running>, Fail> {
+fn receivers_made<R: Wait + Abort>(rt: &R, alloc: Global, tx: &mut BSender<u64>) -> Vec<Waiting> {
     let manners = [
         Manner::Eager,
         Manner::Slow,
@@ -184,46 +249,71 @@ fn receivers_started<R: Threads + Wait + Copy + Send + 'static>(
     ];
     let mut waiting = Vec::new(alloc);
     for manner in manners {
-        let (making, rx) = with_receiver(tx.subscribe(&rt))?;
-        waiting.push((rx, manner, making))?;
+        let_wait(
+            rt,
+            &mut waiting,
+            with_receipt(rt, subscribe(rt, tx)),
+            manner,
+        );
     }
-    for value in 0..20 {
-        if tx.send(&rt, value).is_err() {
-            return Err(Fail::new("refused"));
-        }
-    }
-    let (making, rx) = with_receiver(tx.subscribe_oldest(&rt))?;
-    waiting.push((rx, Manner::Eager, making))?;
-    let mut running = Vec::new(alloc);
-    for (rx, manner, making) in waiting {
-        running.push(receiving(rt, alloc, rx, owner.another()?, manner, making)?)?;
-    }
-    Ok(running)
+    send_twenty(rt, tx);
+    let oldest = with_receipt(rt, subscribe_oldest(rt, tx));
+    let_wait(rt, &mut waiting, oldest, Manner::Eager);
+    waiting
 }
 
-// Eight senders, the first of which cuts.
-fn senders_started<R: Threads + Wait + Copy + Send + 'static>(
+fn start_receiver<R: Threads + Wait + Abort + Copy + Send + 'static>(
     rt: R,
     alloc: Global,
+    running: &mut Vec<Running>,
+    owner: Shared<News>,
+    waiting: Waiting,
+) {
+    let Waiting { rx, manner, making } = waiting;
+    let thread = receiving(rt, alloc, rx, owner, manner, making);
+    add(&rt, running, thread);
+}
+
+fn receivers_started<R: Threads + Wait + Abort + Copy + Send + 'static>(
+    rt: R,
+    alloc: Global,
+    tx: &mut BSender<u64>,
+    owner: &Shared<News>,
+) -> Vec<Running> {
+    let mut running = Vec::new(alloc);
+    for waiting in receivers_made(&rt, alloc, tx) {
+        start_receiver(rt, alloc, &mut running, another(&rt, owner), waiting);
+    }
+    running
+}
+
+// A sender more, which has a thread.
+fn start_sender<R: Threads + Wait + Abort + Copy + Send + 'static>(
+    rt: R,
+    alloc: Global,
+    running: &mut Vec<Running>,
+    tx: &mut BSender<u64>,
+    first: u64,
+) {
+    let (_receipt, sender) = with_receipt(&rt, clone_tx(&rt, tx));
+    add(&rt, running, sending(rt, alloc, sender, None, first));
+}
+
+// Starts eight senders, the last of which cuts.
+fn start_senders<R: Threads + Wait + Abort + Copy + Send + 'static>(
+    rt: R,
+    alloc: Global,
+    running: &mut Vec<Running>,
     tx: BSender<u64>,
     owner: &Shared<News>,
-) -> Result<Vec<Running>, Fail> {
+) {
     let mut tx = tx;
-    let mut senders = Vec::new(alloc);
-    for _ in 1..8 {
-        let Ok((_, Some(sender))) = tx.clone_tx(&rt) else {
-            return Err(Fail::new("no sender"));
-        };
-        senders.push(sender)?;
+    for number in 1..8u64 {
+        let first = number.wrapping_mul(1_000_000);
+        start_sender(rt, alloc, running, &mut tx, first);
     }
-    let mut running = Vec::new(alloc);
-    running.push(sending(rt, alloc, tx, Some(owner.another()?), 1_000_000)?)?;
-    let mut first = 2_000_000u64;
-    for sender in senders {
-        running.push(sending(rt, alloc, sender, None, first)?)?;
-        first = first.wrapping_add(1_000_000);
-    }
-    Ok(running)
+    let cutter = Some(another(&rt, owner));
+    add(&rt, running, sending(rt, alloc, tx, cutter, 8_000_000));
 }
 
 // What the threads left, all together: their shares, their diaries and the segments.
@@ -234,52 +324,71 @@ struct All {
     segments: Vec<Segment<News>>,
 }
 
-fn joined<R: Threads>(rt: &R, alloc: Global, running: Vec<Running>) -> Result<All, Fail> {
-    let mut all = All {
-        shares: Vec::new(alloc),
-        diaries: Vec::new(alloc),
-        segments: Vec::new(alloc),
-    };
-    for thread in running {
-        let Some(left) = thread.join(rt) else {
-            return Err(Fail::new("a thread was refused"));
-        };
-        let Left {
-            shares,
-            diary,
-            segments,
-        } = left;
-        for share in shares {
-            all.shares.push(share)?;
+impl All {
+    fn new(alloc: Global) -> All {
+        All {
+            shares: Vec::new(alloc),
+            diaries: Vec::new(alloc),
+            segments: Vec::new(alloc),
         }
-        for segment in segments {
-            all.segments.push(segment)?;
-        }
-        all.diaries.push(diary)?;
     }
-    Ok(all)
+}
+
+fn keep_all<T: Drop>(rt: &impl Abort, all: &mut Vec<T>, more: Vec<T>) {
+    for one in more {
+        all.push(one).expect(rt, "memory for what a thread left");
+    }
+}
+
+// What one thread left, beside the others'.
+fn gather(rt: &impl Abort, all: &mut All, left: Left) {
+    let Left {
+        shares,
+        diary,
+        segments,
+    } = left;
+    keep_all(rt, &mut all.shares, shares);
+    keep_all(rt, &mut all.segments, segments);
+    add_diary(rt, &mut all.diaries, diary);
+}
+
+fn joined<R: Threads + Abort>(rt: &R, alloc: Global, running: Vec<Running>) -> All {
+    let mut all = All::new(alloc);
+    for thread in running {
+        gather(rt, &mut all, thread.join(rt));
+    }
+    all
+}
+
+fn joined_to(
+    rt: &impl Abort,
+    before: Option<Segment<News>>,
+    segment: Segment<News>,
+) -> Segment<News> {
+    match before {
+        None => segment,
+        Some(before) => joined_two(rt, before, segment),
+    }
+}
+
+// The segment goes behind the ones before.
+fn append(rt: &impl Abort, whole: &mut Option<Segment<News>>, segment: Segment<News>) {
+    let before = whole.take();
+    *whole = Some(joined_to(rt, before, segment));
 }
 
 // The segments, joined in the order in which they were cut, up to the last.
-fn whole_of(segments: Vec<Segment<News>>, last: Segment<News>) -> Result<Segment<News>, Fail> {
-    let mut whole: Option<Segment<News>> = None;
+fn whole_of(rt: &impl Abort, segments: Vec<Segment<News>>, last: Segment<News>) -> Segment<News> {
+    let mut whole = None;
     for segment in segments {
-        whole = match whole {
-            None => Some(segment),
-            Some(before) => Some(joined_two(before, segment)?),
-        };
+        append(rt, &mut whole, segment);
     }
-    match whole {
-        None => Ok(last),
-        Some(before) => joined_two(before, last),
-    }
+    joined_to(rt, whole, last)
 }
 
-fn joined_two(one: Segment<News>, other: Segment<News>) -> Result<Segment<News>, Fail> {
-    match Segment::join(one, other) {
-        Ok(both) => Ok(both),
-        Err(_) => Err(Fail::new("the segments are apart")),
-    }
+// Whether a receiver was told what the law of delivery says.
+fn is_delivered(sent: &[(u64, u64)], diary: &Diary<News>) -> bool {
+    is_delivery(sent, CAPACITY as usize, receipts_of(diary))
 }
 
 // Of the diaries the first eight are the receivers'.
@@ -288,33 +397,41 @@ fn all_was_delivered(
     alloc: Global,
     whole: &Segment<News>,
     diaries: &[Diary<News>],
-) -> Result<(), Fail> {
-    let sent = values_sent(alloc, whole)?;
+) {
+    let sent = values_sent(rt, alloc, whole);
     assert_eq!(rt; sent.len(), 80_020);
     for (number, diary) in diaries.iter().enumerate().take(8) {
-        let told = is_delivery(sent.as_slice(), CAPACITY as usize, diary.receipts());
+        let told = is_delivered(sent.as_slice(), diary);
         assert!(rt; told, "receiver {number}");
     }
-    Ok(())
+}
+
+// The whole history, for which the shares account.
+fn history(
+    rt: &impl Abort,
+    owner: Shared<News>,
+    shares: Vec<Share>,
+    segments: Vec<Segment<News>>,
+) -> Segment<News> {
+    let last = closed(finished(rt, owner), shares).expect(rt, "shares that settle");
+    whole_of(rt, segments, last)
 }
 
 #[test]
-fn everyone_was_told_what_was_sent(rt: HostRuntime) -> Result<(), Fail> {
-    let mut tx = opened(rt.alloc(), CAPACITY, 1_000_000, 7)?;
-    let owner = tx.shared()?;
-    let mut running = receivers_started(rt, rt.alloc(), &mut tx, &owner)?;
-    for thread in senders_started(rt, rt.alloc(), tx, &owner)? {
-        running.push(thread)?;
-    }
+fn everyone_was_told_what_was_sent(rt: HostRuntime) {
+    let mut tx = opened(&rt, rt.alloc(), CAPACITY, 1_000_000, 7);
+    let owner = owner_of(&rt, &tx);
+    let mut running = receivers_started(rt, rt.alloc(), &mut tx, &owner);
+    start_senders(rt, rt.alloc(), &mut running, tx, &owner);
     let All {
         shares,
         diaries,
         segments,
-    } = joined(&rt, rt.alloc(), running)?;
-    let Ok(last) = close(finished(owner)?, shares) else {
-        return Err(Fail::new("the shares do not settle"));
-    };
-    let whole = whole_of(segments, last)?;
-    assert_eq!(rt; audit(rt.alloc(), &whole, diaries.as_slice()), Ok(Audited));
-    all_was_delivered(&rt, rt.alloc(), &whole, diaries.as_slice())
+    } = joined(&rt, rt.alloc(), running);
+    let whole = history(&rt, owner, shares, segments);
+    assert_eq!(rt;
+        audited(rt.alloc(), &whole, diaries.as_slice()),
+        Ok(Audited)
+    );
+    all_was_delivered(&rt, rt.alloc(), &whole, diaries.as_slice());
 }

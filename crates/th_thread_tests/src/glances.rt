@@ -1,8 +1,12 @@
 //! Glances follow the events, take no lock, and never go back.
+use crate::broadcast_calls::{
+    drop_receiver, drop_sender, glance, is_sent, learn, sender_seen, spend_sender,
+};
 use crate::channels::{opened, subscribed};
+use crate::threads::{add, started};
+use std::alloc::Global;
 use std::process::Abort;
 use std::sync::{Arc, Mutex, Wait};
-use std::test::Fail;
 use std::thread;
 use std::thread::{JoinHandle, Threads};
 use th_block::{BReceiver, BSender};
@@ -10,12 +14,8 @@ use th_glance::Glance;
 
 // A look is given nothing to wait for.
 fn look(rx: &mut BReceiver<u64>) -> (u64, bool) {
-    let Glance { count, closed } = rx.glance();
+    let Glance { count, closed } = glance(rx);
     (count, closed)
-}
-
-fn learns(rx: &mut BReceiver<u64>, count: u64) -> bool {
-    rx.learn(count)
 }
 
 fn looks(rt: &impl Abort, rx: &mut BReceiver<u64>, count: u64, closed: bool) {
@@ -25,7 +25,7 @@ fn looks(rt: &impl Abort, rx: &mut BReceiver<u64>, count: u64, closed: bool) {
 // Whether all these numbers were sent.
 fn sends<R: Wait>(rt: &R, tx: &mut BSender<u64>, values: u64) -> bool {
     for value in 0..values {
-        if tx.send(rt, value).is_err() {
+        if !is_sent(rt, tx, value) {
             return false;
         }
     }
@@ -33,27 +33,28 @@ fn sends<R: Wait>(rt: &R, tx: &mut BSender<u64>, values: u64) -> bool {
 }
 
 #[test]
-fn a_glance_follows_the_events(rt: HostRuntime) -> Result<(), Fail> {
-    let mut tx = opened(rt.alloc(), 2, 30, 7)?;
-    let mut rx = subscribed(&rt, &mut tx)?;
+fn a_glance_follows_the_events(rt: HostRuntime) {
+    let mut tx = opened(&rt, rt.alloc(), 2, 30, 7);
+    let mut rx = subscribed(&rt, &mut tx);
     looks(&rt, &mut rx, 1, false);
     assert!(rt; sends(&rt, &mut tx, 2));
     looks(&rt, &mut rx, 3, false);
-    assert!(rt; tx.spend(&rt).is_ok());
+    spend_sender(&rt, tx);
     looks(&rt, &mut rx, 4, true);
-    Ok(())
+    drop_receiver(rx);
 }
 
 #[test]
-fn a_handle_learns(rt: HostRuntime) -> Result<(), Fail> {
-    let mut tx = opened(rt.alloc(), 2, 30, 7)?;
-    let mut rx = subscribed(&rt, &mut tx)?;
+fn a_handle_learns(rt: HostRuntime) {
+    let mut tx = opened(&rt, rt.alloc(), 2, 30, 7);
+    let mut rx = subscribed(&rt, &mut tx);
     assert!(rt; sends(&rt, &mut tx, 1));
-    assert_eq!(rt; tx.seen(), 2);
-    assert!(rt; learns(&mut rx, 2) && !learns(&mut rx, 3));
+    assert_eq!(rt; sender_seen(&tx), 2);
+    assert!(rt; learn(&mut rx, 2) && !learn(&mut rx, 3));
     looks(&rt, &mut rx, 2, false);
     looks(&rt, &mut rx, 2, false);
-    Ok(())
+    drop_sender(tx);
+    drop_receiver(rx);
 }
 
 /// What a thread saw that glances.
@@ -83,9 +84,9 @@ fn glance_often(rx: &mut BReceiver<u64>, times: u64) -> Seen {
 }
 
 #[test]
-fn glances_beside_a_sender(rt: HostRuntime) -> Result<(), Fail> {
-    let mut tx = opened(rt.alloc(), 2, 2_000, 7)?;
-    let mut rx = subscribed(&rt, &mut tx)?;
+fn glances_beside_a_sender(rt: HostRuntime) {
+    let mut tx = opened(&rt, rt.alloc(), 2, 2_000, 7);
+    let mut rx = subscribed(&rt, &mut tx);
     let (sent, seen) = thread::join(
         &rt,
         || sends(&rt, &mut tx, 1_000),
@@ -93,7 +94,8 @@ fn glances_beside_a_sender(rt: HostRuntime) -> Result<(), Fail> {
     );
     assert!(rt; sent && !seen.fell && seen.last <= 1_001);
     looks(&rt, &mut rx, 1_001, false);
-    Ok(())
+    drop_sender(tx);
+    drop_receiver(rx);
 }
 
 // Puts a count into the list, and answers the highest that stands there.
@@ -130,34 +132,48 @@ fn glance_and_learn<R: Wait>(
             break;
         }
         let highest = told(rt, &*list, number, count);
-        seen.missed = seen.missed || !learns(&mut rx, highest);
+        seen.missed = seen.missed || !learn(&mut rx, highest);
     }
     seen
 }
 
-fn glancing<R: Threads + Wait + Copy + Send + 'static>(
+fn glancing<R: Threads + Wait + Abort + Copy + Send + 'static>(
     rt: R,
     rx: BReceiver<u64>,
     list: Arc<Mutex<Vec<u64>>>,
     number: usize,
-) -> Result<JoinHandle<Seen>, Fail> {
-    match thread::spawn(&rt, move || glance_and_learn(&rt, rx, list, number)) {
-        Ok(running) => Ok(running),
-        Err(_) => Err(Fail::new("no thread")),
-    }
+) -> JoinHandle<Seen> {
+    started(&rt, move || glance_and_learn(&rt, rx, list, number))
+}
+
+// Four counts, none of which was told of yet.
+fn no_counts(rt: &impl Abort, alloc: Global) -> Arc<Mutex<Vec<u64>>> {
+    let counts = Vec::from_array(alloc, [0, 0, 0, 0])
+        .ok()
+        .expect(rt, "memory for a list");
+    Arc::new(alloc, Mutex::new(counts)).expect(rt, "memory for a list")
+}
+
+fn another(rt: &impl Abort, list: &Arc<Mutex<Vec<u64>>>) -> Arc<Mutex<Vec<u64>>> {
+    Arc::try_clone(list).expect(rt, "an owner of the list")
 }
 
 // Four subscriptions, the sends, and the end of the sender.
 #[test]
-fn four_threads_learn_from_each_other(rt: HostRuntime) -> Result<(), Fail> {
-    let mut tx = opened(rt.alloc(), 2, 1_000_000, 7)?;
-    let list = Arc::new(rt.alloc(), Mutex::new(vec![in rt.alloc(); 0u64, 0, 0, 0]?))?;
+fn four_threads_learn_from_each_other(rt: HostRuntime) {
+    let mut tx = opened(&rt, rt.alloc(), 2, 1_000_000, 7);
+    let list = no_counts(&rt, rt.alloc());
     let mut running = Vec::new(rt.alloc());
     for number in 0..4 {
-        let rx = subscribed(&rt, &mut tx)?;
-        running.push(glancing(rt, rx, Arc::try_clone(&list)?, number)?)?;
+        let rx = subscribed(&rt, &mut tx);
+        add(
+            &rt,
+            &mut running,
+            glancing(rt, rx, another(&rt, &list), number),
+        );
     }
-    let sent = sends(&rt, &mut tx, 100_000) && tx.spend(&rt).is_ok();
+    assert!(rt; sends(&rt, &mut tx, 100_000));
+    spend_sender(&rt, tx);
     for thread in running {
         let seen = thread.join(&rt);
         let all = Seen {
@@ -167,6 +183,4 @@ fn four_threads_learn_from_each_other(rt: HostRuntime) -> Result<(), Fail> {
         };
         assert_eq!(rt; seen, all);
     }
-    assert!(rt; sent);
-    Ok(())
 }

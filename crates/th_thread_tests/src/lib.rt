@@ -5,6 +5,8 @@
 #[cfg(test)]
 mod audits;
 #[cfg(test)]
+mod broadcast_calls;
+#[cfg(test)]
 mod calls;
 #[cfg(test)]
 mod channels;
@@ -15,6 +17,8 @@ mod delivery;
 #[cfg(test)]
 mod glances;
 #[cfg(test)]
+mod histories;
+#[cfg(test)]
 mod memory;
 #[cfg(test)]
 mod replaced;
@@ -23,4 +27,8 @@ mod shares;
 #[cfg(test)]
 mod story;
 #[cfg(test)]
+mod threads;
+#[cfg(test)]
 mod waking;
+#[cfg(test)]
+mod watch_calls;

@@ -4,15 +4,17 @@
 //! and so on).
 ghost use Rattle.std.specs.Prelude.{◌≡◌};
 
-use crate::channels::{News, finished};
+use crate::broadcast_calls::{self, owner_of, sender_seen, spend_receiver, spend_sender};
+use crate::histories::{closed, drop_log, finished, total};
 use std::alloc::{AllocError, Global};
 use std::clone::Clone;
+use std::process::Abort;
 use std::sync::Wait;
-use std::test::Fail;
 use std::thread;
 use th_block::{BReceiver, BSender, broadcast};
-use th_log::{Receipt, Refused, close};
+use th_log::Refused;
 use th_model::{BCall, Capacity, TxId};
+use th_seats::Share;
 
 /// There is never memory for a second one.
 #[derive(Debug, Drop, PartialEq)]
@@ -26,105 +28,142 @@ impl Clone for Stubborn {
     }
 }
 
+// The calls at this type stand in functions of their own, as those at numbers do.
+
+fn opened(rt: &impl Abort, alloc: Global) -> BSender<Stubborn> {
+    let capacity = Capacity::new(2).expect(rt, "a capacity");
+    broadcast(alloc, capacity, 4, 7).expect(rt, "a channel")
+}
+
+fn received_by<R: Wait + Abort>(rt: &R, tx: &mut BSender<Stubborn>) -> BReceiver<Stubborn> {
+    let (_, made) = tx.subscribe(rt).expect(rt, "an event");
+    made.expect(rt, "a receiver")
+}
+
+// The call that comes back for want of memory.
+fn refused<R: Wait + Abort>(
+    rt: &R,
+    tx: &mut BSender<Stubborn>,
+    value: Stubborn,
+) -> BCall<Stubborn> {
+    let Err(Refused::Short(call)) = tx.send(rt, value) else {
+        panic!(rt; "not told to be short of memory");
+    };
+    call
+}
+
+fn sender_is_spent<R: Wait + Abort>(rt: &R, tx: BSender<Stubborn>) -> Share {
+    match tx.spend(rt) {
+        Ok(share) => share,
+        Err(_back) => panic!(rt; "a spending was refused"),
+    }
+}
+
+fn receiver_is_spent<R: Wait + Abort>(rt: &R, rx: BReceiver<Stubborn>) -> Share {
+    match rx.spend(rt) {
+        Ok(share) => share,
+        Err(_back) => panic!(rt; "a spending was refused"),
+    }
+}
+
 #[test]
-fn a_refused_send_comes_back(rt: HostRuntime) -> Result<(), Fail> {
-    let mut tx: BSender<Stubborn> = broadcast(rt.alloc(), Capacity::new(2)?, 4, 7)?;
-    let Ok((_, Some(rx))) = tx.subscribe(&rt) else {
-        return Err(Fail::new("no receiver"));
-    };
-    let Err(Refused::Short(call)) = tx.send(&rt, Stubborn(5)) else {
-        return Err(Fail::new("not told to be short of memory"));
-    };
+fn a_refused_send_comes_back(rt: HostRuntime) {
+    let mut tx = opened(&rt, rt.alloc());
+    let rx = received_by(&rt, &mut tx);
+    let call = refused(&rt, &mut tx, Stubborn(5));
     assert_eq!(rt; call, BCall::Send(TxId(1), Stubborn(5)));
-    assert_eq!(rt; tx.seen(), 1);
-    let owner = tx.shared()?;
-    let (Ok(tx), Ok(rx)) = (tx.spend(&rt), rx.spend(&rt)) else {
-        return Err(Fail::new("a spending was refused"));
-    };
+    assert_eq!(rt; sender_seen(&tx), 1);
+    let owner = owner_of(&rt, &tx);
+    let (tx, rx) = (sender_is_spent(&rt, tx), receiver_is_spent(&rt, rx));
     assert_eq!(rt; (tx.count(), rx.count()), (2, 1));
-    assert_eq!(rt; finished(owner)?.total(), 3);
-    Ok(())
+    let log = finished(&rt, owner);
+    assert_eq!(rt; total(&log), 3);
+    drop_log(log);
 }
 
 // The call is made again where memory was refused, which happens once.
 fn sent<R: Wait>(rt: &R, to: &mut BSender<u64>, value: u64) -> bool {
-    match to.send(rt, value) {
+    match broadcast_calls::send(rt, to, value) {
         Ok(_) => true,
-        Err(Refused::Short(_)) => to.send(rt, value).is_ok(),
+        Err(Refused::Short(_)) => broadcast_calls::is_sent(rt, to, value),
         Err(_) => false,
     }
 }
 
 fn received<R: Wait>(rt: &R, from: &mut BReceiver<u64>) -> bool {
-    match from.recv(rt) {
+    match broadcast_calls::recv(rt, from) {
         Ok(_) => true,
-        Err(Refused::Short(_)) => from.recv(rt).is_ok(),
+        Err(Refused::Short(_)) => broadcast_calls::is_received(rt, from),
         Err(_) => false,
     }
 }
 
-fn made(alloc: Global, key: u64) -> Result<BSender<u64>, Fail> {
-    let capacity = Capacity::new(1)?;
-    match broadcast(alloc, capacity, 1000, key) {
-        Ok(tx) => Ok(tx),
-        Err(_) => Ok(broadcast(alloc, capacity, 1000, key)?),
+fn made(rt: &impl Abort, alloc: Global, key: u64) -> BSender<u64> {
+    let capacity = Capacity::new(1).expect(rt, "a capacity");
+    match broadcast_calls::make(alloc, capacity, 1000, key) {
+        Ok(tx) => tx,
+        Err(_) => broadcast_calls::make(alloc, capacity, 1000, key).expect(rt, "a channel"),
     }
 }
 
-fn subscribed<R: Wait>(rt: &R, tx: &mut BSender<u64>) -> Result<BReceiver<u64>, Fail> {
-    for _ in 0..2 {
-        if let Ok((_, Some(rx))) = tx.subscribe(rt) {
-            return Ok(rx);
-        }
+// A receiver, where memory was not refused.
+fn receiver<R: Wait>(rt: &R, tx: &mut BSender<u64>) -> Option<BReceiver<u64>> {
+    match broadcast_calls::subscribe(rt, tx) {
+        Ok((_, made)) => made,
+        Err(_) => None,
     }
-    Err(Fail::new("no receiver"))
+}
+
+fn subscribed<R: Wait + Abort>(rt: &R, tx: &mut BSender<u64>) -> BReceiver<u64> {
+    match receiver(rt, tx) {
+        Some(rx) => rx,
+        None => receiver(rt, tx).expect(rt, "a receiver"),
+    }
+}
+
+fn keep(rt: &impl Abort, shares: &mut Vec<Share>, share: Share) {
+    if let Err(refused) = shares.push(share) {
+        shares.push(refused.value).expect(rt, "memory for a share");
+    }
 }
 
 // The channel's handles are spent, and their shares settle.
-fn settles<R: Wait>(
-    rt: &R,
-    alloc: Global,
-    tx: BSender<u64>,
-    rx: BReceiver<u64>,
-) -> Result<bool, Fail> {
-    let owner = tx.shared()?;
-    let (Ok(tx), Ok(rx)) = (tx.spend(rt), rx.spend(rt)) else {
-        return Err(Fail::new("a spending was refused"));
-    };
-    let log = finished(owner)?;
+fn settles<R: Wait + Abort>(rt: &R, alloc: Global, tx: BSender<u64>, rx: BReceiver<u64>) -> bool {
+    let owner = owner_of(rt, &tx);
     let mut shares = Vec::new(alloc);
-    for share in [tx, rx] {
-        if let Err(refused) = shares.push(share) {
-            shares.push(refused.value)?;
-        }
+    keep(rt, &mut shares, spend_sender(rt, tx));
+    keep(rt, &mut shares, spend_receiver(rt, rx));
+    let log = finished(rt, owner);
+    total(&log) == 203 && closed(log, shares).is_some()
+}
+
+fn send_first<R: Wait>(rt: &R, to: &mut BSender<u64>, from: &mut BReceiver<u64>) -> bool {
+    let mut all = true;
+    for value in 0..100 {
+        all = all && sent(rt, to, value) && received(rt, from);
     }
-    Ok(log.total() == 203 && close(log, shares).is_ok())
+    all
+}
+
+fn receive_first<R: Wait>(rt: &R, from: &mut BReceiver<u64>, to: &mut BSender<u64>) -> bool {
+    let mut all = true;
+    for value in 0..100 {
+        all = all && received(rt, from) && sent(rt, to, value);
+    }
+    all
 }
 
 #[test]
-fn a_refused_call_is_made_again(rt: HostRuntime) -> Result<(), Fail> {
-    let mut p = made(rt.alloc(), 1)?;
-    let mut q = made(rt.alloc(), 2)?;
-    let mut of_p = subscribed(&rt, &mut p)?;
-    let mut of_q = subscribed(&rt, &mut q)?;
+fn a_refused_call_is_made_again(rt: HostRuntime) {
+    let mut p = made(&rt, rt.alloc(), 1);
+    let mut q = made(&rt, rt.alloc(), 2);
+    let mut of_p = subscribed(&rt, &mut p);
+    let mut of_q = subscribed(&rt, &mut q);
     let told = thread::join(
         &rt,
-        || {
-            let mut all = true;
-            for value in 0..100 {
-                all = all && sent(&rt, &mut p, value) && received(&rt, &mut of_q);
-            }
-            all
-        },
-        || {
-            let mut all = true;
-            for value in 0..100 {
-                all = all && received(&rt, &mut of_p) && sent(&rt, &mut q, value);
-            }
-            all
-        },
+        || send_first(&rt, &mut p, &mut of_q),
+        || receive_first(&rt, &mut of_p, &mut q),
     );
     assert_eq!(rt; told, (true, true));
-    assert!(rt; settles(&rt, rt.alloc(), p, of_p)? && settles(&rt, rt.alloc(), q, of_q)?);
-    Ok(())
+    assert!(rt; settles(&rt, rt.alloc(), p, of_p) && settles(&rt, rt.alloc(), q, of_q));
 }

@@ -4,14 +4,13 @@ ghost use Rattle.th_model.specs.Limits.{ClonesAreEqual};
 
 use std::alloc::Global;
 use std::process::Abort;
-use std::test::Fail;
 use th_bcast::Broadcast;
 use th_model::BCall::{
     CloneTx, DropRx, DropTx, Left, Queued, Readers, Recv, Resubscribe, Send, Subscribe, TryRecv,
 };
 use th_model::BReply::{Count, Done, NewRx, NewTx, Sent};
 use th_model::{BCall, BReply, Capacity, RxId, Short, TxId, Value, ValueFault};
-use th_shelf::PlainShelf;
+use th_shelf::{PlainShelf, Shelf};
 
 type Channel = Broadcast<Value, PlainShelf<Value>>;
 
@@ -19,10 +18,10 @@ const TX: TxId = TxId(1);
 
 const RX: RxId = RxId(2);
 
-fn word(alloc: Global, bytes: &[u8]) -> Result<Value, Fail> {
+fn word(rt: &impl Abort, alloc: Global, bytes: &[u8]) -> Value {
     match Value::new(alloc, bytes) {
-        Err(ValueFault::Short) => Ok(Value::new(alloc, bytes)?),
-        made => Ok(made?),
+        Err(ValueFault::Short) => Value::new(alloc, bytes).expect(rt, "a value"),
+        made => made.expect(rt, "a value"),
     }
 }
 
@@ -38,16 +37,16 @@ fn made(alloc: Global, maker: u64) -> Result<Channel, Short<()>> {
 }
 
 // The channel of a maker, which is called again where it was refused memory.
-fn channel(alloc: Global, maker: u64) -> Result<Channel, Fail> {
+fn channel(rt: &impl Abort, alloc: Global, maker: u64) -> Channel {
     match made(alloc, maker) {
-        Ok(channel) => Ok(channel),
-        Err(_) => Ok(made(alloc, maker)?),
+        Ok(channel) => channel,
+        Err(_) => made(alloc, maker).expect(rt, "memory for a channel"),
     }
 }
 
-// A call by its name.
-fn named<T: Clone>(
-    channel: &mut Broadcast<T, PlainShelf<T>>,
+// A call by its name. It is written for any shelf: at one that is known each call would have its whole contract.
+fn named<T: Clone, S: Shelf<T> + Drop>(
+    channel: &mut Broadcast<T, S>,
     call: BCall<T>,
 ) -> Result<BReply<T>, Short<BCall<T>>>
     requires { ClonesAreEqual T.is_clone }
@@ -69,71 +68,76 @@ fn named<T: Clone>(
 }
 
 // The reply to a call by its name, which is made again where it was refused memory.
-fn told(channel: &mut Channel, call: BCall<Value>) -> Result<BReply<Value>, Fail> {
+fn told(rt: &impl Abort, channel: &mut Channel, call: BCall<Value>) -> BReply<Value> {
     match named(channel, call) {
-        Ok(reply) => Ok(reply),
-        Err(short) => Ok(channel.apply(short.call)?),
+        Ok(reply) => reply,
+        Err(short) => channel.apply(short.call).expect(rt, "memory for a reply"),
     }
 }
 
 // The call, by its name, has this reply.
-fn tells(
-    rt: &impl Abort,
-    channel: &mut Channel,
-    call: BCall<Value>,
-    want: BReply<Value>,
-) -> Result<(), Fail> {
-    assert_eq!(rt; told(channel, call)?, want);
-    Ok(())
+fn tells(rt: &impl Abort, channel: &mut Channel, call: BCall<Value>, want: BReply<Value>) {
+    assert_eq!(rt; told(rt, channel, call), want);
 }
+
+// A channel that a test is done with. Its parts are let go here, in one place.
+fn drop_channel(_channel: Channel) {}
 
 // Each call of the rows, by its name, has the reply beside it.
 fn follow<const N: usize>(
     rt: &impl Abort,
     channel: &mut Channel,
     rows: [(BCall<Value>, BReply<Value>); N],
-) -> Result<(), Fail>
+)
     requires { N < 100 }
 {
     for (call, want) in rows {
-        tells(rt, channel, call, want)?;
+        tells(rt, channel, call, want);
     }
-    Ok(())
 }
 
 #[test]
-fn is_made(rt: HostRuntime) -> Result<(), Fail> {
+fn is_made(rt: HostRuntime) {
     for (maker, readers) in [(0, 0), (1, 1), (2, 0)] {
-        let mut channel = channel(rt.alloc(), maker)?;
-        tells(&rt, &mut channel, Readers(TX), Count(readers))?;
+        let mut channel = channel(&rt, rt.alloc(), maker);
+        tells(&rt, &mut channel, Readers(TX), Count(readers));
+        drop_channel(channel);
     }
-    Ok(())
 }
 
 fn is_ready(channel: &Channel, call: BCall<Value>) -> bool {
     channel.ready(&call)
 }
 
-#[test]
-fn carries(rt: HostRuntime) -> Result<(), Fail> {
-    let alloc = rt.alloc();
-    let mut channel = channel(alloc, 1)?;
-    assert!(rt; !is_ready(&channel, Recv(RX)));
-    for bytes in [b"seven", b"eight"] {
-        tells(&rt, &mut channel, Send(TX, word(alloc, bytes)?), Sent(1))?;
-    }
-    assert!(rt; is_ready(&channel, Recv(RX)));
-    tells(&rt, &mut channel, Queued(TX), Count(2))?;
-    let seven = BReply::Value(word(alloc, b"seven")?);
-    tells(&rt, &mut channel, TryRecv(RX), seven)?;
-    let eight = BReply::Value(word(alloc, b"eight")?);
-    tells(&rt, &mut channel, Recv(RX), eight)?;
-    tells(&rt, &mut channel, Left(RX), Count(0))
+// The receiver gets this word.
+fn gives(rt: &impl Abort, channel: &mut Channel, call: BCall<Value>, word: Value) {
+    tells(rt, channel, call, BReply::Value(word));
 }
 
 #[test]
-fn makes_and_spends_handles(rt: HostRuntime) -> Result<(), Fail> {
-    let mut channel = channel(rt.alloc(), 0)?;
+fn carries(rt: HostRuntime) {
+    let alloc = rt.alloc();
+    let mut channel = channel(&rt, alloc, 1);
+    assert!(rt; !is_ready(&channel, Recv(RX)));
+    for bytes in [b"seven", b"eight"] {
+        tells(
+            &rt,
+            &mut channel,
+            Send(TX, word(&rt, alloc, bytes)),
+            Sent(1),
+        );
+    }
+    assert!(rt; is_ready(&channel, Recv(RX)));
+    tells(&rt, &mut channel, Queued(TX), Count(2));
+    gives(&rt, &mut channel, TryRecv(RX), word(&rt, alloc, b"seven"));
+    gives(&rt, &mut channel, Recv(RX), word(&rt, alloc, b"eight"));
+    tells(&rt, &mut channel, Left(RX), Count(0));
+    drop_channel(channel);
+}
+
+#[test]
+fn makes_and_spends_handles(rt: HostRuntime) {
+    let mut channel = channel(&rt, rt.alloc(), 0);
     let rows = [
         (Subscribe(TX), NewRx(RX)),
         (Resubscribe(RX), NewRx(RxId(3))),
@@ -142,5 +146,6 @@ fn makes_and_spends_handles(rt: HostRuntime) -> Result<(), Fail> {
         (DropRx(RX), Done),
         (Readers(TxId(4)), Count(1)),
     ];
-    follow(&rt, &mut channel, rows)
+    follow(&rt, &mut channel, rows);
+    drop_channel(channel);
 }

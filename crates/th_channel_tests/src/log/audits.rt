@@ -1,11 +1,9 @@
 //! What audits say of diaries.
+use crate::log::segments::drop_segment;
 use crate::log::shares::{finished, split};
-use crate::log::{
-    Channel, KEY, Log, RX, TX, agree, expect, keep, listed, opened, place_of, reply_of,
-};
+use crate::log::{Channel, KEY, Log, RX, TX, agree, expect, keep, opened, place_of, reply_of};
 use std::alloc::Global;
 use std::process::Abort;
-use std::test::Fail;
 use th_log::{AuditFault, Audited, Diary, Receipt, Segment, audit};
 use th_model::BCall::{Send, Subscribe, TryRecv};
 use th_model::BReply::{NewRx, Sent, Value};
@@ -27,17 +25,13 @@ fn play(
 }
 
 // The history of a channel that had these four, and the receipts.
-fn four(
-    rt: &impl Abort,
-    alloc: Global,
-    key: u64,
-) -> Result<(Segment<Channel>, Vec<Receipt<Channel>>), Fail> {
-    let (mut log, mut tx) = opened(alloc, 2, 9, key)?;
+fn four(rt: &impl Abort, alloc: Global, key: u64) -> (Segment<Channel>, Vec<Receipt<Channel>>) {
+    let (mut log, mut tx) = opened(rt, alloc, 2, 9, key);
     let mut rx = split(&mut log);
     let mut receipts = Vec::new(alloc);
     play(rt, &mut log, &mut tx, &mut rx, &mut receipts);
     let (_, segment) = finished(log);
-    Ok((segment, receipts))
+    (segment, receipts)
 }
 
 fn is_noted(diary: &mut Diary<Channel>, receipt: Receipt<Channel>) -> bool {
@@ -59,12 +53,18 @@ fn noted(rt: &impl Abort, alloc: Global, receipts: Vec<Receipt<Channel>>) -> Dia
     diary
 }
 
+fn add(rt: &impl Abort, diaries: &mut Vec<Diary<Channel>>, diary: Diary<Channel>) {
+    diaries.push(diary).expect(rt, "memory for a diary");
+}
+
 pub(crate) fn one_diary(
     rt: &impl Abort,
     alloc: Global,
     receipts: Vec<Receipt<Channel>>,
 ) -> Vec<Diary<Channel>> {
-    listed(rt, alloc, [noted(rt, alloc, receipts)])
+    let mut diaries = Vec::new(alloc);
+    add(rt, &mut diaries, noted(rt, alloc, receipts));
+    diaries
 }
 
 fn two_diaries(
@@ -73,8 +73,9 @@ fn two_diaries(
     one: Vec<Receipt<Channel>>,
     other: Vec<Receipt<Channel>>,
 ) -> Vec<Diary<Channel>> {
-    let diaries = [noted(rt, alloc, one), noted(rt, alloc, other)];
-    listed(rt, alloc, diaries)
+    let mut diaries = one_diary(rt, alloc, one);
+    add(rt, &mut diaries, noted(rt, alloc, other));
+    diaries
 }
 
 // The audit of these diaries ends so.
@@ -86,6 +87,17 @@ pub(crate) fn audits(
     want: Result<Audited, AuditFault>,
 ) {
     assert_eq!(rt; audit(alloc, segment, diaries), want);
+}
+
+// The same, of a segment and diaries that a test is done with.
+fn ends(
+    rt: &impl Abort,
+    alloc: Global,
+    segment: Segment<Channel>,
+    diaries: Vec<Diary<Channel>>,
+    want: Result<Audited, AuditFault>,
+) {
+    audits(rt, alloc, &segment, &diaries, want);
 }
 
 fn call_of(receipt: &Receipt<Channel>) -> &BCall<u64> {
@@ -111,41 +123,38 @@ fn ends_with(
     at: (u64, u64),
     call: BCall<u64>,
     reply: BReply<u64>,
-) -> Result<(), Fail> {
-    let Some(last) = receipts.last() else {
-        return Err(Fail::new("no receipt"));
-    };
+) {
+    let last = receipts.last().expect(rt, "a receipt");
     assert_eq!(rt; (place_of(last), key_of(last)), at);
     expect(rt, "call and reply", is_told(last, &call, &reply));
-    Ok(())
 }
 
 #[test]
-fn a_receipt_tells_its_event(rt: HostRuntime) -> Result<(), Fail> {
-    let (_, receipts) = four(&rt, rt.alloc(), KEY)?;
+fn a_receipt_tells_its_event(rt: HostRuntime) {
+    let (segment, receipts) = four(&rt, rt.alloc(), KEY);
+    drop_segment(segment);
     let diary = noted(&rt, rt.alloc(), receipts);
     let receipts = receipts_of(&diary);
     agree(&rt, "receipts", receipts.len() as u64, 4);
-    ends_with(&rt, receipts, (3, KEY), TryRecv(RX), Value(5))
+    ends_with(&rt, receipts, (3, KEY), TryRecv(RX), Value(5));
 }
 
 #[test]
-fn honest_diaries_are_said_yes_to(rt: HostRuntime) -> Result<(), Fail> {
-    let (segment, receipts) = four(&rt, rt.alloc(), KEY)?;
+fn honest_diaries_are_said_yes_to(rt: HostRuntime) {
+    let (segment, receipts) = four(&rt, rt.alloc(), KEY);
     let diaries = one_diary(&rt, rt.alloc(), receipts);
-    audits(&rt, rt.alloc(), &segment, &diaries, Ok(Audited));
-    Ok(())
+    ends(&rt, rt.alloc(), segment, diaries, Ok(Audited));
 }
 
 // The second channel had the very same calls.
 #[test]
-fn receipts_of_another_channel_are_strange(rt: HostRuntime) -> Result<(), Fail> {
-    let (segment, receipts) = four(&rt, rt.alloc(), KEY)?;
-    let (_, others) = four(&rt, rt.alloc(), KEY + 1)?;
+fn receipts_of_another_channel_are_strange(rt: HostRuntime) {
+    let (segment, receipts) = four(&rt, rt.alloc(), KEY);
+    let (segment_of_others, others) = four(&rt, rt.alloc(), KEY + 1);
+    drop_segment(segment_of_others);
     let diaries = two_diaries(&rt, rt.alloc(), receipts, others);
     let found = Err(AuditFault::Stranger { place: 0 });
-    audits(&rt, rt.alloc(), &segment, &diaries, found);
-    Ok(())
+    ends(&rt, rt.alloc(), segment, diaries, found);
 }
 
 // Without the last and the first, the other way round.
@@ -158,12 +167,11 @@ fn turned(receipts: Vec<Receipt<Channel>>) -> Vec<Receipt<Channel>> {
 }
 
 #[test]
-fn places_rise_in_a_diary(rt: HostRuntime) -> Result<(), Fail> {
-    let (segment, receipts) = four(&rt, rt.alloc(), KEY)?;
+fn places_rise_in_a_diary(rt: HostRuntime) {
+    let (segment, receipts) = four(&rt, rt.alloc(), KEY);
     // places 2, 1 and no more
     let receipts = turned(receipts);
     let diaries = one_diary(&rt, rt.alloc(), receipts);
     let found = Err(AuditFault::Stranger { place: 1 });
-    audits(&rt, rt.alloc(), &segment, &diaries, found);
-    Ok(())
+    ends(&rt, rt.alloc(), segment, diaries, found);
 }

@@ -1,9 +1,10 @@
 //! Segments that are cut and joined.
 use crate::log::shares::finished;
-use crate::log::{Channel, KEY, Log, RX, TX, agree, expect, follow, opened, start, told, told_at};
+use crate::log::{
+    Channel, KEY, Log, RX, TX, agree, drop_log, expect, follow, opened, start, told, told_at,
+};
 use std::alloc::Global;
 use std::process::Abort;
-use std::test::Fail;
 use th_bcast::PictureParts;
 use th_log::{JoinFault, Object, Segment};
 use th_model::BCall::{CloneTx, Send, Subscribe, TryRecv};
@@ -26,22 +27,25 @@ fn tells_apart<G>(fault: &JoinFault<G>) -> bool {
     matches!(fault, JoinFault::Apart(_, _))
 }
 
-fn is_apart(a: Segment<Channel>, b: Segment<Channel>) -> bool {
-    let Err(fault) = join(a, b) else {
-        return false;
-    };
-    tells_apart(&fault)
+fn is_apart(rt: &impl Abort, a: Segment<Channel>, b: Segment<Channel>) -> bool {
+    match join(a, b) {
+        Ok(_both) => panic!(rt; "joined"),
+        Err(fault) => tells_apart(&fault),
+    }
 }
+
+// A segment that a test is done with. Its parts are let go here, in one place.
+pub(crate) fn drop_segment(_segment: Segment<Channel>) {}
 
 pub(crate) fn joined(
     rt: &impl Abort,
     a: Segment<Channel>,
     b: Segment<Channel>,
 ) -> Segment<Channel> {
-    let Ok(segment) = join(a, b) else {
-        panic!(rt; "not joined");
-    };
-    segment
+    match join(a, b) {
+        Ok(segment) => segment,
+        Err(_fault) => panic!(rt; "not joined"),
+    }
 }
 
 // The place of the first entry, and the number of entries.
@@ -93,52 +97,56 @@ fn cut_twice(
 fn cuts(
     rt: &impl Abort,
     alloc: Global,
-) -> Result<(Segment<Channel>, Segment<Channel>, Segment<Channel>, Log), Fail> {
-    let (mut log, mut tx) = opened(alloc, 2, 4, KEY)?;
+) -> (Segment<Channel>, Segment<Channel>, Segment<Channel>, Log) {
+    let (mut log, mut tx) = opened(rt, alloc, 2, 4, KEY);
     let (a, b) = cut_twice(rt, &mut log, &mut tx);
     let d = cut_after(rt, &mut log, &mut tx, Send(TX, 5), Sent(1));
-    Ok((a, b, d, log))
+    (a, b, d, log)
 }
 
 #[test]
-fn segments_that_do_not_meet_stay_apart(rt: HostRuntime) -> Result<(), Fail> {
-    let (a, b, d, _) = cuts(&rt, rt.alloc())?;
+fn segments_that_do_not_meet_stay_apart(rt: HostRuntime) {
+    let (a, b, d, log) = cuts(&rt, rt.alloc());
     spans(&rt, &a, 0, 1);
     spans(&rt, &b, 1, 0);
     spans(&rt, &d, 1, 1);
-    expect(&rt, "the third and the first", is_apart(d, a));
-    let (a, b, _, _) = cuts(&rt, rt.alloc())?;
-    expect(&rt, "the second and the first", is_apart(b, a));
-    Ok(())
+    expect(&rt, "the third and the first", is_apart(&rt, d, a));
+    drop_segment(b);
+    drop_log(log);
+    let (a, b, d, log) = cuts(&rt, rt.alloc());
+    expect(&rt, "the second and the first", is_apart(&rt, b, a));
+    drop_segment(d);
+    drop_log(log);
 }
 
 // The whole history of the cuts.
-fn is_whole(rt: &impl Abort, all: &Segment<Channel>) {
-    spans(rt, all, 0, 2);
+fn is_whole(rt: &impl Abort, all: Segment<Channel>) {
+    spans(rt, &all, 0, 2);
     agree(rt, "the key", all.key(), KEY);
-    expect(rt, "the second", has_entry(all, 1, &Send(TX, 5), &Sent(1)));
-    expect(rt, "the last", ends_with(all, &(Send(TX, 5), Sent(1))));
+    expect(rt, "the second", has_entry(&all, 1, &Send(TX, 5), &Sent(1)));
+    expect(rt, "the last", ends_with(&all, &(Send(TX, 5), Sent(1))));
 }
 
 #[test]
-fn segments_that_meet_join(rt: HostRuntime) -> Result<(), Fail> {
-    let (a, b, d, log) = cuts(&rt, rt.alloc())?;
+fn segments_that_meet_join(rt: HostRuntime) {
+    let (a, b, d, log) = cuts(&rt, rt.alloc());
     let (book, last) = finished(log);
     agree(&rt, "all events", book.total(), 2);
     spans(&rt, &last, 2, 0);
     let two = joined(&rt, a, b);
     spans(&rt, &two, 0, 1);
-    let all = joined(&rt, joined(&rt, two, d), last);
-    is_whole(&rt, &all);
-    Ok(())
+    is_whole(&rt, joined(&rt, joined(&rt, two, d), last));
 }
 
 // The second is empty, so the third begins where the first ends.
 #[test]
-fn an_empty_segment_may_be_left_out(rt: HostRuntime) -> Result<(), Fail> {
-    let (a, _, d, _) = cuts(&rt, rt.alloc())?;
-    spans(&rt, &joined(&rt, a, d), 0, 2);
-    Ok(())
+fn an_empty_segment_may_be_left_out(rt: HostRuntime) {
+    let (a, b, d, log) = cuts(&rt, rt.alloc());
+    let both = joined(&rt, a, d);
+    spans(&rt, &both, 0, 2);
+    drop_segment(both);
+    drop_segment(b);
+    drop_log(log);
 }
 
 // The values 4 and 5 are kept, at positions below 5, and receiver 3 reads at position 1 next.
@@ -154,8 +162,8 @@ fn is_in_the_middle(rt: &impl Abort, start: &PictureParts<u64>) {
 // After eight events the two newest values, 4 and 5, are kept at the positions 3 and 4, and
 // receiver 3, which reads at position 1 next, has missed two more.
 #[test]
-fn the_next_segment_begins_in_the_middle(rt: HostRuntime) -> Result<(), Fail> {
-    let (mut log, mut share) = opened(rt.alloc(), 2, 20, KEY)?;
+fn the_next_segment_begins_in_the_middle(rt: HostRuntime) {
+    let (mut log, mut share) = opened(&rt, rt.alloc(), 2, 20, KEY);
     let (tx, rx) = (TxId(2), RxId(3));
     let rows = [
         (CloneTx(TX), NewTx(tx)),
@@ -168,8 +176,10 @@ fn the_next_segment_begins_in_the_middle(rt: HostRuntime) -> Result<(), Fail> {
         (Send(tx, 5), Sent(1)),
     ];
     follow(&rt, &mut log, &mut share, rows);
-    spans(&rt, &cut(&rt, &mut log), 0, 8);
+    let first = cut(&rt, &mut log);
+    spans(&rt, &first, 0, 8);
+    drop_segment(first);
     is_in_the_middle(&rt, start(&log));
     told_at(&rt, &mut log, &mut share, (TryRecv(rx), Lagged(2)), 8);
-    Ok(())
+    drop_log(log);
 }

@@ -1,11 +1,11 @@
 //! Shares: who holds them may call, and together they account for the history.
-use crate::log::segments::spans;
+use crate::log::segments::{drop_segment, spans};
 use crate::log::{
-    Channel, KEY, Log, RX, TX, agree, expect, follow, has_counts, listed, opened, refuses, told_at,
+    Channel, KEY, Log, RX, TX, agree, drop_log, expect, follow, has_counts, listed, opened,
+    refuses, told_at,
 };
 use std::alloc::Global;
 use std::process::Abort;
-use std::test::Fail;
 use th_log::{Refused, Segment, close};
 use th_model::BCall::{CloneTx, DropRx, DropTx, Readers, Send, Subscribe};
 use th_model::BReply::{Done, NewRx, Sent};
@@ -57,8 +57,8 @@ fn accounts(rt: &impl Abort, alloc: Global, log: Log, tx: Share, rx: Share) {
 
 // A handle can always be spent, also where the limit leaves no room for anything else.
 #[test]
-fn room_is_kept_for_spending(rt: HostRuntime) -> Result<(), Fail> {
-    let (mut log, mut tx) = opened(rt.alloc(), 2, 4, KEY)?;
+fn room_is_kept_for_spending(rt: HostRuntime) {
+    let (mut log, mut tx) = opened(&rt, rt.alloc(), 2, 4, KEY);
     let mut rx = split(&mut log);
     fill(&rt, &mut log, &mut tx);
     is_full(&rt, &mut log, &mut tx);
@@ -67,13 +67,13 @@ fn room_is_kept_for_spending(rt: HostRuntime) -> Result<(), Fail> {
     has_counts(&rt, &log, (0, 4, 4));
     has_key(&rt, &log, KEY);
     accounts(&rt, rt.alloc(), log, tx, rx);
-    Ok(())
 }
 
 // The share of another log.
-fn strange_share(alloc: Global) -> Result<Share, Fail> {
-    let (_, share) = opened(alloc, 2, 9, KEY + 1)?;
-    Ok(share)
+fn strange_share(rt: &impl Abort, alloc: Global) -> Share {
+    let (log, share) = opened(rt, alloc, 2, 9, KEY + 1);
+    drop_log(log);
+    share
 }
 
 // The log refuses a call through this share, which stays without an event.
@@ -106,16 +106,16 @@ pub(crate) fn settles(rt: &impl Abort, book: Book, shares: Vec<Share>, want: u64
 }
 
 #[test]
-fn shares_settle_when_all_came_back(rt: HostRuntime) -> Result<(), Fail> {
-    let strange = strange_share(rt.alloc())?;
-    let (mut log, mut tx) = opened(rt.alloc(), 2, 9, KEY)?;
+fn shares_settle_when_all_came_back(rt: HostRuntime) {
+    let strange = strange_share(&rt, rt.alloc());
+    let (mut log, mut tx) = opened(&rt, rt.alloc(), 2, 9, KEY);
     let rx = split(&mut log);
     follow(&rt, &mut log, &mut tx, [(Subscribe(TX), NewRx(RX))]);
     is_foreign(&rt, &mut log, strange);
     let (book, segment) = finished(log);
     spans(&rt, &segment, 0, 1);
+    drop_segment(segment);
     let (book, mut shares) = withheld(&rt, book, listed(&rt, rt.alloc(), [tx]));
     shares.push(rx).expect(&rt, "memory for a share");
     settles(&rt, book, shares, 1);
-    Ok(())
 }

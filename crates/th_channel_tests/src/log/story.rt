@@ -5,7 +5,6 @@ use crate::log::shares::{finished, has_events, settles, split};
 use crate::log::{Channel, KEY, Log, RX, TX, follow, keep, listed, opened};
 use std::alloc::Global;
 use std::process::Abort;
-use std::test::Fail;
 use th_log::{AuditFault, Audited, Receipt, Segment};
 use th_model::BCall::{DropRx, Send, Subscribe, TryRecv};
 use th_model::BReply::{Done, Lagged, NewRx, Sent, Value};
@@ -59,8 +58,8 @@ fn judge(
 }
 
 #[test]
-fn bob_shows_what_he_was_told(rt: HostRuntime) -> Result<(), Fail> {
-    let (mut log, mut alice) = opened(rt.alloc(), 2, 100, KEY)?;
+fn bob_shows_what_he_was_told(rt: HostRuntime) {
+    let (mut log, mut alice) = opened(&rt, rt.alloc(), 2, 100, KEY);
     follow(&rt, &mut log, &mut alice, [(Subscribe(TX), NewRx(RX))]);
     let mut bob = split(&mut log);
     let mut receipts = Vec::new(rt.alloc());
@@ -74,5 +73,4 @@ fn bob_shows_what_he_was_told(rt: HostRuntime) -> Result<(), Fail> {
     has_events(&rt, "Bob's share", &bob, 4);
     settles(&rt, book, listed(&rt, rt.alloc(), [alice, bob]), 9);
     judge(&rt, rt.alloc(), first, second, receipts);
-    Ok(())
 }
