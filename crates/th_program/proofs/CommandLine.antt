@@ -66,6 +66,9 @@ module _ (m : ArgMatches) (app : App) (words : List (List ℕ)) (is : app ≡ co
       (has (ap is_simple is ∙ is_simple_line)).1
       ∙ ap (λ (a : App). subcommand_of a words) is
 
+  pub name_is : subcommand_name_of m ≡ option_map (λ p. p.0) (subcommand_of command_line words)
+  name_is = matches_name m ∙ ap (λ (r : Option (Text × List Row)). option_map (λ p. p.0) r) rows_are
+
   abbrev first_is : List ℕ → List (List ℕ) → Type 0
   first_is command ws = option_map (λ p. p.0) (subcommand_of command_line ws) ≡ Some command
 

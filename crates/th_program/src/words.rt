@@ -172,7 +172,7 @@ fn taken(alloc: Global, matches: &ArgMatches<'_>) -> Result<Mode, ModeFault>
     ensures check { asked_of (subcommand_name_of matches.now) ≡ Asked.Check
         → result ≡ Ok Mode.Check }
     ensures sessions { IfOk result HasSessions }
-    ensures wrong { IfErr result (λ fault. IsUsage fault ⊎ (fault ≡ ModeFault.Short)) }
+    ensures other { asked_of (subcommand_name_of matches.now) ≢ Asked.Serve → GivesMode result }
 {
     match asked(matches.subcommand_name()) {
         Asked::Replay => Ok(Mode::Replay),

@@ -1,2 +1,1 @@
 pub mod Spending
-pub mod Standing

@@ -1,17 +1,16 @@
 -- What a desk may say that threads share. What other threads do in between cannot be seen at it, so nothing is said of
 -- the topics before and after; but each event is one on the topic that was named, and has its receipt (docs/HISTORIES.md).
-use Rattle.std.specs.Prelude.{◌≡◌, ℕ, ◌+◌, Bool, true, false, Option, Some, None, Result, Ok, Err, IfOk, MatchOption, map}
+use Rattle.std.specs.Prelude.{◌≡◌, ℕ, ◌+◌, Bool, true, false, Option, Some, None, Result, Ok, Err, IfOk, MatchOption}
 use Rattle.std.specs.Prelude as prelude
 use Rattle.std.specs.Option.{option_map}
 use Rattle.th_block.specs.Handles.{Holder}
 use Rattle.th_model.specs.declared.making.Making.{Making}
-use Rattle.th_registry.specs.declared.channel.Channel.{Channel}
 use Rattle.th_registry.specs.declared.channel.Channel.TheVariants.{Broadcast, Watch}
 use Rattle.th_registry.specs.declared.opening.Refusal.{Refusal}
 use Rattle.th_registry.specs.declared.opening.Refusal.TheVariants as Refusals
 use Rattle.th_registry.specs.declared.outcome.ChannelReply.{ChannelReply}
 use Rattle.th_registry.specs.Events.{Event, Outcome, Told, broadcast_call, broadcast_outcome, is_end, watch_call, watch_outcome}
-use Rattle.th_registry.specs.Hub.{Noted, Query, Said, Topics, Find, Open, On, Cut, find, list, made}
+use Rattle.th_registry.specs.Hub.{Query, Said, Find, Open, On, Cut, made}
 use Rattle.th_registry.specs.Legal.{IsLegalSegment}
 use Rattle.th_registry.specs.Pictures.{pictures}
 use Rattle.th_registry.specs.Receipts.{ChannelReceipt, Receipt}
@@ -55,21 +54,10 @@ IsOpened told (Err why) = Unit {0}
 abbrev pub told_of : Making → Option ℕ
 told_of making = option_map (λ m. m.0) (made (pictures 1) 1 making)
 
--- topics of which nothing is seen but their names and kinds
-abbrev pub Kinds : Type 0
-Kinds = Topics (Unit {0}) (Unit {0})
-
-abbrev pub kind_alone : {B W : Type 0} → Channel B W → Channel (Unit {0}) (Unit {0})
-kind_alone (Broadcast c) = Broadcast tt
-kind_alone (Watch c) = Watch tt
-
-abbrev pub kinds : {B W : Type 0} → Topics B W → Kinds
-kinds ts = map (λ t. (t.0, kind_alone t.1)) ts
-
--- what may be said to a query, where the topics stand somehow
+-- What may be said to a query. Which topics there are changes at any moment, so nothing is said of what is found and listed.
 abbrev pub MaySay : (q : Query) → Said q → Type 0
-MaySay (Find name) found = (ts : Kinds) × (found ≡ find ts name)
-MaySay Query.List topics = (ts : Kinds) × IfOk topics (λ rows. rows ≡ list ts)
+MaySay (Find name) found = Unit {0}
+MaySay Query.List topics = Unit {0}
 MaySay (Open name making) opened = IsOpened (told_of making) opened
 MaySay (On n e) noted = Notes n e noted.0 noted.1
 MaySay (Cut n) segment = IfOk segment IsLegalSegment

@@ -11,7 +11,6 @@ use crate::handles::{TopicReceiver, TopicSender};
 use crate::quiet::{Quiet, hush, is_quiet, wake};
 use crate::registry::{Topics, ask, bind, end, open, owner_of, subscribe};
 use crate::{broadcast, watch};
-use indexmap::IndexMap;
 use std::alloc::Global;
 use std::marker::Model;
 use std::mem::replace;
@@ -20,7 +19,6 @@ use th_model::{
     BCall, Listing, Making, NameRef, Question, ReceiverVerb, RxId, SenderVerb, Short, Start, WCall,
 };
 use th_registry::channel::{TopicReceipt, TopicSegment};
-use th_registry::topics::{find, list};
 use th_registry::{Channel, ChannelReply, Desk, Found, Made, NoEvent, Refusal, TopicId, Unspent};
 use th_seats::Share;
 
@@ -58,7 +56,7 @@ impl<R: Wait + Clone> SharedDesk<R> {
     ///
     /// There was no memory.
     pub fn new(rt: R, alloc: Global) -> Result<SharedDesk<R>, Short<()>> {
-        match Arc::new(alloc, Mutex::new(IndexMap::new(alloc))) {
+        match Arc::new(alloc, Mutex::new(Topics::new(alloc))) {
             Ok(topics) => Ok(SharedDesk::owning(rt, alloc, topics)),
             Err(_) => Err(Short { call: () }),
         }
@@ -121,7 +119,7 @@ impl<R: Wait + Clone> SharedDesk<R> {
         } = self;
         wake(&rt, &mut quiet);
         let count = match Arc::get_mut(&mut topics) {
-            Some(lock) => lock.get_mut().len(),
+            Some(lock) => lock.get_mut().rows.len(),
             None => {
                 return Err(SharedDesk {
                     rt,
@@ -143,8 +141,8 @@ impl<R: Wait + Clone> SharedDesk<R> {
         };
         match Arc::try_unwrap(topics) {
             Ok(lock) => {
-                let mut topics = lock.into_inner();
-                for (name, topic) in topics.drain(..) {
+                let Topics { rows, .. } = lock.into_inner();
+                for (name, topic) in rows {
                     let _ = list.push(end_of(name, topic));
                 }
                 Ok((list, shares))
@@ -196,12 +194,12 @@ impl<R: Wait + Clone> Desk for SharedDesk<R> {
 
     fn find(&self, name: &NameRef<'_>) -> Option<Found> {
         let topics = self.topics.lock(&self.rt);
-        find(&*topics, name)
+        topics.find(name)
     }
 
     fn list(&self) -> Result<Listing, Short<()>> {
         let topics = self.topics.lock(&self.rt);
-        list(&*topics)
+        topics.list()
     }
 
     fn open_topic(&mut self, name: NameRef<'_>, making: Making) -> Result<u64, Refusal> {

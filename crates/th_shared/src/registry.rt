@@ -1,5 +1,5 @@
 //! The topics that threads share, as they stand under their lock.
-ghost use Rattle.std.specs.Prelude.{◌≡◌, IfOk};
+ghost use Rattle.std.specs.Prelude.{◌≡◌};
 ghost use Rattle.th_registry.specs.Events.{Asks, Binds, DropsTx, Hub, Subscribes};
 ghost use Rattle.th_registry.specs.Hub.{On, Open};
 ghost use Rattle.th_registry.specs.Typed.{ended, made_rx, made_tx, replied};
@@ -10,14 +10,15 @@ use crate::broadcast;
 use crate::handles::{TopicReceiver, TopicSender};
 use crate::topic::{First, SharedTopic, Topic};
 use crate::watch;
-use indexmap::IndexMap;
 use std::alloc::Global;
+use std::collections::HashMap;
 use std::sync::Wait;
 use th_block::{Handle, Shared, Side};
-use th_model::{Capacity, Making, Name, NameRef, Question, Start, Value};
+use th_model::{
+    Capacity, Listed, Listing, Making, Name, NameRef, Question, Short, Start, Value,
+};
 use th_registry::channel::{HubBroadcast, HubWatch, TopicReceipt};
-use th_registry::topics::find;
-use th_registry::{Channel, ChannelReply, Made, NoEvent, Refusal, TopicId};
+use th_registry::{Channel, ChannelReply, Found, Made, NoEvent, Refusal, TopicId};
 
 /// The most topics of a hub.
 const MOST_TOPICS: usize = 1024;
@@ -25,8 +26,69 @@ const MOST_TOPICS: usize = 1024;
 /// The most entries of a segment.
 const MOST_ENTRIES: u64 = 1_000_000;
 
-/// Topics by name, in order of opening.
-pub(crate) type Topics = IndexMap<Name, SharedTopic>;
+/// Topics in order of opening, and the number of each by its name.
+#[derive(Drop)]
+pub(crate) struct Topics {
+    pub(crate) rows: Vec<(Name, SharedTopic)>,
+    numbers: HashMap<Name, u64>,
+}
+
+impl Topics {
+    /// No topic.
+    pub(crate) fn new(alloc: Global) -> Topics {
+        Topics {
+            rows: Vec::new(alloc),
+            numbers: HashMap::new(alloc),
+        }
+    }
+
+    /// The topic of this name.
+    pub(crate) fn find(&self, name: &NameRef<'_>) -> Option<Found> {
+        let number = *self.numbers.get(&name.to_name())?;
+        match self.rows.get(number as usize) {
+            Some((_, channel)) => Some(Found {
+                topic: TopicId(number),
+                kind: channel.kind(),
+            }),
+            None => None,
+        }
+    }
+
+    /// The topics with their kinds. It takes memory for all of them at once.
+    pub(crate) fn list(&self) -> Result<Listing, Short<()>> {
+        let alloc = *self.rows.allocator();
+        let Ok(mut rows) = Vec::with_capacity(alloc, self.rows.len()) else {
+            return Err(Short { call: () });
+        };
+        for (name, channel) in &self.rows {
+            let Ok(name) = name.clone() else {
+                return Err(Short { call: () });
+            };
+            let kind = channel.kind();
+            let Ok(()) = rows.push(Listed { name, kind }) else {
+                return Err(Short { call: () });
+            };
+        }
+        match Listing::from_vec(rows) {
+            Ok(listing) => Ok(listing),
+            Err(_) => Err(Short { call: () }),
+        }
+    }
+
+    // A topic at the end, under a name that is not there. Answers whether there was memory for it.
+    fn add(&mut self, name: Name, topic: SharedTopic) -> bool {
+        let Ok(key) = name.clone() else {
+            return false;
+        };
+        let Ok(()) = self.rows.reserve(1) else {
+            return false;
+        };
+        let Ok(_) = self.numbers.insert(key, self.rows.len() as u64) else {
+            return false;
+        };
+        self.rows.push((name, topic)).is_ok()
+    }
+}
 
 // A topic behind the first sender of its channel, which is the hub's own.
 fn opened<O: th_block::Channel, S: Side<O>>(handle: Handle<O, S>) -> Option<Topic<O, S>>
@@ -54,11 +116,11 @@ fn open_broadcast(
     let Ok(capacity) = Capacity::new(asked) else {
         return Err(Refusal::BadCapacity);
     };
-    if topics.len() >= MOST_TOPICS {
+    if topics.rows.len() >= MOST_TOPICS {
         return Err(Refusal::TooManyTopics);
     }
-    let alloc = *topics.allocator();
-    let key = topics.len() as u64 + 1;
+    let alloc = *topics.rows.allocator();
+    let key = topics.rows.len() as u64 + 1;
     let Ok(sender) = th_block::broadcast_at::<Value>(alloc, capacity, base, MOST_ENTRIES, key)
     else {
         return Err(Refusal::Short);
@@ -66,9 +128,9 @@ fn open_broadcast(
     let Some(topic) = opened(sender) else {
         return Err(Refusal::Short);
     };
-    let Ok(_) = topics.insert(name, Channel::Broadcast(topic)) else {
+    if !topics.add(name, Channel::Broadcast(topic)) {
         return Err(Refusal::Short);
-    };
+    }
     Ok(capacity.in_force())
 }
 
@@ -76,20 +138,20 @@ fn open_broadcast(
 fn open_watch(topics: &mut Topics, name: Name, value: Value) -> Result<u64, Refusal>
     ensures { MaySay (Open name (Making.Watch value)) result }
 {
-    if topics.len() >= MOST_TOPICS {
+    if topics.rows.len() >= MOST_TOPICS {
         return Err(Refusal::TooManyTopics);
     }
-    let alloc = *topics.allocator();
-    let key = topics.len() as u64 + 1;
+    let alloc = *topics.rows.allocator();
+    let key = topics.rows.len() as u64 + 1;
     let Ok(sender) = th_block::watch::<Value>(alloc, value, MOST_ENTRIES, key) else {
         return Err(Refusal::Short);
     };
     let Some(topic) = opened(sender) else {
         return Err(Refusal::Short);
     };
-    let Ok(_) = topics.insert(name, Channel::Watch(topic)) else {
+    if !topics.add(name, Channel::Watch(topic)) {
         return Err(Refusal::Short);
-    };
+    }
     Ok(1)
 }
 
@@ -101,7 +163,7 @@ pub(crate) fn open(
 ) -> Result<u64, Refusal>
     ensures { MaySay (Open name.now making) result }
 {
-    if find(&*topics, name).is_some() {
+    if topics.find(name).is_some() {
         return Err(Refusal::Exists);
     }
     let name = name.to_name();
@@ -120,13 +182,13 @@ pub(crate) fn bind<R: Wait>(
 ) -> Result<Made<TopicSender>, NoEvent>
     ensures { MaySay (On topic.0 Binds) (made_tx sender result) }
 {
-    match topics.get_index_mut(topic.0 as usize) {
+    match topics.rows.get_mut(topic.0 as usize) {
         None => Err(NoEvent::NoTopic),
-        Some(Channel::Broadcast(at)) => match &mut at.own {
+        Some((_, Channel::Broadcast(at))) => match &mut at.own {
             Some(first) => broadcast::bind(rt, topic, &mut first.handle),
             None => Err(NoEvent::NoSender),
         },
-        Some(Channel::Watch(at)) => match &mut at.own {
+        Some((_, Channel::Watch(at))) => match &mut at.own {
             Some(first) => watch::bind(rt, topic, &mut first.handle),
             None => Err(NoEvent::NoSender),
         },
@@ -142,13 +204,13 @@ pub(crate) fn subscribe<R: Wait>(
 ) -> Result<Made<TopicReceiver>, NoEvent>
     ensures { MaySay (On topic.0 (Subscribes start Hub)) (made_rx receiver result) }
 {
-    match topics.get_index_mut(topic.0 as usize) {
+    match topics.rows.get_mut(topic.0 as usize) {
         None => Err(NoEvent::NoTopic),
-        Some(Channel::Broadcast(at)) => match &mut at.own {
+        Some((_, Channel::Broadcast(at))) => match &mut at.own {
             Some(first) => broadcast::subscribe(rt, topic, start, &mut first.handle),
             None => Err(NoEvent::NoSender),
         },
-        Some(Channel::Watch(at)) => match &mut at.own {
+        Some((_, Channel::Watch(at))) => match &mut at.own {
             Some(first) => watch::subscribe(rt, topic, start, &mut first.handle),
             None => Err(NoEvent::NoSender),
         },
@@ -164,13 +226,13 @@ pub(crate) fn ask<R: Wait>(
 ) -> Result<TopicReceipt, NoEvent>
     ensures { MaySay (On topic.0 (Asks Hub question)) (replied result) }
 {
-    match topics.get_index_mut(topic.0 as usize) {
+    match topics.rows.get_mut(topic.0 as usize) {
         None => Err(NoEvent::NoTopic),
-        Some(Channel::Broadcast(at)) => match &mut at.own {
+        Some((_, Channel::Broadcast(at))) => match &mut at.own {
             Some(first) => broadcast::ask(rt, topic, &mut first.handle, question),
             None => Err(NoEvent::NoSender),
         },
-        Some(Channel::Watch(at)) => match &mut at.own {
+        Some((_, Channel::Watch(at))) => match &mut at.own {
             Some(first) => watch::ask(rt, topic, &mut first.handle, question),
             None => Err(NoEvent::NoSender),
         },
@@ -185,10 +247,10 @@ pub(crate) fn end<R: Wait>(
 ) -> Result<ChannelReply, NoEvent>
     ensures { MaySay (On topic.0 (DropsTx Hub)) (ended result) }
 {
-    match topics.get_index_mut(topic.0 as usize) {
+    match topics.rows.get_mut(topic.0 as usize) {
         None => Err(NoEvent::NoTopic),
-        Some(Channel::Broadcast(at)) => broadcast::end(rt, topic, at),
-        Some(Channel::Watch(at)) => watch::end(rt, topic, at),
+        Some((_, Channel::Broadcast(at))) => broadcast::end(rt, topic, at),
+        Some((_, Channel::Watch(at))) => watch::end(rt, topic, at),
     }
 }
 
@@ -197,7 +259,7 @@ pub(crate) fn owner_of(
     topics: &Topics,
     topic: TopicId,
 ) -> Result<Channel<Shared<HubBroadcast>, Shared<HubWatch>>, NoEvent> {
-    match topics.get_index(topic.0 as usize) {
+    match topics.rows.get(topic.0 as usize) {
         None => Err(NoEvent::NoTopic),
         Some((_, Channel::Broadcast(topic))) => match topic.owner.another() {
             Ok(owner) => Ok(Channel::Broadcast(owner)),
