@@ -9,3 +9,5 @@ mod registry;
 mod replay;
 #[cfg(test)]
 mod session;
+#[cfg(test)]
+mod shared;

@@ -13,13 +13,11 @@ mod end;
 mod help;
 mod modes;
 mod program;
-mod serve;
 mod streams;
 mod words;
 
 pub use end::{End, explanation, status};
 pub use modes::{Mode, ModeFault};
 pub use program::{greet, run, run_for, run_not_text, run_short};
-pub use serve::serve;
-pub use streams::{run_on_streams, serve_by_words};
+pub use streams::run_on_streams;
 pub use words::mode;

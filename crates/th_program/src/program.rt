@@ -1,6 +1,5 @@
 //! What the program does with its words, over any reader and writers.
 ghost use Rattle.std.specs.Prelude.{◌≡◌, IsTrue, Some, codes, true, false, map};
-ghost use Rattle.std.specs.Fmt.{decimal};
 ghost use Rattle.std.specs.Io.KnownBytes.{Appends};
 ghost use Rattle.th_lines.specs.Device.{one_more};
 ghost use Rattle.th_replay.specs.Outcome.{devices};
@@ -19,8 +18,8 @@ use th_replay::{CheckFault, ReplayFault, Verdict, check_explained, replay};
 // How many interrupted writes of a text are made again.
 const RETRIES: u32 = 1000;
 
-/// Writes the whole text; `false` where the writer failed.
-pub(crate) fn write_text<W: Write>(writer: &mut Counted<W>, text: &[u8]) -> bool
+// Writes the whole text; `false` where the writer failed.
+fn write_text<W: Write>(writer: &mut Counted<W>, text: &[u8]) -> bool
     ensures whole { result ≡ true
         → Appends (W.contents writer.old.device) (W.contents writer.new.device) text.now }
     ensures taken { result ≡ true → writer.new.failures ≡ writer.old.failures }
@@ -49,8 +48,8 @@ fn say<E: Write>(errors: &mut Counted<E>, text: &[u8])
     let _ = write_text(errors, text);
 }
 
-/// Says what stopped the run, where anything did.
-pub(crate) fn explain<E: Write>(errors: &mut Counted<E>, end: &End)
+// Says what stopped the run, where anything did.
+fn explain<E: Write>(errors: &mut Counted<E>, end: &End)
     ensures { IsSaid
         (errors_of E.contents errors.old)
         (errors_of E.contents errors.new)
@@ -117,25 +116,17 @@ fn told(verdict: Verdict) -> (&'static [u8], u64)
     }
 }
 
-/// Writes the number; `false` where the writer failed. It takes no memory.
-pub(crate) fn write_number<W: Write>(output: &mut Counted<W>, number: u64) -> bool
-    ensures { result ≡ true → Appends
-        (W.contents output.old.device) (W.contents output.new.device) (decimal number) }
-{
-    let mut digits = Buffer::new();
-    write_text(output, digits.format(number).as_bytes())
-}
-
 // Writes the line of a verdict; `false` where the writer failed. It takes no memory.
 fn write_verdict<W: Write>(output: &mut Counted<W>, verdict: Verdict) -> bool
     ensures { result ≡ true → Appends
         (W.contents output.old.device) (W.contents output.new.device) (verdict_line verdict) }
 {
     let (word, number) = told(verdict);
+    let mut digits = Buffer::new();
     if !write_text(output, word) {
         return false;
     }
-    if !write_number(output, number) {
+    if !write_text(output, digits.format(number).as_bytes()) {
         return false;
     }
     write_text(output, b"\n")
@@ -223,8 +214,7 @@ fn explain_check<E: Write>(errors: &mut Counted<E>, end: &End, text: &[u8], to_p
 }
 
 /// Does what the words ask for, the program's name first. `replay` carries out the schedule of
-/// `input`, and `check` says whether its trace is legal; `serve` wants more than streams, and ends with a socket fault here.
-/// A text of help, or the version, goes to `output`; what is wrong
+/// `input`, and `check` says whether its trace is legal. A text of help, or the version, goes to `output`; what is wrong
 /// with the words goes to `errors`, and so
 /// does a line that says what stopped the run.
 pub fn run<R: Read, W: Write, E: Write>(
@@ -270,10 +260,6 @@ pub fn run_for<R: Read, W: Write, E: Write>(
             let end = carry_out(alloc, input, output);
             explain(errors, &end);
             end
-        }
-        Ok(Mode::Serve { .. }) => {
-            explain(errors, &End::Socket);
-            End::Socket
         }
         Ok(Mode::Check) => {
             let mut text = Vec::new(alloc);

@@ -1,20 +1,12 @@
 //! A run of the program on the streams of its process.
-ghost use Rattle.std.specs.Prelude.{◌≡◌, ◌≤◌, IfOk, IfSome, map, string_bytes};
+ghost use Rattle.std.specs.Prelude.{◌≡◌, IfOk, map, string_bytes};
 
 use crate::end::status;
-use crate::modes::Mode;
-use crate::program::{explain, greet, run_for, run_not_text, run_short};
-use crate::serve::serve;
-use crate::words::mode;
+use crate::program::{greet, run_for, run_not_text, run_short};
 use std::alloc::{AllocError, Global};
 use std::env;
-use std::io::{Eprint, ErrorKind, IsTerminal, Write};
-use std::net::Net;
+use std::io::{ErrorKind, IsTerminal};
 use std::process::ExitCode;
-use std::rt::{Env, Files};
-use std::sync::Wait;
-use std::thread::Threads;
-use std::time::Clock;
 use th_lines::Counted;
 
 // Why the words of the command line are not known.
@@ -27,7 +19,7 @@ enum Unknown {
 }
 
 // The words of the command line, the program's name first.
-fn given<R: Env + AllocGlobal>(rt: &R) -> Result<Vec<String>, Unknown> {
+fn given(rt: &HostRuntime) -> Result<Vec<String>, Unknown> {
     match env::args(rt) {
         Ok(words) => match words.collect(rt.alloc()) {
             Ok(words) => Ok(words),
@@ -47,51 +39,6 @@ fn texts<'a>(alloc: Global, words: &'a [String]) -> Result<Vec<&'a str>, AllocEr
         texts.push(word.as_str())?;
     }
     Ok(texts)
-}
-
-// The path and the number of sessions, where the words ask to serve, and rightly.
-fn to_serve(alloc: Global, words: &[&str]) -> Option<(String, u64)>
-    ensures { IfSome result (λ asked. (1 ≤ asked.1) × (asked.1 ≤ 64)) }
-{
-    if words.len() < 2 || words[1] != "serve" {
-        return None;
-    }
-    match mode(alloc, words) {
-        Ok(Mode::Serve { path, sessions }) => Some((path, sessions)),
-        _ => None,
-    }
-}
-
-/// Serves where the words of the command line ask for it, and answers the exit status; `None` where they ask for
-/// something else, or are wrong. What is said goes to the output, and what stopped it to standard error.
-pub fn serve_by_words<
-    R: Threads + Wait + Clock + Clone + Send + Sync + Env + Eprint + Files + Net + AllocGlobal,
-    W: Write + Drop,
-    E: Write + Drop,
->(
-    rt: &R,
-    output: W,
-    errors: E,
-) -> Option<ExitCode> {
-    let alloc = rt.alloc();
-    let given = match given(rt) {
-        Ok(given) => given,
-        Err(_) => return None,
-    };
-    let words = match texts(alloc, given.as_slice()) {
-        Ok(words) => words,
-        Err(_) => return None,
-    };
-    let (path, sessions) = to_serve(alloc, words.as_slice())?;
-    let end = serve(
-        rt,
-        alloc,
-        path.as_str(),
-        sessions,
-        &mut Counted::new(output),
-    );
-    explain(&mut Counted::new(errors), &end);
-    Some(ExitCode::from(status(&end)))
 }
 
 // The words are those of a replay.

@@ -2,11 +2,8 @@
 #![tactic(auto)]
 
 use std::process::ExitCode;
-use th_program::{run_on_streams, serve_by_words};
+use th_program::run_on_streams;
 
 fn main(rt: HostRuntime) -> ExitCode {
-    match serve_by_words(&rt, rt.stdout(), rt.stderr()) {
-        Some(status) => status,
-        None => run_on_streams(&rt),
-    }
+    run_on_streams(&rt)
 }
