@@ -11,7 +11,7 @@ use std::alloc::Global;
 use std::process::Abort;
 use std::sync::Wait;
 use th_block::{BReceiver, BSender, Shared, WReader, WSender};
-use th_log::MakeFault;
+use th_log::{MakeFault, Refused};
 use th_model::BReply::{Closed, Count, Empty, Exhausted, Lagged, NewRx, NewTx, Sent, Value};
 use th_model::WReply::{Changed, Gone, Marked, Modified, NoReceivers, NotYet, Shown, Was};
 use th_model::{BReply, Capacity, Edit, RxId, TxId, WReply};
@@ -242,4 +242,15 @@ fn an_owner_ends_the_channel_once_it_is_the_last(rt: HostRuntime) {
     let log = finished(&rt, owner);
     assert_eq!(rt; total(&log), 1);
     drop_log(log);
+}
+
+// A watch channel has its limit: one entry is kept for the spending of its sender, so two of three are left.
+#[test]
+fn a_watch_is_full_at_its_limit(rt: HostRuntime) {
+    let mut tx = watch_calls::make(rt.alloc(), 5, 3, 7).expect(&rt, "a sender");
+    shown(&rt, watch_calls::replace(&rt, &mut tx, 6), Was(5));
+    shown(&rt, watch_calls::replace(&rt, &mut tx, 7), Was(6));
+    let answer = watch_calls::replace(&rt, &mut tx, 8);
+    assert!(rt; matches!(answer, Err(Refused::LogFull(_))));
+    watch_calls::drop_sender(tx);
 }
