@@ -9,5 +9,3 @@ mod registry;
 mod replay;
 #[cfg(test)]
 mod session;
-#[cfg(test)]
-mod shared;
