@@ -1,11 +1,11 @@
 -- What is said of a call with its receipt, told of the event that the call is.
-use Rattle.std.proofs.Common.{◌≡◌, ℕ, ◌+◌, length, inl, inr, Bool, true, false, Option, Some, None, Result, Ok, Err, refl, sym, ap, subst, ◌∙◌}
+use Rattle.std.proofs.Common.{◌≡◌, ◌+◌, length, inl, inr, Option, Some, None, Result, Ok, Err, refl, sym, ap, ◌∙◌}
 use Rattle.std.specs.Prelude.{is_ok, IfOk}
 use Rattle.std.specs.Option.{option_map}
 use Rattle.std.proofs.lemmas.Bool.{false≢true}
 use Rattle.th_registry.specs.declared.outcome.NoEvent.{NoEvent}
 use Rattle.th_registry.specs.declared.outcome.NoEvent.TheVariants.{Short}
-use Rattle.th_registry.specs.Events.{Outcome, Told}
+use Rattle.th_registry.specs.Events.{Outcome}
 use Rattle.th_registry.specs.History.{History}
 use Rattle.th_registry.specs.Hub.{ChannelMachine, Noted, came, receipted}
 use Rattle.th_registry.specs.Outcomes.{CallSays, NotesOrShort}

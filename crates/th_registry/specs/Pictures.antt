@@ -19,7 +19,7 @@ use Rattle.th_registry.specs.Calls.{Bytes}
 use Rattle.th_registry.specs.History.{History, BroadcastSegment, WatchSegment, opened, recorded, is_full, segment, cut}
 use Rattle.th_registry.specs.Receipts.{receipt_of}
 use Rattle.th_registry.specs.Hub.{ChannelMachine, Machines, Query, Said, Says, Topics}
-use Rattle.th_registry.specs.Endless.{EndlessBroadcast, EndlessChannel, EndlessTopics, EndlessWatch}
+use Rattle.th_registry.specs.Endless.{EndlessChannel, EndlessTopics}
 
 abbrev pub SeenBroadcast : Type 0
 SeenBroadcast = History (broadcast.Picture Bytes) (broadcast.Picture Bytes) (BCall Bytes) (BReply Bytes)

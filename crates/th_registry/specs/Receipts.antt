@@ -1,5 +1,5 @@
 -- The receipts of a hub's events (docs/HISTORIES.md).
-use Rattle.std.specs.Prelude.{◌≡◌, ◌+◌, Option, Some, None, Result, Ok, Err, length}
+use Rattle.std.specs.Prelude.{◌+◌, Option, Some, None, Result, Ok, Err, length}
 use Rattle.th_model.specs.declared.broadcast.BCall.{BCall}
 use Rattle.th_model.specs.declared.broadcast.BReply.{BReply}
 use Rattle.th_model.specs.declared.watch.WCall.{WCall}

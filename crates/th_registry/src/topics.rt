@@ -33,9 +33,7 @@ pub fn find<B: Drop, W: Drop>(
 }
 
 /// The topics with their kinds. It takes memory for all of them at once.
-pub fn list<B: Drop, W: Drop>(
-    topics: &IndexMap<Name, Channel<B, W>>,
-) -> Result<Listing, Short<()>>
+pub fn list<B: Drop, W: Drop>(topics: &IndexMap<Name, Channel<B, W>>) -> Result<Listing, Short<()>>
     ensures { IfOk result (λ rows. rows ≡ list topics.now.entries) }
 {
     let alloc = *topics.allocator();

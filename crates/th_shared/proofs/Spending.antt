@@ -1,6 +1,5 @@
 -- What is said of the end of a handle.
-use Rattle.std.proofs.Common.{◌≡◌, ℕ, Result, Ok, Err, Some, None, refl, sym, ap, subst, ◌∙◌}
-use Rattle.th_model.specs.declared.handles.TxId.{TxId}
+use Rattle.std.proofs.Common.{◌≡◌, ℕ, Result, Ok, Err, refl, sym, ap, subst}
 use Rattle.th_block.specs.Handles.{Holder}
 use Rattle.th_block.specs.Numbers.{last_of_reader, last_of_receiver, last_of_sender, last_of_writer}
 use Rattle.th_registry.specs.declared.channel.Channel.{Channel}
@@ -9,7 +8,7 @@ use Rattle.th_registry.specs.declared.outcome.ChannelReply.{ChannelReply}
 use Rattle.th_registry.specs.declared.outcome.ChannelReply.TheVariants as replies
 use Rattle.th_registry.specs.declared.outcome.Unspent.{Unspent}
 use Rattle.th_registry.specs.Calls.{Bytes}
-use Rattle.th_registry.specs.Events.{DropsRx, DropsTx, Event, Hub, Own, Replied}
+use Rattle.th_registry.specs.Events.{DropsRx, DropsTx, Event, Own, Replied}
 use Rattle.th_registry.specs.Typed.{spent}
 use Rattle.th_shared.specs.declared.handles.TopicReceiver.{TopicReceiver}
 use Rattle.th_shared.specs.declared.handles.TopicReceiver.TheVariants.{Live}

@@ -1,7 +1,6 @@
 -- What a desk may say that threads share. What other threads do in between cannot be seen at it, so nothing is said of
 -- the topics before and after; but each event is one on the topic that was named, and has its receipt (docs/HISTORIES.md).
-use Rattle.std.specs.Prelude.{◌≡◌, ℕ, ◌+◌, Bool, true, false, Option, Some, None, Result, Ok, Err, IfOk, MatchOption}
-use Rattle.std.specs.Prelude as prelude
+use Rattle.std.specs.Prelude.{◌≡◌, ℕ, ◌+◌, true, false, Option, Some, None, Result, Ok, Err, IfOk, MatchOption}
 use Rattle.std.specs.Option.{option_map}
 use Rattle.th_block.specs.Handles.{Holder}
 use Rattle.th_model.specs.declared.making.Making.{Making}

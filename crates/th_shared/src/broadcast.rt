@@ -81,10 +81,7 @@ pub(crate) fn receive<R: Wait>(
 }
 
 // The sender that was made, with the receipt.
-fn made_sender(
-    receipt: Receipt<HubBroadcast>,
-    handle: Option<BSender<Value>>,
-) -> Made<TopicSender>
+fn made_sender(receipt: Receipt<HubBroadcast>, handle: Option<BSender<Value>>) -> Made<TopicSender>
     requires { IsNumbered (made_by receipt.reply) handle }
     ensures made { outcome_of (λ t. NewTx (sender t)) result ≡ broadcast_made_tx receipt.reply }
     ensures receipt { result.receipt ≡ Channel.Broadcast receipt }

@@ -326,7 +326,10 @@ impl<R: Wait + Clone> Desk for SharedDesk<R> {
         receiver: &mut TopicReceiver,
     ) -> Result<Made<TopicReceiver>, NoEvent> {
         let SharedDesk {
-            rt, shares, live, ..
+            rt,
+            shares,
+            live,
+            ..
         } = self;
         if !make_room(shares, *live) {
             return Err(NoEvent::Short);
@@ -356,7 +359,10 @@ impl<R: Wait + Clone> Desk for SharedDesk<R> {
         sender: TopicSender,
     ) -> Result<ChannelReply, Unspent<TopicSender>> {
         let SharedDesk {
-            rt, shares, live, ..
+            rt,
+            shares,
+            live,
+            ..
         } = self;
         match sender {
             Channel::Broadcast(sender) => match broadcast::spend(rt, topic, sender) {
@@ -388,7 +394,10 @@ impl<R: Wait + Clone> Desk for SharedDesk<R> {
         receiver: TopicReceiver,
     ) -> Result<ChannelReply, Unspent<TopicReceiver>> {
         let SharedDesk {
-            rt, shares, live, ..
+            rt,
+            shares,
+            live,
+            ..
         } = self;
         match receiver {
             TopicReceiver::Live(Channel::Broadcast(receiver)) => {

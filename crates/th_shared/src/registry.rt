@@ -6,17 +6,14 @@ ghost use Rattle.th_registry.specs.Typed.{ended, made_rx, made_tx, replied};
 ghost use Rattle.th_shared.specs.Numbers.{receiver, sender};
 ghost use Rattle.th_shared.specs.Saying.{MaySay};
 
-use crate::broadcast;
 use crate::handles::{TopicReceiver, TopicSender};
 use crate::topic::{First, SharedTopic, Topic};
-use crate::watch;
+use crate::{broadcast, watch};
 use std::alloc::Global;
 use std::collections::HashMap;
 use std::sync::Wait;
 use th_block::{Handle, Shared, Side};
-use th_model::{
-    Capacity, Listed, Listing, Making, Name, NameRef, Question, Short, Start, Value,
-};
+use th_model::{Capacity, Listed, Listing, Making, Name, NameRef, Question, Short, Start, Value};
 use th_registry::channel::{HubBroadcast, HubWatch, TopicReceipt};
 use th_registry::{Channel, ChannelReply, Found, Made, NoEvent, Refusal, TopicId};
 
@@ -105,12 +102,7 @@ fn opened<O: th_block::Channel, S: Side<O>>(handle: Handle<O, S>) -> Option<Topi
 }
 
 // A broadcast topic at the end, under a name that is not there: its capacity in force.
-fn open_broadcast(
-    topics: &mut Topics,
-    name: Name,
-    asked: u64,
-    base: u64,
-) -> Result<u64, Refusal>
+fn open_broadcast(topics: &mut Topics, name: Name, asked: u64, base: u64) -> Result<u64, Refusal>
     ensures { MaySay (Open name (Making.BroadcastAt asked base)) result }
 {
     let Ok(capacity) = Capacity::new(asked) else {
@@ -156,11 +148,7 @@ fn open_watch(topics: &mut Topics, name: Name, value: Value) -> Result<u64, Refu
 }
 
 /// Opens a topic, and answers the number that is told of it.
-pub(crate) fn open(
-    topics: &mut Topics,
-    name: &NameRef<'_>,
-    making: Making,
-) -> Result<u64, Refusal>
+pub(crate) fn open(topics: &mut Topics, name: &NameRef<'_>, making: Making) -> Result<u64, Refusal>
     ensures { MaySay (Open name.now making) result }
 {
     if topics.find(name).is_some() {

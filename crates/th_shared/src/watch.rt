@@ -10,11 +10,11 @@ ghost use Rattle.th_shared.specs.Saying.{IsLast, IsNumbered, MaySay};
 
 use crate::event::{event, is_on, last_event, why};
 use crate::handles::{TopicReceiver, TopicSender};
-use crate::topic::{WatchTopic, First};
+use crate::topic::{First, WatchTopic};
 use std::sync::Wait;
-use th_block::{WReader, WSender, Handle, Side};
+use th_block::{Handle, Side, WReader, WSender};
 use th_log::Receipt;
-use th_model::{WReply, Question, ReceiverVerb, RxId, SenderVerb, Start, TxId, Value};
+use th_model::{Question, ReceiverVerb, RxId, SenderVerb, Start, TxId, Value, WReply};
 use th_registry::calls::{watch_asked, watch_by_receiver, watch_by_sender};
 use th_registry::channel::{HubWatch, TopicReceipt};
 use th_registry::{Channel, ChannelReply, Made, NoEvent, TopicId};
@@ -81,10 +81,7 @@ pub(crate) fn receive<R: Wait>(
 }
 
 // The sender that was made, with the receipt.
-fn made_sender(
-    receipt: Receipt<HubWatch>,
-    handle: Option<WSender<Value>>,
-) -> Made<TopicSender>
+fn made_sender(receipt: Receipt<HubWatch>, handle: Option<WSender<Value>>) -> Made<TopicSender>
     requires { IsNumbered (made_by_watch receipt.reply) handle }
     ensures made { outcome_of (λ t. NewTx (sender t)) result ≡ watch_made_tx receipt.reply }
     ensures receipt { result.receipt ≡ Channel.Watch receipt }
@@ -104,10 +101,7 @@ fn made_sender(
 }
 
 // The reader that was made, with the receipt.
-fn made_reader(
-    receipt: Receipt<HubWatch>,
-    handle: Option<WReader<Value>>,
-) -> Made<TopicReceiver>
+fn made_reader(receipt: Receipt<HubWatch>, handle: Option<WReader<Value>>) -> Made<TopicReceiver>
     requires { IsNumbered (made_by_watch receipt.reply) handle }
     ensures made { outcome_of (λ r. NewRx (receiver r)) result ≡ watch_made_rx receipt.reply }
     ensures receipt { result.receipt ≡ Channel.Watch receipt }

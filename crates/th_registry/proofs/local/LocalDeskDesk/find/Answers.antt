@@ -8,4 +8,4 @@ pub returns : goal.returns
 returns c =
     let desk = c.self.inside in
     subst (λ (d : Desk). DeskSays d (Find c.args.name.now) c.find.result d) c.self.view_is
-        (refl, finds desk.limit desk.channels.entries c.args.name.now c.find.result (sym c.find.ensures))
+    (refl, finds desk.limit desk.channels.entries c.args.name.now c.find.result (sym c.find.ensures))

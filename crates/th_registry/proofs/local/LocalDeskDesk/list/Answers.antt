@@ -1,4 +1,4 @@
-use Rattle.std.proofs.Common.{subst, refl, ap, sym, ◌∙◌, Result, Ok, Err, inl, inr, ◌≡◌, IfOk, ℕ}
+use Rattle.std.proofs.Common.{subst, refl, sym, Result, Ok, Err, inl, inr, ◌≡◌, IfOk, ℕ}
 use Rattle.std.specs.Prelude as prelude
 use Rattle.th_model.specs.declared.listing.Listed.{Listed}
 use Rattle.th_model.specs.declared.short.Short.{Short}
@@ -15,4 +15,4 @@ pub returns : goal.returns
 returns c =
     let desk = c.self.inside in
     subst (λ (d : Desk). DeskSays d List c.list.result d) c.self.view_is
-        (refl, listed desk.limit desk.channels.entries c.list.result c.list.ensures)
+    (refl, listed desk.limit desk.channels.entries c.list.result c.list.ensures)
