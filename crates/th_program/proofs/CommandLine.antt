@@ -1,9 +1,11 @@
 -- What `clap` makes of the program's command line at words that are written out.
-use Rattle.std.proofs.Common.{◌≡◌, ◌∙◌, ℕ, List, [], ◌∷◌, refl, sym, ap, subst, codes, true, Option, Some, None}
+use Rattle.std.proofs.Common.{◌≡◌, ◌∙◌, ℕ, List, [], ◌∷◌, refl, sym, ap, subst, codes, true, false, Option, Some, None, Result, Ok, Err, IfOk}
 use Rattle.std.specs.Prelude.{Box}
 use Rattle.std.specs.Box.{box_value}
 use Rattle.std.specs.Option.{option_map}
-use Rattle.clap.specs.Words.{App, HasMatchesOf, Row, Text, fault_of, is_simple, is_simple_and_free, subcommand_name_of, subcommand_of, subcommand_rows, subcommand_rows_of}
+use Rattle.clap.specs.Words.{AddsSubcommand, App, HasMatchesOf, Row, Text, app_of, fault_of, is_simple, is_simple_and_free, subcommand_name_of, subcommand_of, subcommand_rows, subcommand_rows_of, with_subcommand}
+use Rattle.clap.specs.declared.builder.command.Command.{Command}
+use Rattle.clap.specs.declared.builder.command.Command.TheViews.{out-Command}
 use Rattle.clap.specs.declared.parser.matches.ArgMatches.{ArgMatches}
 use Rattle.clap.specs.declared.parser.matches.ArgMatches.TheViews.{out-ArgMatches, out-SubCommand}
 use Rattle.clap.specs.declared.parser.matches.SubCommand.{SubCommand}
@@ -64,6 +66,9 @@ module _ (m : ArgMatches) (app : App) (words : List (List ℕ)) (is : app ≡ co
       (has (ap is_simple is ∙ is_simple_line)).1
       ∙ ap (λ (a : App). subcommand_of a words) is
 
+  pub name_is : subcommand_name_of m ≡ option_map (λ p. p.0) (subcommand_of command_line words)
+  name_is = matches_name m ∙ ap (λ (r : Option (Text × List Row)). option_map (λ p. p.0) r) rows_are
+
   abbrev first_is : List ℕ → List (List ℕ) → Type 0
   first_is command ws = option_map (λ p. p.0) (subcommand_of command_line ws) ≡ Some command
 
@@ -92,3 +97,12 @@ version_fails name = refl
 pub none_fails : (name : List ℕ) → fault_of command_line (name ∷ []) ≡ kind.MissingSubcommand ∷ []
 unfolding clap_on_literals
 none_fails name = refl
+
+-- a command that is added as a subcommand
+pub adds_app : {E : Type 0} (program sub : Command) (app : App) (result : Result Command E)
+    → IfOk result (λ r. AddsSubcommand program sub r)
+    → (out-Command sub).has_globals ≡ false → app_of sub ≡ app
+    → IfOk result (λ r. app_of r ≡ with_subcommand (app_of program) app.top)
+adds_app program sub app (Ok r) adds local is =
+    adds.shape local ∙ ap (λ (a : App). with_subcommand (app_of program) a.top) is
+adds_app program sub app (Err e) adds local is = adds

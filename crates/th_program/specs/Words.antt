@@ -1,9 +1,12 @@
 -- What the words of the command line ask for.
-use Rattle.std.specs.Prelude.{◌≡◌, ◌⊎◌, ℕ, List, [], ◌∷◌, Option, Some, None, Result, MatchResult, codes, true, if◌then◌else◌}
+use Rattle.std.specs.Prelude.{◌≡◌, ◌⊎◌, ◌≤◌, ℕ, List, [], ◌∷◌, Option, Some, None, Result, MatchResult, codes, true, if◌then◌else◌}
 use Rattle.std.specs.Str.{bytes_eq}
-use Rattle.clap.specs.Words.{App, new_app, with_subcommand}
+use Rattle.std.specs.Option.{option_map}
+use Rattle.clap.specs.Words.{App, new_app, new_rule, subcommand_of, with_rule, with_subcommand}
 use Rattle.th_program.specs.declared.modes.Mode.{Mode}
-use Rattle.th_program.specs.declared.modes.Mode.TheVariants.{Check, Replay}
+use Rattle.th_program.specs.declared.modes.Mode.TheVariants.{Check, Replay, Serve}
+use Rattle.th_program.specs.declared.modes.Asked.{Asked}
+use Rattle.th_program.specs.declared.modes.Asked.TheVariants as Asked
 use Rattle.th_program.specs.declared.modes.ModeFault.{ModeFault}
 use Rattle.th_program.specs.declared.modes.ModeFault.TheVariants.{Usage, Help, Short}
 
@@ -55,19 +58,40 @@ GivesMode r = MatchResult r (λ m. Unit {0}) (λ e. e ≡ Short)
 abbrev pub GivesFault : (ModeFault → Type 0) → Result Mode ModeFault → Type 0
 GivesFault kind r = MatchResult r (λ _. ⊥) (λ e. kind e ⊎ (e ≡ Short))
 
--- the mode of a command's name
-abbrev pub mode_of : Option (List ℕ) → Mode
-mode_of None = Replay
-mode_of (Some name) = if bytes_eq name (codes "check") then Check else Replay
+-- which mode a command's name is of
+abbrev pub asked_of : Option (List ℕ) → Asked
+asked_of None = Asked.Replay
+asked_of (Some name) =
+    if bytes_eq name (codes "check") then Asked.Check
+    else if bytes_eq name (codes "serve") then Asked.Serve
+    else Asked.Replay
+
+-- a mode that serves has 1 to 64 sessions
+abbrev pub HasSessions : Mode → Type 0
+HasSessions (Serve path sessions) = (1 ≤ sessions) × (sessions ≤ 64)
+HasSessions mode = Unit {0}
 
 -- a command of the program has to be named, and the program tells its version
 abbrev pub with_required : App → App
 with_required app =
     record app { top = record app.top { subcommand_required = true; has_version = true } }
 
--- the command line as `clap` reads it: two commands, `replay` and `check`, which take no words
+-- `serve` and its words: a path, and how many sessions
+abbrev pub serve_line : App
+serve_line =
+    with_rule
+    (with_rule (new_app (codes "serve")) (record (new_rule (codes "PATH")) { required = true }))
+    (record (new_rule (codes "N")) { long = Some (codes "sessions"); required = true })
+
+-- the command line as `clap` reads it: `replay` and `check`, which take no words, and `serve`
 abbrev pub command_line : App
 command_line =
     with_subcommand
+    (with_subcommand
     (with_subcommand (with_required (new_app (codes "topichub"))) (new_app (codes "replay")).top)
-    (new_app (codes "check")).top
+    (new_app (codes "check")).top)
+    serve_line.top
+
+-- which mode words name that `clap` takes
+abbrev pub asked_by : List (List ℕ) → Asked
+asked_by words = asked_of (option_map (λ p. p.0) (subcommand_of command_line words))

@@ -1,4 +1,4 @@
-//! The texts of `topichub --help`, `topichub replay --help` and `topichub check --help`.
+//! The texts of `topichub --help` and of `topichub MODE --help` for each mode.
 
 /// The version of the program.
 pub const VERSION: &str = "0.1.0";
@@ -35,10 +35,14 @@ With the left half in a file, `topichub replay < FILE` prints the right half.
 The command TRACE of a schedule prints what happened on a topic. `topichub check`
 reads such a trace and says whether a channel would have done so.
 
+`topichub serve PATH --sessions N` takes the same commands from many clients at
+once, on a Unix socket, and lets NEXT and CHANGED wait.
+
 Exit status:
   0  done; of a check, that the trace is legal
   1  stopped, with one line on standard error: `topichub: read fault`,
-     `topichub: write fault`, `topichub: too long` or `topichub: no memory`
+     `topichub: write fault`, `topichub: too long`, `topichub: no memory` or
+     `topichub: socket fault`
   2  wrong words on the command line
   3  the trace that was checked is illegal or bad";
 
@@ -172,3 +176,42 @@ wrong there: the line, and the reply that the channel would give. At most
 1000000 entries.
 
 Exit status as in `topichub --help`.";
+
+/// One line on the mode `serve`.
+pub const SERVE_ABOUT: &str = "Serve sessions on a Unix socket, each in a thread of its own";
+
+/// What stands below the text on wrong words where they begin with `serve`.
+pub const SERVE_INPUT: &str =
+    "\nA path and a number of sessions are wanted, as in: topichub serve hub.sock --sessions 2\n";
+
+/// The word of the mode `serve`.
+pub const SERVE_PATH: &str = "Where the socket is made; nothing may stand there";
+
+/// Its option.
+pub const SERVE_SESSIONS: &str = "How many connections are served, 1 to 64";
+
+/// What stands below the options of the mode `serve`.
+pub const SERVE_AFTER: &str = "\
+It makes the socket, prints `listening` on standard output, and serves the first
+N connections, one session each, numbered from 1 in the order in which they were
+accepted. Once all have ended it removes the socket and prints `done N`.
+
+A session's lines are the commands of `topichub replay --help`, without an actor
+in front: a session is an actor. Each line is answered in its turn, and lines may
+be sent ahead of their replies. NEXT and CHANGED wait here until there is an
+answer, and BLOCKED is never told. A session ends after QUIT, at the end of its
+input, or with its connection; then all that it holds is spent. One that was
+stopped is told of on standard error, with its number.
+
+Example, with two shells and `socat`:
+
+  topichub serve hub.sock --sessions 2
+  socat - UNIX-CONNECT:hub.sock
+
+Only the user who serves may connect: the socket has the mode 0600, and its
+directory decides who may come near. Values are bytes. A session takes at most
+1000000 lines. A signal such as Ctrl-C ends the program at once, and leaves the
+socket where it is.
+
+Exit status as in `topichub --help`; 1 with `topichub: socket fault` where the
+socket could not be made, or a connection not be served.";

@@ -19,5 +19,5 @@ mod words;
 pub use end::{End, explanation, status};
 pub use modes::{Mode, ModeFault};
 pub use program::{greet, run, run_for, run_not_text, run_short};
-pub use streams::run_on_streams;
+pub use streams::{WordsFault, given_words, run_on_streams, texts};
 pub use words::mode;

@@ -1,12 +1,27 @@
 //! What the program can be asked to do.
 
 /// What the program is asked to do.
-#[derive(Clone, Copy, Debug, PartialEq, Eq)]
+#[derive(Drop)]
 pub enum Mode {
     /// Carry out a schedule from standard input, and print its replies.
     Replay,
     /// Check the trace from standard input, and print the verdict.
     Check,
+    /// Serve sessions on a Unix socket.
+    Serve {
+        /// Where the socket is made.
+        path: String,
+        /// How many sessions, 1 to 64.
+        sessions: u64,
+    },
+}
+
+/// Which mode a command's name is of.
+#[derive(Clone, Copy, Debug, PartialEq, Eq)]
+pub(crate) enum Asked {
+    Replay,
+    Check,
+    Serve,
 }
 
 /// Words that name no mode.

@@ -214,9 +214,9 @@ fn explain_check<E: Write>(errors: &mut Counted<E>, end: &End, text: &[u8], to_p
 }
 
 /// Does what the words ask for, the program's name first. `replay` carries out the schedule of
-/// `input`, and `check` says whether its trace is legal. A text of help, or the version, goes to `output`; what is wrong
-/// with the words goes to `errors`, and so
-/// does a line that says what stopped the run.
+/// `input`, and `check` says whether its trace is legal; `serve` wants more than streams, and ends with a socket fault here.
+/// A text of help, or the version, goes to `output`; what is wrong with the words goes to `errors`, and so does a line that
+/// says what stopped the run.
 pub fn run<R: Read, W: Write, E: Write>(
     alloc: Global,
     words: &[&str],
@@ -260,6 +260,10 @@ pub fn run_for<R: Read, W: Write, E: Write>(
             let end = carry_out(alloc, input, output);
             explain(errors, &end);
             end
+        }
+        Ok(Mode::Serve { .. }) => {
+            explain(errors, &End::Socket);
+            End::Socket
         }
         Ok(Mode::Check) => {
             let mut text = Vec::new(alloc);

@@ -7,31 +7,40 @@ use std::alloc::{AllocError, Global};
 use std::env;
 use std::io::{ErrorKind, IsTerminal};
 use std::process::ExitCode;
+use std::rt::Env;
 use th_lines::Counted;
 
-// Why the words of the command line are not known.
+/// Why the words of the command line are not known.
 #[derive(Clone, Copy, Drop)]
-enum Unknown {
-    // There was no memory for them.
+pub enum WordsFault {
+    /// There was no memory for them.
     Short,
-    // One of them is not UTF-8.
+    /// One of them is not UTF-8.
     NotText,
 }
 
-// The words of the command line, the program's name first.
-fn given(rt: &HostRuntime) -> Result<Vec<String>, Unknown> {
+/// The words of the command line, the program's name first.
+///
+/// # Errors
+///
+/// `NotText` where one of them is not UTF-8, `Short` where memory was refused.
+pub fn given_words<R: Env + AllocGlobal>(rt: &R) -> Result<Vec<String>, WordsFault> {
     match env::args(rt) {
         Ok(words) => match words.collect(rt.alloc()) {
             Ok(words) => Ok(words),
-            Err(_) => Err(Unknown::Short),
+            Err(_) => Err(WordsFault::Short),
         },
-        Err(error) if error.kind() == ErrorKind::InvalidData => Err(Unknown::NotText),
-        Err(_) => Err(Unknown::Short),
+        Err(error) if error.kind() == ErrorKind::InvalidData => Err(WordsFault::NotText),
+        Err(_) => Err(WordsFault::Short),
     }
 }
 
-// The texts of the words.
-fn texts<'a>(alloc: Global, words: &'a [String]) -> Result<Vec<&'a str>, AllocError>
+/// The texts of the words.
+///
+/// # Errors
+///
+/// [`AllocError`] where memory was refused.
+pub fn texts<'a>(alloc: Global, words: &'a [String]) -> Result<Vec<&'a str>, AllocError>
     ensures { IfOk result (λ texts. map (λ t. t.now) texts.items ≡ map string_bytes words.now) }
 {
     let mut texts = Vec::with_capacity(alloc, words.len())?;
@@ -46,18 +55,14 @@ fn is_replay(words: &[&str]) -> bool {
     words.len() == 2 && words[1] == "replay"
 }
 
-/// Does what the words of the command line ask for, as [`run_for`] does, on the standard streams, and
-/// answers the exit status. The streams are used as they are: what goes through them goes in large
-/// pieces already.
-pub fn run_on_streams(rt: &HostRuntime) -> ExitCode {
+/// Does what these words of the command line ask for, as [`run_for`] does, on the standard streams, and
+/// answers the exit status; it ends as `no memory` or as wrong words where there are none. The streams are
+/// used as they are: what goes through them goes in large pieces already.
+pub fn run_on_streams(rt: &HostRuntime, given: Result<&[String], WordsFault>) -> ExitCode {
     let alloc = rt.alloc();
-    let given = given(rt);
-    let words = match &given {
-        Ok(given) => match texts(alloc, given.as_slice()) {
-            Ok(words) => Ok(words),
-            Err(_) => Err(Unknown::Short),
-        },
-        Err(why) => Err(*why),
+    let words = match given {
+        Ok(given) => texts(alloc, given).map_err(|_| WordsFault::Short),
+        Err(why) => Err(why),
     };
     let stdin = rt.stdin();
     let at_terminal = stdin.is_terminal();
@@ -78,8 +83,8 @@ pub fn run_on_streams(rt: &HostRuntime) -> ExitCode {
                 people,
             )
         }
-        Err(Unknown::Short) => run_short(&mut errors),
-        Err(Unknown::NotText) => run_not_text(&mut errors),
+        Err(WordsFault::Short) => run_short(&mut errors),
+        Err(WordsFault::NotText) => run_not_text(&mut errors),
     };
     ExitCode::from(status(&end))
 }

@@ -1,16 +1,17 @@
 //! The words of the command line.
 
-ghost use Rattle.std.specs.Prelude.{◌≡◌, ◌≢◌, ◌⊎◌, IfOk, OnOk, [], codes, map, option_map};
-ghost use Rattle.clap.specs.Words.{app_of, fault_of, kind_of, new_app, with_subcommand};
-ghost use Rattle.th_program.specs.Words.{AreCheck, AreReplay, AreHelp, AreVersion, AreNone, IsHelp, IsUsage, GivesCheck, GivesMode, GivesReplay, GivesFault, command_line, mode_of, with_required};
+ghost use Rattle.std.specs.Prelude.{◌≡◌, ◌≢◌, ◌⊎◌, ◌≤◌, IfErr, IfOk, IfSome, Ok, OnOk, [], codes, false, map, option_map};
+ghost use Rattle.clap.specs.declared.builder.command.Command.TheViews.{out-Command};
+ghost use Rattle.clap.specs.Words.{app_of, fault_of, kind_of, new_app, subcommand_name_of, with_subcommand};
+ghost use Rattle.th_program.specs.Words.{AreCheck, AreReplay, AreHelp, AreVersion, AreNone, IsHelp, IsUsage, GivesCheck, GivesMode, GivesReplay, GivesFault, HasSessions, asked_by, asked_of, command_line, serve_line, with_required};
 
 use crate::help::{
     ABOUT, AFTER, CHECK_ABOUT, CHECK_AFTER, CHECK_INPUT, REPLAY_ABOUT, REPLAY_AFTER, REPLAY_INPUT,
-    VERSION,
+    SERVE_ABOUT, SERVE_AFTER, SERVE_INPUT, SERVE_PATH, SERVE_SESSIONS, VERSION,
 };
-use crate::modes::{Mode, ModeFault};
+use crate::modes::{Asked, Mode, ModeFault};
 use clap::error::ErrorKind;
-use clap::{Command, Error};
+use clap::{Arg, ArgMatches, Command, Error};
 use std::alloc::{AllocError, Global};
 
 impl From<AllocError> for ModeFault {
@@ -46,12 +47,43 @@ fn with_check<'a>(alloc: Global, program: Command<'a>) -> Result<Command<'a>, Al
     program.subcommand(check)
 }
 
+// The mode that serves, with its words.
+fn serve_command<'a>(alloc: Global) -> Result<Command<'a>, AllocError>
+    ensures app { IfOk result (λ c. app_of c ≡ serve_line) }
+    ensures local { IfOk result (λ c. (out-Command c).has_globals ≡ false) }
+{
+    let path = Arg::new(alloc, "PATH").help(SERVE_PATH).required(true);
+    let sessions = Arg::new(alloc, "N")
+        .long("sessions")
+        .help(SERVE_SESSIONS)
+        .required(true);
+    let serve = Command::new(alloc, "serve")
+        .about(SERVE_ABOUT)
+        .after_help(SERVE_AFTER);
+    serve.arg(path)?.arg(sessions)
+}
+
+// The program with that mode more.
+fn with_serve<'a>(alloc: Global, program: Command<'a>) -> Result<Command<'a>, AllocError>
+    ensures { IfOk result (λ c. app_of c ≡
+        with_subcommand (app_of program.entry) serve_line.top) }
+{
+    match serve_command(alloc) {
+        Ok(serve) => program.subcommand(serve),
+        Err(e) => Err(e),
+    }
+}
+
 // The command line, as `clap` knows it.
 fn program_command<'a>(alloc: Global) -> Result<Command<'a>, AllocError>
     ensures { IfOk result (λ c. app_of c ≡ command_line) }
 {
-    match with_replay(alloc) {
-        Ok(program) => with_check(alloc, program),
+    let program = match with_replay(alloc) {
+        Ok(program) => program,
+        Err(e) => return Err(e),
+    };
+    match with_check(alloc, program) {
+        Ok(program) => with_serve(alloc, program),
         Err(e) => Err(e),
     }
 }
@@ -80,13 +112,72 @@ fn refused(alloc: Global, error: Error) -> ModeFault
     }
 }
 
-// The mode of this name. There are two.
-fn named(name: Option<&str>) -> Mode
-    ensures { result ≡ mode_of (option_map (λ n. n.now) name.entry) }
+// Which mode a command's name is of. There are three.
+fn asked(name: Option<&str>) -> Asked
+    ensures { result ≡ asked_of (option_map (λ n. n.now) name.entry) }
 {
     match name {
-        Some(word) if word == "check" => Mode::Check,
-        _ => Mode::Replay,
+        Some(word) if word == "check" => Asked::Check,
+        Some(word) if word == "serve" => Asked::Serve,
+        _ => Asked::Replay,
+    }
+}
+
+// How many sessions the text asks for, where it is a number from 1 to 64.
+fn sessions_in(text: &str) -> Option<u64>
+    ensures { IfSome result (λ n. (1 ≤ n) × (n ≤ 64)) }
+{
+    match text.parse::<u64>() {
+        Ok(sessions) if 1 <= sessions && sessions <= 64 => Some(sessions),
+        _ => None,
+    }
+}
+
+// What is wrong with such a text.
+fn wrong_sessions(alloc: Global, text: &str) -> ModeFault
+    ensures { IsUsage result ⊎ (result ≡ ModeFault.Short) }
+{
+    let made = format!(in alloc;
+        "error: invalid value '{text}' for '--sessions <N>': it is no number from 1 to 64\n\nFor more information, try '--help'.\n"
+    );
+    match made {
+        Ok(text) => ModeFault::Usage(text),
+        Err(_) => ModeFault::Short,
+    }
+}
+
+// The mode that serves, by the words behind its name.
+fn serve_mode(alloc: Global, words: &ArgMatches<'_>) -> Result<Mode, ModeFault>
+    ensures sessions { IfOk result HasSessions }
+    ensures wrong { IfErr result (λ fault. IsUsage fault ⊎ (fault ≡ ModeFault.Short)) }
+{
+    let number = words.get_str("N").unwrap_or("");
+    let Some(sessions) = sessions_in(number) else {
+        return Err(wrong_sessions(alloc, number));
+    };
+    let path = words.get_str("PATH").unwrap_or("");
+    match format!(in alloc; "{path}") {
+        Ok(path) => Ok(Mode::Serve { path, sessions }),
+        Err(_) => Err(ModeFault::Short),
+    }
+}
+
+// The mode of words that `clap` has taken.
+fn taken(alloc: Global, matches: &ArgMatches<'_>) -> Result<Mode, ModeFault>
+    ensures replay { asked_of (subcommand_name_of matches.now) ≡ Asked.Replay
+        → result ≡ Ok Mode.Replay }
+    ensures check { asked_of (subcommand_name_of matches.now) ≡ Asked.Check
+        → result ≡ Ok Mode.Check }
+    ensures sessions { IfOk result HasSessions }
+    ensures other { asked_of (subcommand_name_of matches.now) ≢ Asked.Serve → GivesMode result }
+{
+    match asked(matches.subcommand_name()) {
+        Asked::Replay => Ok(Mode::Replay),
+        Asked::Check => Ok(Mode::Check),
+        Asked::Serve => match matches.subcommand_matches("serve") {
+            Some(words) => serve_mode(alloc, words),
+            None => Err(wrong_sessions(alloc, "")),
+        },
     }
 }
 
@@ -103,13 +194,15 @@ pub fn mode(alloc: Global, words: &[&str]) -> Result<Mode, ModeFault>
     ensures version { AreVersion (map (λ w. w.now) words.now) → GivesFault IsHelp result }
     ensures none { AreNone (map (λ w. w.now) words.now) → GivesFault IsUsage result }
     ensures only { OnOk result (fault_of command_line (map (λ w. w.now) words.now) ≡ []) }
-    ensures taken { fault_of command_line (map (λ w. w.now) words.now) ≡ [] → GivesMode result }
+    ensures taken { fault_of command_line (map (λ w. w.now) words.now) ≡ []
+        → asked_by (map (λ w. w.now) words.now) ≢ Asked.Serve → GivesMode result }
+    ensures sessions { IfOk result HasSessions }
 {
     let Ok(command) = program_command(alloc) else {
         return Err(ModeFault::Short);
     };
     match command.try_get_matches_from(words) {
-        Ok(matches) => Ok(named(matches.subcommand_name())),
+        Ok(matches) => taken(alloc, &matches),
         Err(error) => Err(refused(alloc, error)),
     }
 }
@@ -119,6 +212,7 @@ pub fn hint(words: &[&str]) -> &'static str {
     match words.get(1) {
         Some(word) if *word == "replay" => REPLAY_INPUT,
         Some(word) if *word == "check" => CHECK_INPUT,
+        Some(word) if *word == "serve" => SERVE_INPUT,
         _ => "",
     }
 }

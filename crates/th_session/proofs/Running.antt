@@ -23,10 +23,11 @@ use Rattle.th_session.specs.declared.run.After.{After}
 use Rattle.th_session.specs.declared.run.After.TheVariants.{More, Over}
 use Rattle.th_session.specs.declared.fault.SessionFault.{SessionFault}
 use Rattle.th_session.specs.declared.fault.SessionFault.TheVariants.{Write, Short}
+use Rattle.th_session.specs.declared.keeping.Keeping.{Keeping}
 use Rattle.th_session.specs.declared.session.Answer as session
 use Rattle.th_session.specs.declared.session.Answer.TheVariants as answers
 use Rattle.th_session.specs.Answer.{said}
-use Rattle.th_session.specs.Kept.{IsKept, Kept, Tells, told}
+use Rattle.th_session.specs.Kept.{IsKept, Kept, Tells, kept_by, told}
 use Rattle.th_session.specs.Run.{Carries, Goes, GoesNext, Halted, Halts, HasQuit, IsAnswered, Ran, ReadsOn, Says, Served, Serves, is_whole, line_turn, nothing_had}
 use Rattle.th_session.specs.Script.{Answer}
 use Rattle.th_session.proofs.Kept.{as-before, keeps_as, told_reply}
@@ -159,12 +160,12 @@ pub none_left : (came : Came) → came.ahead ≡ [] → came.begun ≡ [] → li
 none_left came none clear =
     ap (λ (l : List ℕ). lines_from true came.begun (l ++ [])) none ∙ ap (λ (l : List ℕ). lines_from true l []) clear
 
-module _ {D : Type 0} (says : D → (q : Query) → Said q → D → Type 0) where
+module _ {D : Type 0} (keeping : Keeping) (says : D → (q : Query) → Said q → D → Type 0) where
   -- a line was not let through
   pub kept_out : (line : Line) (s : Kept) (d e : D) (before after : Output) (fault : SessionFault) → e ≡ d → Says (is_whole (Some fault)) [] before after
-      → Serves says line (s, d) (s, e) before after (Err fault)
+      → Serves keeping says line (s, d) (s, e) before after (Err fault)
   kept_out line s d e before after fault same said =
-      subst (λ (x : D). Serves says line (s, d) (s, x) before after (Err fault)) (sym same)
+      subst (λ (x : D). Serves keeping says line (s, d) (s, x) before after (Err fault)) (sym same)
       (halts_here (line ∷ []) false (s, d) before fault after said)
 
   -- what is kept after a line
@@ -175,22 +176,22 @@ module _ {D : Type 0} (says : D → (q : Query) → Said q → D → Type 0) whe
   -- it was let through
   module _ (line : Line) (s : Kept) (d e : D) (new : Kept × D) (before entered after : Output) (same : e ≡ d) (p : Adds [] before entered) where
     -- the writer failed before it was carried out
-    pub in_time_broken : new ≡ (s, e) → WritesFront (entered.waiting ++ []) entered after → Serves says line (s, d) new before after (Err Write)
+    pub in_time_broken : new ≡ (s, e) → WritesFront (entered.waiting ++ []) entered after → Serves keeping says line (s, d) new before after (Err Write)
     in_time_broken at f =
-        subst (λ (x : Kept × D). Serves says line (s, d) x before after (Err Write)) (sym (at ∙ ap (λ (x : D). (s, x)) same))
+        subst (λ (x : Kept × D). Serves keeping says line (s, d) x before after (Err Write)) (sym (at ∙ ap (λ (x : D). (s, x)) same))
         (halts_here (line ∷ []) false (s, d) before Write after (front_after [] p f))
 
     -- it was carried out
-    module _ (mid : Output) (tells : session.Answer) (t : Tells tells (λ answer. IsAnswered says line (s, e) answer new)) (q : Adds [] entered mid) where
-      turned : line_turn says (s, d) line (said t.0) new
-      turned = (t.0, subst (λ (x : D). IsAnswered says line (s, x) t.0 new) same t.2, refl)
+    module _ (mid : Output) (tells : session.Answer) (t : Tells tells (λ answer. IsAnswered says line (s, e) answer new)) (q : Adds [] entered mid) (left : Kept) (is : left ≡ kept_by keeping new.0) where
+      turned : line_turn keeping says (s, d) line (said t.0) (left, new.1)
+      turned = (t.0, new.0, subst (λ (x : D). IsAnswered says line (s, x) t.0 new) same t.2, is, refl)
 
       kept : IsKept s t.0 new.0
       kept = keeps_line line (s, e) new t.0 t.2
 
       pub carries : (quits : Bool) → (quits ≡ true → tells ≡ answers.Reply Bye)
           → ((answer : Answer) (had : Kept) → tells ≡ told answer → IsKept had answer new.0 → Adds (said answer) mid after)
-          → Serves says line (s, d) new before after (Ok quits)
+          → Serves keeping says line (s, d) (left, new.1) before after (Ok quits)
       carries quits bye put = record {
         text = said t.0;
         turned = turned;
@@ -199,49 +200,49 @@ module _ {D : Type 0} (says : D → (q : Query) → Said q → D → Type 0) whe
       }
 
       pub carries_broken : ((answer : Answer) (had : Kept) → tells ≡ told answer → IsKept had answer new.0 → WritesFront (mid.waiting ++ said answer) mid after)
-          → Serves says line (s, d) new before after (Err Write)
+          → Serves keeping says line (s, d) (left, new.1) before after (Err Write)
       carries_broken put =
-          halts_at (line ∷ []) false line [] (said t.0) (s, d) new before (Some Write) after refl turned
+          halts_at (line ∷ []) false line [] (said t.0) (s, d) (left, new.1) before (Some Write) after refl turned
           (front_after (said t.0) p (front_after (said t.0) q (put t.0 s t.1 kept))) (λ h. absurd (no_fault Write h))
 
   -- a line was answered by BYE
   pub quits_at : (o : Standing (Kept × D)) (line : Line) (later : List Line) (s : Kept × D) (out : Output) (quits : Bool)
-      → lines_after false o.came [] ≡ line ∷ later → Carries says line o.state s o.out out quits → quits ≡ true
-      → Halts (line_turn says) (lines_after false o.came []) false o.state o.out None s out
+      → lines_after false o.came [] ≡ line ∷ later → Carries keeping says line o.state s o.out out quits → quits ≡ true
+      → Halts (line_turn keeping says) (lines_after false o.came []) false o.state o.out None s out
   quits_at o line later s out quits e c q =
       halts_at _ false line later c.text o.state s o.out None out e c.turned c.said
       (λ _. inl ([], ap (λ (t : List ℕ). t ∷ []) (c.bye q)))
 
   -- it was the last one
   pub ends_at : (o : Standing (Kept × D)) (line : Line) (s : Kept × D) (out : Output) (quits : Bool)
-      → lines_after true o.came [] ≡ line ∷ [] → Carries says line o.state s o.out out quits
-      → Halts (line_turn says) (lines_after true o.came []) true o.state o.out None s out
+      → lines_after true o.came [] ≡ line ∷ [] → Carries keeping says line o.state s o.out out quits
+      → Halts (line_turn keeping says) (lines_after true o.came []) true o.state o.out None s out
   ends_at o line s out quits e c =
       halts_at _ true line [] c.text o.state s o.out None out e c.turned c.said (λ _. inr (refl, refl))
 
   -- by the answer whether it was BYE
-  pub goes_after : (a b c : Standing (Kept × D)) (r : Result After SessionFault) → Advances (line_turn says) a [] b → Goes says b c r → Goes says a c r
+  pub goes_after : (a b c : Standing (Kept × D)) (r : Result After SessionFault) → Advances (line_turn keeping says) a [] b → Goes keeping says b c r → Goes keeping says a c r
   goes_after a b c (Ok More) p q = (lines.both p q.0, q.1)
   goes_after a b c (Ok Over) p q = halts_after [] false p q
   goes_after a b c (Err e) p q = halts_after [] false p q
 
-  pub next_none : (a b : Standing (Kept × D)) (x : Option After) → x ≡ None → GoesNext says a b (Ok x) → AnswersOne (line_turn says) a b
-  next_none a b x e q = subst (λ (y : Option After). GoesNext says a b (Ok y)) e q
+  pub next_none : (a b : Standing (Kept × D)) (x : Option After) → x ≡ None → GoesNext keeping says a b (Ok x) → AnswersOne (line_turn keeping says) a b
+  next_none a b x e q = subst (λ (y : Option After). GoesNext keeping says a b (Ok y)) e q
 
-  pub next_some : (a b : Standing (Kept × D)) (x : Option After) (after : After) → x ≡ Some after → GoesNext says a b (Ok x) → Goes says a b (Ok after)
-  next_some a b x after e q = subst (λ (y : Option After). GoesNext says a b (Ok y)) e q
+  pub next_some : (a b : Standing (Kept × D)) (x : Option After) (after : After) → x ≡ Some after → GoesNext keeping says a b (Ok x) → Goes keeping says a b (Ok after)
+  next_some a b x after e q = subst (λ (y : Option After). GoesNext keeping says a b (Ok y)) e q
 
   -- the writer failed where all was to be written
   pub flush_broken : (a b : Standing (Kept × D)) (ls : List Line) (ended : Bool) → b ≡ record a { out = b.out } → WritesFront a.out.waiting a.out b.out
-      → Halts (line_turn says) ls ended a.state a.out (Some Write) b.state b.out
+      → Halts (line_turn keeping says) ls ended a.state a.out (Some Write) b.state b.out
   flush_broken a b ls ended e f =
-      subst (λ (o : Standing (Kept × D)). Halts (line_turn says) ls ended a.state a.out (Some Write) o.state b.out) (sym e)
+      subst (λ (o : Standing (Kept × D)). Halts (line_turn keeping says) ls ended a.state a.out (Some Write) o.state b.out) (sym e)
       (halts_here ls ended a.state a.out Write b.out (subst (λ (l : List ℕ). WritesFront l a.out b.out) (sym (append-nil a.out.waiting)) f))
 
-  module _ {r r1 : Option (List ℕ)} {a b : Standing (Kept × D)} (u : Underway (line_turn says) r r1 a b) where
+  module _ {r r1 : Option (List ℕ)} {a b : Standing (Kept × D)} (u : Underway (line_turn keeping says) r r1 a b) where
     -- it is to end after what was read
     pub halted : (ended : Bool) (fault : Option SessionFault) (s : Kept × D) (out : Output) → (ended ≡ true → IsAtEnd r1)
-        → Halts (line_turn says) (lines_after ended b.came []) ended b.state b.out fault s out → Halted says r r1 a fault s out
+        → Halts (line_turn keeping says) (lines_after ended b.came []) ended b.state b.out fault s out → Halted keeping says r r1 a fault s out
     halted ended fault s out end q = record {
       input = u.input ++ [];
       read = subst (λ (l : List ℕ). Consumes r r1 l) (sym (append-nil u.input)) u.read;
@@ -251,22 +252,22 @@ module _ {D : Type 0} (says : D → (q : Query) → Said q → D → Type 0) whe
     }
 
     pub halted_in : (fault : Option SessionFault) (s : Kept × D) (out : Output)
-        → Halts (line_turn says) (lines_after false b.came []) false b.state b.out fault s out → Halted says r r1 a fault s out
+        → Halts (line_turn keeping says) (lines_after false b.came []) false b.state b.out fault s out → Halted keeping says r r1 a fault s out
     halted_in fault s out q = halted false fault s out (λ e. absurd (false≢true e)) q
 
     -- it ends by this fault, with nothing done
-    pub halted_here : (e : SessionFault) → is_whole (Some e) ≡ true → Halted says r r1 a (Some e) b.state b.out
+    pub halted_here : (e : SessionFault) → is_whole (Some e) ≡ true → Halted keeping says r r1 a (Some e) b.state b.out
     halted_here e w = halted_in (Some e) b.state b.out
         (halts_here _ false b.state b.out e b.out (subst (λ (whole : Bool). Says whole [] b.out b.out) (sym w) (adds_none b.out)))
 
     -- the lines that came were answered
-    pub reads_goes : (c : Standing (Kept × D)) (result : Result After SessionFault) → Goes says b c result → ReadsOn says r r1 a c result
+    pub reads_goes : (c : Standing (Kept × D)) (result : Result After SessionFault) → Goes keeping says b c result → ReadsOn keeping says r r1 a c result
     reads_goes c (Ok More) q = (lines.goes_on u c q.0, q.1)
     reads_goes c (Ok Over) q = halted_in None c.state c.out q
     reads_goes c (Err e) q = halted_in (Some e) c.state c.out q
 
     -- and then it was to end in what was read later
-    pub halted_after : (r2 : Option (List ℕ)) (fault : Option SessionFault) (s : Kept × D) (out : Output) → Halted says r1 r2 b fault s out → Halted says r r2 a fault s out
+    pub halted_after : (r2 : Option (List ℕ)) (fault : Option SessionFault) (s : Kept × D) (out : Output) → Halted keeping says r1 r2 b fault s out → Halted keeping says r r2 a fault s out
     halted_after r2 fault s out q = record {
       input = u.input ++ q.input;
       read = Consumes-trans r r1 r2 u.input q.input u.read q.read;
@@ -276,22 +277,22 @@ module _ {D : Type 0} (says : D → (q : Query) → Said q → D → Type 0) whe
     }
 
   -- by the answer whether the run is over
-  pub reads_more : (r r' : Option (List ℕ)) (a b : Standing (Kept × D)) (x : After) → x ≡ More → ReadsOn says r r' a b (Ok x)
-      → Underway (line_turn says) r r' a b × (b.came.ahead ≡ [])
-  reads_more r r' a b x e q = subst (λ (y : After). ReadsOn says r r' a b (Ok y)) e q
+  pub reads_more : (r r' : Option (List ℕ)) (a b : Standing (Kept × D)) (x : After) → x ≡ More → ReadsOn keeping says r r' a b (Ok x)
+      → Underway (line_turn keeping says) r r' a b × (b.came.ahead ≡ [])
+  reads_more r r' a b x e q = subst (λ (y : After). ReadsOn keeping says r r' a b (Ok y)) e q
 
-  pub reads_over : (r r' : Option (List ℕ)) (a b : Standing (Kept × D)) (x : After) → x ≡ Over → ReadsOn says r r' a b (Ok x)
-      → Halted says r r' a None b.state b.out
-  reads_over r r' a b x e q = subst (λ (y : After). ReadsOn says r r' a b (Ok y)) e q
+  pub reads_over : (r r' : Option (List ℕ)) (a b : Standing (Kept × D)) (x : After) → x ≡ Over → ReadsOn keeping says r r' a b (Ok x)
+      → Halted keeping says r r' a None b.state b.out
+  reads_over r r' a b x e q = subst (λ (y : After). ReadsOn keeping says r r' a b (Ok y)) e q
 
   -- a run from its beginning on, and what was written at its end
   module _ (r r' : Option (List ℕ)) (before out after : Output) (limit : ℕ) (desk : D) (s : Kept × D) (none : before.waiting ≡ []) where
     abbrev start : Standing (Kept × D)
     start = record { state = (nothing_had, desk); came = nothing_came; answered = 0; limit = limit; out = before }
 
-    module _ (fault : Option SessionFault) (q : Halted says r r' start fault s out) where
+    module _ (fault : Option SessionFault) (q : Halted keeping says r r' start fault s out) where
       ran : (end : Option SessionFault) → Ended (is_whole end) (concat q.halts.texts) before after → (end ≡ None → fault ≡ None)
-          → Ran says r r' before (record after { waiting = [] }) desk s end
+          → Ran keeping says r r' before (record after { waiting = [] }) desk s end
       ran end wrote same = record {
         input = q.input;
         read = q.read;
@@ -306,22 +307,22 @@ module _ {D : Type 0} (says : D → (q : Query) → Said q → D → Type 0) whe
         over = λ e. q.halts.over (same e);
       }
 
-      pub ran_whole : is_whole fault ≡ true → WritesAll out.waiting out after → Ran says r r' before (record after { waiting = [] }) desk s fault
+      pub ran_whole : is_whole fault ≡ true → WritesAll out.waiting out after → Ran keeping says r r' before (record after { waiting = [] }) desk s fault
       ran_whole e f = ran fault
           (subst (λ (whole : Bool). Ended whole (concat q.halts.texts) before after) (sym e)
           (wrote_after (is_whole fault) before out after (concat q.halts.texts) e none q.halts.said f)) (λ h. h)
 
-      pub ran_broken : is_whole fault ≡ true → WritesFront out.waiting out after → Ran says r r' before (record after { waiting = [] }) desk s (Some Write)
+      pub ran_broken : is_whole fault ≡ true → WritesFront out.waiting out after → Ran keeping says r r' before (record after { waiting = [] }) desk s (Some Write)
       ran_broken e f = ran (Some Write)
           (front_of (is_whole fault) before out after (concat q.halts.texts) e none q.halts.said f) (λ h. absurd (no_fault Write h))
 
-      pub ran_failed : is_whole fault ≡ false → out ≡ after → Ran says r r' before (record after { waiting = [] }) desk s fault
+      pub ran_failed : is_whole fault ≡ false → out ≡ after → Ran keeping says r r' before (record after { waiting = [] }) desk s fault
       ran_failed e same = ran fault
           (subst (λ (o : Output). Ended (is_whole fault) (concat q.halts.texts) before o) same
           (front_here (is_whole fault) before out (concat q.halts.texts) e none q.halts.said)) (λ h. h)
 
   -- there was no memory for the buffers
-  pub served_short : (r : Option (List ℕ)) (before : Output) (d : D) (left : Kept) → left ≡ nothing_had → Served says r r before before d d left (Some Short)
+  pub served_short : (r : Option (List ℕ)) (before : Output) (d : D) (left : Kept) → left ≡ nothing_had → Served keeping says r r before before d d left (Some Short)
   served_short r before d left e = record {
     last = (nothing_had, d);
     ran = record {

@@ -5,6 +5,8 @@ use Rattle.std.specs.Option.{option_map}
 use Rattle.th_registry.specs.declared.opening.TopicId.{TopicId}
 use Rattle.th_registry.specs.History.{ChannelSegment}
 use Rattle.th_registry.specs.Receipts.{ChannelReceipt}
+use Rattle.th_session.specs.declared.keeping.Keeping.{Keeping}
+use Rattle.th_session.specs.declared.keeping.Keeping.TheVariants.{All, Nothing}
 use Rattle.th_session.specs.declared.session.Answer as session
 use Rattle.th_session.specs.declared.session.Answer.TheVariants as answers
 use Rattle.th_session.specs.Held.{Holding}
@@ -52,3 +54,8 @@ told (Traced n segment) = answers.Trace
 -- it is told so of an answer of this kind
 abbrev pub Tells : session.Answer → (Answer → Type 0) → Type 0
 Tells result P = (answer : Answer) × (result ≡ told answer) × P answer
+
+-- what is left of this where a run keeps so much
+abbrev pub kept_by : Keeping → Kept → Kept
+kept_by All had = had
+kept_by Nothing had = record had { receipts = []; segments = [] }

@@ -12,13 +12,14 @@ use Rattle.th_lines.specs.declared.counted.Moved.{Moved}
 use Rattle.th_lines.specs.declared.reply.Code.TheVariants as Codes
 use Rattle.th_lines.specs.declared.reply.Reply.TheVariants.{Bye, Refused}
 use Rattle.th_registry.specs.Hub.{Query, Said}
+use Rattle.th_session.specs.declared.keeping.Keeping.{Keeping}
 use Rattle.th_session.specs.declared.session.Answer as session
 use Rattle.th_session.specs.declared.run.After.{After}
 use Rattle.th_session.specs.declared.run.After.TheVariants.{More, Over}
 use Rattle.th_session.specs.declared.fault.SessionFault.{SessionFault}
 use Rattle.th_session.specs.declared.fault.SessionFault.TheVariants.{Write}
 use Rattle.th_session.specs.Answer.{Answers, said}
-use Rattle.th_session.specs.Kept.{Kept, Tells}
+use Rattle.th_session.specs.Kept.{Kept, Tells, kept_by}
 use Rattle.th_session.specs.Script.{Answer, Plays, Replied, spend_all}
 
 -- an actor that has nothing
@@ -101,11 +102,6 @@ module _ {D : Type 0} (says : D → (q : Query) → Said q → D → Type 0) whe
   IsAnswered Long old answer new = (answer ≡ Replied (Refused Codes.LongLine)) × (new ≡ old)
   IsAnswered (Good bytes) old answer new = Answers says old.0 old.1 bytes answer new.0 new.1
 
-  -- a line was answered, by this text
-  abbrev pub line_turn : Kept × D → Line → List ℕ → Kept × D → Type 0
-  line_turn old line text new =
-      (answer : Answer) × IsAnswered line old answer new × (text ≡ said answer)
-
   -- a line was answered, and its text is still to come; or nothing was done, and the writer failed
   abbrev pub AnswersInTime : {E : Type 0} → Line → Kept × D → Kept × D → Output → Output →
       Result session.Answer E → Type 0
@@ -113,6 +109,14 @@ module _ {D : Type 0} (says : D → (q : Query) → Said q → D → Type 0) whe
       Tells tells (λ answer. IsAnswered line old answer new) × Adds [] before after
   AnswersInTime line old new before after (Err e) =
       (new ≡ old) × WritesFront (before.waiting ++ []) before after
+
+-- where a run keeps so much of its answers
+module _ {D : Type 0} (keeping : Keeping) (says : D → (q : Query) → Said q → D → Type 0) where
+  -- a line was answered, by this text; and of what the actor has then, that is left which the run keeps
+  abbrev pub line_turn : Kept × D → Line → List ℕ → Kept × D → Type 0
+  line_turn old line text new =
+      (answer : Answer) × (has : Kept) × IsAnswered says line old answer (has, new.1)
+      × (new.0 ≡ kept_by keeping has) × (text ≡ said answer)
 
   -- a line was answered, by BYE where `quits` says so
   pub record Carries (line : Line) (old new : Kept × D) (before after : Output)

@@ -11,7 +11,8 @@
 //!
 //! let mut reader = Counted::new(&b"READERS news\nSUB news\nQUIT\n"[..]);
 //! let mut writer = Counted::new(Vec::new(alloc));
-//! let (carol, fault) = run_session(&rt, alloc, &mut reader, &mut writer, &mut desk, &OpenGate, 1);
+//! let (carol, fault) = run_session(&rt, alloc, &mut reader, &mut writer, &mut desk, &OpenGate, 1,
+//!     Keeping::All);
 //! // fault is None, writer.device() has "OK 0\nOK\nBYE\n", and carol holds nothing
 //! let (receipts, segments) = carol.parts();                              // the two receipts, and no segment
 //! ```
@@ -21,6 +22,7 @@ mod action;
 pub mod answer;
 mod fault;
 mod gate;
+mod keeping;
 pub mod laws;
 pub mod local;
 mod quit;
@@ -35,6 +37,7 @@ mod trace;
 
 pub use fault::SessionFault;
 pub use gate::{Gate, OpenGate};
+pub use keeping::Keeping;
 pub use run::run_session;
 pub use seats::Seats;
 pub use session::{Answer, Session};

@@ -8,6 +8,7 @@ ghost use Rattle.th_session.specs.Run.{AnswersInTime, FillsOn, Finishes, Goes, G
 use crate::answer::refused;
 use crate::fault::SessionFault;
 use crate::gate::Gate;
+use crate::keeping::Keeping;
 use crate::replies::Replies;
 use crate::session::{Answer, Session};
 use std::alloc::{AllocError, Global};
@@ -97,19 +98,21 @@ fn answer_in_time<C: Clock, G: Gate, D: Desk, W: Write>(
     }
 }
 
-// Carries out the next line once the gate lets it through, and puts its reply behind those that wait. Answers whether
-// that is `BYE`. So many lines were answered.
+// Carries out the next line once the gate lets it through, puts its reply behind those that wait, and lets go of what is
+// not kept. Answers whether the reply is `BYE`. So many lines were answered.
 #[inline(always)]
 fn serve<C: Clock, G: Gate, D: Desk, W: Write>(
     session: &mut Session<D>,
     replies: &mut Replies<'_, C, G>,
     alloc: Global,
+    keeping: Keeping,
     desk: &mut D,
     writer: &mut Counted<W>,
     answered: u64,
     line: Option<&[u8]>,
 ) -> Result<bool, SessionFault>
-    ensures { Serves D.says (line_given line.entry) (session.old, desk.old) (session.new, desk.new)
+    ensures { Serves keeping D.says (line_given line.entry)
+        (session.old, desk.old) (session.new, desk.new)
         (output W.contents writer.old replies.old) (output W.contents writer.new replies.new)
         result }
 {
@@ -120,7 +123,9 @@ fn serve<C: Clock, G: Gate, D: Desk, W: Write>(
     match answer_in_time(session, replies, alloc, desk, writer, answered, line) {
         Ok(answer) => {
             let quits = is_bye(&answer);
-            match replies.put(session, answer, writer) {
+            let put = replies.put(session, answer, writer);
+            session.let_go(keeping);
+            match put {
                 Ok(()) => Ok(quits),
                 Err(_) => Err(SessionFault::Write),
             }
@@ -182,10 +187,11 @@ impl<'a, D: Desk, C: Clock, G: Gate> Run<'a, D, C, G> {
     fn answer_next<W: Write>(
         &mut self,
         alloc: Global,
+        keeping: Keeping,
         desk: &mut D,
         writer: &mut Counted<W>,
     ) -> Result<Option<After>, SessionFault>
-        ensures { GoesNext D.says (stands W.contents writer.old desk.old self.old)
+        ensures { GoesNext keeping D.says (stands W.contents writer.old desk.old self.old)
             (stands W.contents writer.new desk.new self.new) result }
     {
         if self.answered >= self.limit {
@@ -203,6 +209,7 @@ impl<'a, D: Desk, C: Clock, G: Gate> Run<'a, D, C, G> {
             &mut self.session,
             &mut self.replies,
             alloc,
+            keeping,
             desk,
             writer,
             answered,
@@ -223,14 +230,15 @@ impl<'a, D: Desk, C: Clock, G: Gate> Run<'a, D, C, G> {
     fn answer_all<W: Write>(
         &mut self,
         alloc: Global,
+        keeping: Keeping,
         desk: &mut D,
         writer: &mut Counted<W>,
     ) -> Result<After, SessionFault>
-        ensures { Goes D.says (stands W.contents writer.old desk.old self.old)
+        ensures { Goes keeping D.says (stands W.contents writer.old desk.old self.old)
             (stands W.contents writer.new desk.new self.new) result }
     {
         loop {
-            match self.answer_next(alloc, desk, writer) {
+            match self.answer_next(alloc, keeping, desk, writer) {
                 Ok(None) => {}
                 Ok(Some(after)) => return Ok(after),
                 Err(e) => return Err(e),
@@ -242,11 +250,12 @@ impl<'a, D: Desk, C: Clock, G: Gate> Run<'a, D, C, G> {
     fn finish<W: Write>(
         &mut self,
         alloc: Global,
+        keeping: Keeping,
         desk: &mut D,
         writer: &mut Counted<W>,
     ) -> Result<(), SessionFault>
         requires { self.old.came.ahead ≡ [] }
-        ensures { Finishes D.says (stands W.contents writer.old desk.old self.old)
+        ensures { Finishes keeping D.says (stands W.contents writer.old desk.old self.old)
             (stands W.contents writer.new desk.new self.new) result }
     {
         if !self.intake.last_line() {
@@ -258,6 +267,7 @@ impl<'a, D: Desk, C: Clock, G: Gate> Run<'a, D, C, G> {
             &mut self.session,
             &mut self.replies,
             alloc,
+            keeping,
             desk,
             writer,
             answered,
@@ -275,12 +285,14 @@ impl<'a, D: Desk, C: Clock, G: Gate> Run<'a, D, C, G> {
     fn read_on<R: Read, W: Write>(
         &mut self,
         alloc: Global,
+        keeping: Keeping,
         reader: &mut Counted<R>,
         writer: &mut Counted<W>,
         desk: &mut D,
     ) -> Result<After, SessionFault>
         requires { self.old.came.ahead ≡ [] }
-        ensures { ReadsOn D.says (R.remaining reader.old.device) (R.remaining reader.new.device)
+        ensures { ReadsOn keeping D.says
+            (R.remaining reader.old.device) (R.remaining reader.new.device)
             (stands W.contents writer.old desk.old self.old)
             (stands W.contents writer.new desk.new self.new) result }
     {
@@ -289,11 +301,11 @@ impl<'a, D: Desk, C: Clock, G: Gate> Run<'a, D, C, G> {
             Err(_) => return Err(SessionFault::Write),
         }
         match self.fill(reader) {
-            Moved::Bytes(0) => match self.finish(alloc, desk, writer) {
+            Moved::Bytes(0) => match self.finish(alloc, keeping, desk, writer) {
                 Ok(()) => Ok(After::Over),
                 Err(e) => Err(e),
             },
-            Moved::Bytes(_) => self.answer_all(alloc, desk, writer),
+            Moved::Bytes(_) => self.answer_all(alloc, keeping, desk, writer),
             Moved::Again => Ok(After::More),
             Moved::Failed => Err(SessionFault::Read),
         }
@@ -304,18 +316,20 @@ impl<'a, D: Desk, C: Clock, G: Gate> Run<'a, D, C, G> {
     fn read_all<R: Read, W: Write>(
         &mut self,
         alloc: Global,
+        keeping: Keeping,
         reader: &mut Counted<R>,
         writer: &mut Counted<W>,
         desk: &mut D,
         reads: u64,
     ) -> Option<SessionFault>
         requires { self.old.came.ahead ≡ [] }
-        ensures { Halted D.says (R.remaining reader.old.device) (R.remaining reader.new.device)
+        ensures { Halted keeping D.says
+            (R.remaining reader.old.device) (R.remaining reader.new.device)
             (stands W.contents writer.old desk.old self.old)
             result (self.new.kept, desk.new) (output W.contents writer.new self.new.waiting) }
     {
         for _ in 0..reads {
-            match self.read_on(alloc, reader, writer, desk) {
+            match self.read_on(alloc, keeping, reader, writer, desk) {
                 Ok(After::More) => {}
                 Ok(After::Over) => return None,
                 Err(e) => return Some(e),
@@ -328,17 +342,19 @@ impl<'a, D: Desk, C: Clock, G: Gate> Run<'a, D, C, G> {
     fn go<R: Read, W: Write>(
         &mut self,
         alloc: Global,
+        keeping: Keeping,
         reader: &mut Counted<R>,
         writer: &mut Counted<W>,
         desk: &mut D,
         reads: u64,
     ) -> Option<SessionFault>
         requires { self.old ≡ beginning self.old.limit }
-        ensures { Ran D.says (R.remaining reader.old.device) (R.remaining reader.new.device)
+        ensures { Ran keeping D.says
+            (R.remaining reader.old.device) (R.remaining reader.new.device)
             (output W.contents writer.old []) (output W.contents writer.new [])
             desk.old (self.new.kept, desk.new) result }
     {
-        let fault = self.read_all(alloc, reader, writer, desk, reads);
+        let fault = self.read_all(alloc, keeping, reader, writer, desk, reads);
         if !is_whole(fault) {
             return fault;
         }
@@ -362,7 +378,8 @@ fn is_whole(fault: Option<SessionFault>) -> bool
 /// Carries out the lines of a reader as the session of this number, one by one, and writes their replies. The session
 /// ends after the line that is answered `BYE`, behind which none is read; at the end of its input, where what stands
 /// after the last LF is a line too; or by a fault. However it ends, it then spends all its handles: the session that is
-/// handed out holds none, and has the receipts and the segments that it was answered ([`Session::parts`]).
+/// handed out holds none, and has the receipts and the segments that it was answered ([`Session::parts`]), if they are
+/// kept.
 ///
 /// Lines that come together are carried out together, and their replies are written in one piece: before each read,
 /// before a command that would wait at the desk, before each sleep at the gate, and at the end. So no reply is held back
@@ -373,7 +390,8 @@ fn is_whole(fault: Option<SessionFault>) -> bool
 /// counts; at most 1,000 interrupted writes and flushes are made again. All its buffers, 132 KiB, are made at the start;
 /// where memory is refused later, the line is answered `ERR 21 no-memory` and nothing else has changed. A line of more
 /// than 4,096 bytes is answered `ERR 23 long-line`. A line costs no call of the reader or the writer, and no memory but
-/// for what its command takes; its receipt is kept until the session is let go.
+/// for what its command takes. What is kept grows with each event: a run that keeps nothing takes no more memory as it
+/// goes on.
 ///
 /// # Faults
 ///
@@ -389,15 +407,17 @@ pub fn run_session<C: Clock, R: Read, W: Write, D: Desk, G: Gate>(
     desk: &mut D,
     gate: &G,
     number: u64,
+    keeping: Keeping,
 ) -> (Session<D>, Option<SessionFault>)
-    ensures { Served D.says (R.remaining reader.old.device) (R.remaining reader.new.device)
+    ensures { Served keeping D.says
+        (R.remaining reader.old.device) (R.remaining reader.new.device)
         (output W.contents writer.old []) (output W.contents writer.new [])
         desk.old desk.new result.0 result.1 }
 {
     let Ok(mut run) = Run::new(rt, alloc, gate, number, MOST_LINES) else {
         return (Session::new(alloc), Some(SessionFault::Short));
     };
-    let fault = run.go(alloc, reader, writer, desk, MOST_READS);
+    let fault = run.go(alloc, keeping, reader, writer, desk, MOST_READS);
     let mut session = run.into_session();
     session.spend_all(desk);
     (session, fault)

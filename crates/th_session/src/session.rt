@@ -2,11 +2,12 @@
 ghost use Rattle.std.specs.Prelude.{◌≡◌, [], option_copied};
 ghost use Rattle.th_registry.specs.Hub.{Find};
 ghost use Rattle.th_session.specs.Held.{Holding, held};
-ghost use Rattle.th_session.specs.Kept.{Tells, last_of, with_receipt, with_segment};
+ghost use Rattle.th_session.specs.Kept.{Tells, kept_by, last_of, with_receipt, with_segment};
 ghost use Rattle.th_session.specs.Script.{Ask, Plays, Replied, at_topic, spend_all, traced};
 ghost use Rattle.th_session.specs.Step.{IsStep};
 
 use crate::action::act;
+use crate::keeping::Keeping;
 use crate::quit::quit;
 use crate::receipts::keep;
 use crate::seats::Seats;
@@ -224,6 +225,20 @@ impl<D: Desk> Session<D> {
             ..
         } = self;
         (receipts, segments)
+    }
+
+    /// Lets go of what a run does not keep that keeps so much.
+    #[inline(always)]
+    pub(crate) fn let_go(&mut self, keeping: Keeping)
+        ensures { self.new ≡ kept_by keeping self.old }
+    {
+        match keeping {
+            Keeping::All => {}
+            Keeping::Nothing => {
+                self.receipts.clear();
+                self.segments.clear();
+            }
+        }
     }
 
     /// Whether this command would wait at the desk now: it is by the actor's receiver, it waits for a value, and that

@@ -1,4 +1,5 @@
-//! The hub's topics for many threads: each topic has its own lock, and each thread its own desk.
+//! The hub for many threads: each topic has its own lock, each thread its own desk, and each connection of a Unix socket a
+//! thread.
 //!
 //! ```text
 //! let mut desk = SharedDesk::new(rt, alloc)?;                        // no topic yet
@@ -11,7 +12,14 @@
 //! bobs.by_receiver(TopicId(0), &mut bob, ReceiverVerb::Recv)?;       // the value: it waits where there is none yet
 //! ```
 //!
-//! A session (th_session) is served at it as at any other desk.
+//! A session is served at it as at any other desk. `serve_on` does so over a socket:
+//!
+//! ```text
+//! let listener = UnixListener::bind(&rt, "hub.sock")?;
+//! // Until two sessions have ended.
+//! let served = serve_on(&rt, alloc, &listener, 2, &OpenGate, &Unheard, Keeping::All)?;
+//! let (topics, _) = served.desk.finish(alloc)?;                      // what is left of each topic: its log
+//! ```
 #![tactic(auto)]
 
 mod broadcast;
@@ -19,11 +27,15 @@ pub mod desk;
 pub mod ended;
 mod event;
 pub mod handles;
+pub mod observer;
 mod quiet;
 mod registry;
+pub mod serve;
 mod topic;
 mod watch;
 
 pub use desk::SharedDesk;
 pub use ended::Ended;
 pub use handles::{TopicReceiver, TopicSender};
+pub use observer::{Observer, Unheard};
+pub use serve::{Attended, ServeFault, Served, serve_on};

@@ -9,7 +9,7 @@ use std::test::Fail;
 use std::time::Clock;
 use th_lines::{Counted, WriteBuffer};
 use th_registry::LocalDesk;
-use th_session::{Gate, OpenGate, Session, SessionFault, run_session};
+use th_session::{Gate, Keeping, OpenGate, Session, SessionFault, run_session};
 
 // Says no to each line from one on, and counts how often; and what it is told.
 #[derive(Drop)]
@@ -33,14 +33,15 @@ impl Gate for ShutGate {
     }
 }
 
-// What came of a run: its fault, what was written by how many calls, how many receipts the session has, and what is said
-// then of the topic `t`.
+// What came of a run: its fault, what was written by how many calls, how many receipts and segments the session has, and
+// what is said then of the topic `t`.
 #[derive(Drop)]
 struct End {
     fault: Option<SessionFault>,
     text: Vec<u8>,
     writes: u64,
     receipts: usize,
+    segments: usize,
     left: Vec<u8>,
 }
 
@@ -57,19 +58,29 @@ fn left_on(alloc: Global, desk: &mut LocalDesk) -> Result<Vec<u8>, AllocError> {
     Ok(writer.into_device())
 }
 
-fn run<C: Clock, G: Gate>(
+fn run_keeping<C: Clock, G: Gate>(
     rt: &C,
     alloc: Global,
     gate: &G,
     input: &[u8],
     read: Manner,
     write: Manner,
+    keeping: Keeping,
 ) -> Result<End, AllocError> {
     let mut reader = reader_of(input, read);
     let mut writer = writer_to(alloc, write)?;
     let mut desk = LocalDesk::new(alloc);
-    let (session, fault) = run_session(rt, alloc, &mut reader, &mut writer, &mut desk, gate, 1);
-    let (receipts, _) = session.parts();
+    let (session, fault) = run_session(
+        rt,
+        alloc,
+        &mut reader,
+        &mut writer,
+        &mut desk,
+        gate,
+        1,
+        keeping,
+    );
+    let (receipts, segments) = session.parts();
     let writes = writer.calls();
     let Sink { text, .. } = writer.into_device();
     let left = left_on(alloc, &mut desk)?;
@@ -78,8 +89,21 @@ fn run<C: Clock, G: Gate>(
         text,
         writes,
         receipts: receipts.len(),
+        segments: segments.len(),
         left,
     })
+}
+
+// A run that keeps all.
+fn run<C: Clock, G: Gate>(
+    rt: &C,
+    alloc: Global,
+    gate: &G,
+    input: &[u8],
+    read: Manner,
+    write: Manner,
+) -> Result<End, AllocError> {
+    run_keeping(rt, alloc, gate, input, read, write, Keeping::All)
 }
 
 // The run ended so, and nobody is on the topic but the hub's own sender.
@@ -116,6 +140,24 @@ fn lines_come_byte_by_byte(rt: HostRuntime) -> Result<(), Fail> {
     let end = run(&rt, rt.alloc(), &OpenGate, QUITS, BYTE, WELL)?;
     is_ended(&rt, &end, None, QUIT_REPLIES);
     assert!(rt; end.writes == 8 && end.receipts == 1);
+    Ok(())
+}
+
+const TRACES: &'static [u8] = b"OPEN t B 1\nSUB t\nTRACE t\nREADERS t\nQUIT\n";
+
+const TRACE_REPLIES: &'static [u8] = b"OK 1\nOK\nOK 7\nTRACE 1 B 1\nAT 0 0 NEXT 2\nTX 1\nBEGIN\n\
+C subscribe 1\nR new-rx 2\nEND 1\nOK 1\nBYE\n";
+
+// The same is written, whether its receipts and segments are kept or not.
+#[test]
+fn what_is_not_kept_is_answered_as_well(rt: HostRuntime) -> Result<(), Fail> {
+    let alloc = rt.alloc();
+    let all = run(&rt, alloc, &OpenGate, TRACES, WELL, WELL)?;
+    is_ended(&rt, &all, None, TRACE_REPLIES);
+    assert!(rt; all.receipts == 2 && all.segments == 1);
+    let none = run_keeping(&rt, alloc, &OpenGate, TRACES, WELL, WELL, Keeping::Nothing)?;
+    is_ended(&rt, &none, None, TRACE_REPLIES);
+    assert!(rt; none.receipts == 0 && none.segments == 0);
     Ok(())
 }
 
@@ -226,6 +268,7 @@ fn a_million_lines_are_answered(rt: HostRuntime) -> Result<(), Fail> {
         &mut desk,
         &gate,
         1,
+        Keeping::All,
     );
     assert!(rt; fault == Some(SessionFault::TooLong));
     // Each is answered "ERR 10 bad-line".

@@ -1,8 +1,8 @@
-use Rattle.std.proofs.Common.{ap, ap₂, sym, subst, inl, inr, ◌≡◌, ◌∙◌, [], ◌∷◌, map}
+use Rattle.std.proofs.Common.{ap, ap₂, refl, sym, subst, inl, inr, ◌≡◌, ◌∙◌, [], ◌∷◌, map}
 use Rattle.clap.specs.Words.{HasKind, Kinds, fault_of, is_simple_and_free}
 use Rattle.clap.specs.declared.error.kind.ErrorKind.TheVariants as kind
-use Rattle.th_program.specs.Words.{command_line, mode_of}
-use Rattle.th_program.proofs.CommandLine.{check_named, check_passes, help_fails, is_plain, none_fails, replay_named, replay_passes, version_fails}
+use Rattle.th_program.specs.Words.{GivesCheck, GivesReplay, asked_of, command_line}
+use Rattle.th_program.proofs.CommandLine.{check_named, check_passes, help_fails, is_plain, name_is, none_fails, replay_named, replay_passes, version_fails}
 use Rattle.th_program.proofs.words.mode.Goals as goal
 use Rattle.th_program.proofs.words.mode.Goals.{After-refused}
 
@@ -42,7 +42,7 @@ returns-in-Err-clause-replay c =
     ]
 
 pub returns-in-Err-clause-taken : goal.returns-in-Err-clause-taken
-returns-in-Err-clause-taken c = λ is. elim (failed c [] is) [
+returns-in-Err-clause-taken c = λ is other. elim (failed c [] is) [
   | inl short ↦ c.refused.ensures.short short
   | inr none ↦ absurd none
 ]
@@ -84,15 +84,13 @@ returns-in-Err-clause-none c =
 -- the mode of the command that the matches name
 pub returns-in-Ok-try_get_matches_from-clause-replay : goal.returns-in-Ok-try_get_matches_from-clause-replay
 returns-in-Ok-try_get_matches_from-clause-replay c = λ (name, words).
-    c.named.ensures
-    ∙ ap mode_of (c.subcommand_name.ensures
-    ∙ replay_named c.in-Ok-try_get_matches_from.matches _ _ c.in-Ok.ensures c.in-Ok-try_get_matches_from.ensures.matches name words)
+    subst GivesReplay (sym (c.taken.ensures.replay (ap asked_of
+    (replay_named c.in-Ok-try_get_matches_from.matches _ _ c.in-Ok.ensures c.in-Ok-try_get_matches_from.ensures.matches name words)))) refl
 
 pub returns-in-Ok-try_get_matches_from-clause-check : goal.returns-in-Ok-try_get_matches_from-clause-check
 returns-in-Ok-try_get_matches_from-clause-check c = λ (name, words).
-    c.named.ensures
-    ∙ ap mode_of (c.subcommand_name.ensures
-    ∙ check_named c.in-Ok-try_get_matches_from.matches _ _ c.in-Ok.ensures c.in-Ok-try_get_matches_from.ensures.matches name words)
+    subst GivesCheck (sym (c.taken.ensures.check (ap asked_of
+    (check_named c.in-Ok-try_get_matches_from.matches _ _ c.in-Ok.ensures c.in-Ok-try_get_matches_from.ensures.matches name words)))) refl
 
 pub returns-in-Err-clause-check : goal.returns-in-Err-clause-check
 returns-in-Err-clause-check c =
@@ -100,3 +98,9 @@ returns-in-Err-clause-check c =
       | inl short ↦ c.refused.ensures.short short
       | inr none ↦ absurd none
     ]
+
+-- words that do not ask to serve name another mode
+pub returns-in-Ok-try_get_matches_from-clause-taken : goal.returns-in-Ok-try_get_matches_from-clause-taken
+returns-in-Ok-try_get_matches_from-clause-taken c = λ passes other.
+    c.taken.ensures.other (λ serves. other (sym (ap asked_of
+    (name_is c.in-Ok-try_get_matches_from.matches _ _ c.in-Ok.ensures c.in-Ok-try_get_matches_from.ensures.matches [])) ∙ serves))

@@ -10,7 +10,7 @@ pub go-fault-requires : goal.go-fault-requires
 go-fault-requires g c = c.in-Ok.ensures ∙ ap beginning (sym (ap (λ (k : Course). k.limit) c.in-Ok.ensures))
 
 pub returns-in_default : goal.returns-in_default
-returns-in_default g c = served_short g.D.Desk.says _ _ _ _ c.new-in_default.ensures
+returns-in_default g c = served_short c.args.keeping g.D.Desk.says _ _ _ _ c.new-in_default.ensures
 
 pub returns : goal.returns
 returns g c =

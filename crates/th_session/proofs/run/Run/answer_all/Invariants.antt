@@ -5,7 +5,7 @@ use Rattle.th_session.proofs.run.Run.answer_all.Given as goal
 
 abbrev pub invariant-loop-after : goal.invariant-loop-after
 invariant-loop-after g l =
-    Advances (line_turn g.D.Desk.says) (stands g.W.Write.contents l.fn.writer l.fn.desk l.fn.self) []
+    Advances (line_turn l.fn.keeping g.D.Desk.says) (stands g.W.Write.contents l.fn.writer l.fn.desk l.fn.self) []
     (stands g.W.Write.contents l.writer l.desk l.self)
 
 abbrev pub decreases-loop-after : goal.decreases-loop-after

@@ -15,7 +15,7 @@ returns-then-not-last_line g c =
     let at : Course → Standing (Kept × g.row.D.Denot) = λ k. stands g.W.Write.contents c.args.writer.now c.args.desk.now k in
     let ahead : i.intake.came.ahead ≡ [] = ap (λ (k : Course). k.came.ahead) c.self.view_is ∙ c.requires in
     let none = none_left i.intake.came ahead c.if-not-last_line.ensures.0 in
-    subst (λ (k : Course). Halts (line_turn g.D.Desk.says) (lines_after true k.came []) true (at k).state (at k).out None (at o).state (at o).out) c.self.view_is
+    subst (λ (k : Course). Halts (line_turn c.args.keeping g.D.Desk.says) (lines_after true k.came []) true (at k).state (at k).out None (at o).state (at o).out) c.self.view_is
     (halts_done (lines_after true o.came []) (at o).state (at o).out none)
 
 pub returns-in-Ok : goal.returns-in-Ok
@@ -28,8 +28,8 @@ returns-in-Ok g c =
     let out : Output = output g.W.Write.contents c.serve.new.writer c.serve.new.replies in
     let same = c.line-line.ensures ∙ ap (λ (r : Reading). line_of false r.line) c.if-not-last_line.ensures.1 in
     let last = last_one i.intake.came line ahead c.if-not-last_line.ensures.0 same in
-    subst (λ (k : Course). Halts (line_turn g.D.Desk.says) (lines_after true k.came []) true (at k).state (at k).out None (c.serve.new.session, c.serve.new.desk) out) c.self.view_is
-    (ends_at g.D.Desk.says (at o) line (c.serve.new.session, c.serve.new.desk) out c.in-Ok.field-0 last c.in-Ok.ensures)
+    subst (λ (k : Course). Halts (line_turn c.args.keeping g.D.Desk.says) (lines_after true k.came []) true (at k).state (at k).out None (c.serve.new.session, c.serve.new.desk) out) c.self.view_is
+    (ends_at c.args.keeping g.D.Desk.says (at o) line (c.serve.new.session, c.serve.new.desk) out c.in-Ok.field-0 last c.in-Ok.ensures)
 
 pub returns-in-Err : goal.returns-in-Err
 returns-in-Err g c =
@@ -41,5 +41,5 @@ returns-in-Err g c =
     let out : Output = output g.W.Write.contents c.serve.new.writer c.serve.new.replies in
     let same = c.line-line.ensures ∙ ap (λ (r : Reading). line_of false r.line) c.if-not-last_line.ensures.1 in
     let last = last_one i.intake.came line ahead c.if-not-last_line.ensures.0 same in
-    subst (λ (k : Course). Halts (line_turn g.D.Desk.says) (lines_after true k.came []) true (at k).state (at k).out (Some c.in-Err.e) (c.serve.new.session, c.serve.new.desk) out) c.self.view_is
+    subst (λ (k : Course). Halts (line_turn c.args.keeping g.D.Desk.says) (lines_after true k.came []) true (at k).state (at k).out (Some c.in-Err.e) (c.serve.new.session, c.serve.new.desk) out) c.self.view_is
     (halts_before _ true line [] (at o).state (c.serve.new.session, c.serve.new.desk) (at o).out c.in-Err.e out last c.in-Err.ensures)

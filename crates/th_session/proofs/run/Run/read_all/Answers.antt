@@ -13,7 +13,7 @@ loop-init g c = record {
 
 pub loop-preserved : goal.loop-preserved
 loop-preserved g c =
-    let more = reads_more g.D.Desk.says _ _ _ _ _ c.in-Ok-More.field-0-is c.in-Ok-More.ensures in
+    let more = reads_more c.args.keeping g.D.Desk.says _ _ _ _ _ c.in-Ok-More.field-0-is c.in-Ok-More.ensures in
     record {
       under = lines.underway_after c.loop.invariant.under _ _ more.0;
       looked_at = more.1;
@@ -21,10 +21,10 @@ loop-preserved g c =
 
 pub returns-in-Ok-Over : goal.returns-in-Ok-Over
 returns-in-Ok-Over g c =
-    halted_after g.D.Desk.says c.loop.invariant.under _ None _ _ (reads_over g.D.Desk.says _ _ _ _ _ c.in-Ok-Over.field-0-is c.in-Ok-Over.ensures)
+    halted_after c.args.keeping g.D.Desk.says c.loop.invariant.under _ None _ _ (reads_over c.args.keeping g.D.Desk.says _ _ _ _ _ c.in-Ok-Over.field-0-is c.in-Ok-Over.ensures)
 
 pub returns-in-Err : goal.returns-in-Err
-returns-in-Err g c = halted_after g.D.Desk.says c.loop.invariant.under _ (Some c.in-Err.e) _ _ c.in-Err.ensures
+returns-in-Err g c = halted_after c.args.keeping g.D.Desk.says c.loop.invariant.under _ (Some c.in-Err.e) _ _ c.in-Err.ensures
 
 pub returns : goal.returns
-returns g c = halted_here g.D.Desk.says c.loop.invariant.under TooLong refl
+returns g c = halted_here c.args.keeping g.D.Desk.says c.loop.invariant.under TooLong refl

@@ -1,0 +1,14 @@
+//! The mode `serve` of the program `topichub`: a socket at a path, and on it sessions of the hub, each in a thread of its
+//! own.
+//!
+//! ```text
+//! // with the words `topichub serve hub.sock --sessions 2`: `listening`, both sessions, `done 2`
+//! let status = serve_by_words(&rt, words.as_slice());
+//! // `None` where the words ask for something else
+//! ```
+#![tactic(auto)]
+
+mod serve;
+mod words;
+
+pub use words::serve_by_words;

@@ -1,0 +1,44 @@
+//! The words that ask to serve.
+ghost use Rattle.std.specs.Prelude.{◌≤◌, IfOk, IfSome};
+
+use crate::serve::serve;
+use std::alloc::{AllocError, Global};
+use std::io::{Eprint, Print};
+use std::net::Net;
+use std::process::ExitCode;
+use std::rt::Files;
+use std::sync::Wait;
+use std::thread::Threads;
+use std::time::Clock;
+use th_program::{End, Mode, ModeFault, explanation, mode, status, texts};
+
+// The path and the number of sessions, where the words ask to serve, and rightly.
+fn asked_to_serve(alloc: Global, words: &[String]) -> Result<Option<(String, u64)>, AllocError>
+    ensures { IfOk result (λ found. IfSome found (λ asked. (1 ≤ asked.1) × (asked.1 ≤ 64))) }
+{
+    if words.len() < 2 || words[1].as_str() != "serve" {
+        return Ok(None);
+    }
+    let words = texts(alloc, words)?;
+    match mode(alloc, words.as_slice()) {
+        Ok(Mode::Serve { path, sessions }) => Ok(Some((path, sessions))),
+        Err(ModeFault::Short) => Err(AllocError),
+        _ => Ok(None),
+    }
+}
+
+/// Serves where the words of the command line ask for it, and answers the exit status; `None` where they ask for
+/// something else, or are wrong. `listening` and `done` go to standard output, and what stopped it to standard error.
+pub fn serve_by_words<
+    R: Threads + Wait + Clock + Clone + Send + Sync + Print + Eprint + Files + Net + AllocGlobal,
+>(rt: &R, words: &[String]) -> Option<ExitCode> {
+    let end = match asked_to_serve(rt.alloc(), words) {
+        Ok(Some((path, sessions))) => serve(rt, rt.alloc(), path.as_str(), sessions),
+        Ok(None) => return None,
+        Err(_) => End::Short,
+    };
+    if let Some(line) = explanation(&end) {
+        let _ = eprintln!(rt; "{line}");
+    }
+    Some(ExitCode::from(status(&end)))
+}

@@ -1,0 +1,49 @@
+"""A client of `topichub serve`, on Python's standard library alone."""
+import socket
+import time
+
+
+class Refused(Exception):
+    """The hub answered `ERR code word`."""
+
+
+class Hub:
+    """One session: it begins with the connection, and all that it holds is spent when the connection ends."""
+
+    def __init__(self, path):
+        self.socket = socket.socket(socket.AF_UNIX, socket.SOCK_STREAM)
+        self.socket.connect(path)
+        self.replies = self.socket.makefile("rb")
+
+    def send(self, line):
+        """Sends a line ahead; its reply is the next one that `reply` has not told yet."""
+        self.socket.sendall(line.encode() + b"\n")
+
+    def reply(self):
+        line = self.replies.readline()
+        if not line.endswith(b"\n"):
+            raise ConnectionError("the hub has ended the session")
+        text = line[:-1].decode()
+        if text.startswith("ERR "):
+            raise Refused(text)
+        return text
+
+    def ask(self, line):
+        """The reply to a line. Of NEXT and CHANGED it comes when there is something to tell."""
+        self.send(line)
+        return self.reply()
+
+    def rows(self, line):
+        """The lines below the reply to LIST or TRACE."""
+        return [self.replies.readline()[:-1].decode() for _ in range(int(self.ask(line).split()[1]))]
+
+    def until(self, line, wanted):
+        """Asks again and again, until this is the reply: for what other clients have still to do."""
+        while True:
+            try:
+                if self.ask(line) == wanted:
+                    return
+            except Refused as refusal:
+                if str(refusal) != "ERR 11 no-topic":  # nobody has opened it yet
+                    raise
+            time.sleep(0.01)

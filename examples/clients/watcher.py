@@ -1,0 +1,16 @@
+#!/usr/bin/env python3
+"""Watches settings: gets the newest ones whenever it is told of a change, and says which it has applied."""
+import sys
+
+from hub import Hub
+
+hub = Hub(sys.argv[1])
+hub.until("BIND applied", "OK")  # the last topic that is opened, so all are there
+hub.ask("SUB settings")
+print("at first:", hub.ask("GET settings"))
+while hub.ask("CHANGED settings") == "CHANGED":  # waits for news, and they are seen then
+    reply = hub.ask("GET settings")
+    print("now:", reply)
+    hub.ask("PUB applied " + reply.partition(" ")[2])
+print("closed")
+print(hub.ask("QUIT"))
