@@ -1,5 +1,6 @@
-/* Refuses one request for memory of a program, the one whose number REFUSE tells, counted from 1. At the end it
-   appends to the file that REFUSE_LOG names whether that request was made. Loaded before the C library (LD_PRELOAD). */
+/* Refuses one request for memory of a program, the one whose number REFUSE tells, counted from 1. To the file that
+   REFUSE_LOG names it appends that it has refused, when it does, or at the end that the request was not made. Loaded
+   before the C library (LD_PRELOAD). */
 #define _GNU_SOURCE
 #include <dlfcn.h>
 #include <fcntl.h>
@@ -27,22 +28,28 @@ __attribute__((constructor)) static void begin(void) {
     requests = 0;
 }
 
-__attribute__((destructor)) static void end(void) {
+static void tell(const char *said) {
     const char *path = getenv("REFUSE_LOG");
-    if (path == NULL) {
-        return;
-    }
-    int log = open(path, O_WRONLY | O_CREAT | O_APPEND, 0600);
+    int log = path == NULL ? -1 : open(path, O_WRONLY | O_CREAT | O_APPEND, 0600);
     if (log >= 0) {
-        const char *said = requests >= refused ? "refused\n" : "not reached\n";
         ssize_t written = write(log, said, strlen(said));
         (void)written;
         close(log);
     }
 }
 
+__attribute__((destructor)) static void end(void) {
+    if (requests < refused) {
+        tell("not reached\n");
+    }
+}
+
 static int is_refused(void) {
-    return refused > 0 && ++requests == refused;
+    if (refused == 0 || ++requests != refused) {
+        return 0;
+    }
+    tell("refused\n");
+    return 1;
 }
 
 void *malloc(size_t size) {
