@@ -8,6 +8,7 @@ ghost use Rattle.th_shared.specs.Saying.{MaySay};
 
 use crate::ended::{Ended, end_of};
 use crate::handles::{TopicReceiver, TopicSender};
+use crate::known::Known;
 use crate::quiet::{Quiet, hush, is_quiet, wake};
 use crate::registry::{Topics, ask, bind, end, open, owner_of, subscribe};
 use crate::{broadcast, watch};
@@ -25,8 +26,8 @@ use th_seats::Share;
 /// An owner of topics that threads share. Each thread has its own, made by `another`.
 ///
 /// At most 1,024 topics, whose segments have at most 1,000,000 entries. An event by a handle takes its topic's lock, and
-/// one by the hub's own sender the lock of the topics too; `find`, `list` and `open_topic` take the latter alone. Neither
-/// is held while a receiver waits.
+/// one by the hub's own sender the lock of the topics too; `list`, `open_topic` and `find` take the latter alone, but that
+/// `find` takes none for a topic of which this desk had a handle made. Neither is held while a receiver waits.
 ///
 /// An event of a sender wakes nobody before `wake`, which this desk calls too before it waits.
 #[derive(Drop)]
@@ -40,6 +41,8 @@ pub struct SharedDesk<R: Wait + Clone> {
     live: usize,
     // The channel of which it made events that woke nobody yet.
     quiet: Option<Quiet>,
+    // Topics that it finds without their lock.
+    known: Known,
 }
 
 impl<R: Wait + Clone> Model for SharedDesk<R> {
@@ -70,6 +73,7 @@ impl<R: Wait + Clone> SharedDesk<R> {
             shares: Vec::new(alloc),
             live: 0,
             quiet: None,
+            known: Known::new(alloc),
         }
     }
 
@@ -116,6 +120,7 @@ impl<R: Wait + Clone> SharedDesk<R> {
             shares,
             live,
             mut quiet,
+            known,
         } = self;
         wake(&rt, &mut quiet);
         let count = match Arc::get_mut(&mut topics) {
@@ -127,6 +132,7 @@ impl<R: Wait + Clone> SharedDesk<R> {
                     shares,
                     live,
                     quiet,
+                    known,
                 });
             }
         };
@@ -137,6 +143,7 @@ impl<R: Wait + Clone> SharedDesk<R> {
                 shares,
                 live,
                 quiet,
+                known,
             });
         };
         match Arc::try_unwrap(topics) {
@@ -153,6 +160,7 @@ impl<R: Wait + Clone> SharedDesk<R> {
                 shares,
                 live,
                 quiet,
+                known,
             }),
         }
     }
@@ -193,8 +201,13 @@ impl<R: Wait + Clone> Desk for SharedDesk<R> {
     ghost says = { Says };
 
     fn find(&self, name: &NameRef<'_>) -> Option<Found> {
-        let topics = self.topics.lock(&self.rt);
-        topics.find(name)
+        match self.known.find(name) {
+            Some(found) => Some(found),
+            None => {
+                let topics = self.topics.lock(&self.rt);
+                topics.find(name)
+            }
+        }
     }
 
     fn list(&self) -> Result<Listing, Short<()>> {
@@ -213,6 +226,7 @@ impl<R: Wait + Clone> Desk for SharedDesk<R> {
             topics,
             shares,
             live,
+            known,
             ..
         } = self;
         if !make_room(shares, *live) {
@@ -220,6 +234,7 @@ impl<R: Wait + Clone> Desk for SharedDesk<R> {
         }
         let mut topics = topics.lock(rt);
         let made = bind(rt, &mut *topics, topic);
+        known.learn(&*topics, topic);
         count(live, &made);
         made
     }
@@ -235,6 +250,7 @@ impl<R: Wait + Clone> Desk for SharedDesk<R> {
             topics,
             shares,
             live,
+            known,
             ..
         } = self;
         if !make_room(shares, *live) {
@@ -245,6 +261,7 @@ impl<R: Wait + Clone> Desk for SharedDesk<R> {
             Some(Channel::Watch(sender)) => watch::subscribe(rt, topic, start, sender),
             None => {
                 let mut topics = topics.lock(rt);
+                known.learn(&*topics, topic);
                 subscribe(rt, &mut *topics, topic, start)
             }
         };
