@@ -1,4 +1,5 @@
 //! Runs of the program over a slice of bytes and vectors.
+use std::alloc::Global;
 use std::io;
 use std::io::{ErrorKind, Read, Write};
 use std::test::Fail;
@@ -25,21 +26,43 @@ impl Write for Broken {
     }
 }
 
+// What came of a run.
+#[derive(Drop)]
+struct Outcome {
+    end: End,
+    reads: u64,
+    output: Vec<u8>,
+    errors: Vec<u8>,
+}
+
+// A run by these words, whose errors people read, or not. It promises nothing: no test needs what a proof knows of a run.
+fn ran_for<I: Read + Drop>(alloc: Global, words: &[&str], input: I, people: bool) -> Outcome {
+    let mut input = Counted::new(input);
+    let mut output = Counted::new(Vec::new(alloc));
+    let mut errors = Counted::new(Vec::new(alloc));
+    let end = run_for(alloc, words, &mut input, &mut output, &mut errors, people);
+    Outcome {
+        end,
+        reads: input.calls(),
+        output: output.into_device(),
+        errors: errors.into_device(),
+    }
+}
+
+fn ran(alloc: Global, words: &[&str], input: &[u8]) -> Outcome {
+    ran_for(alloc, words, input, false)
+}
+
 const SCHEDULE: &[u8] = b"a OPEN t B 2\na BIND t\nb SUB t\na PUB t x\nb TRY t\n";
 
 const REPLIES: &[u8] = b"OK 2\nOK\nOK\nOK 1\nVAL x\n";
 
 #[test]
 fn replay_carries_out_its_input(rt: HostRuntime) -> Result<(), Fail> {
-    let alloc = rt.alloc();
-    let mut input = Counted::new(SCHEDULE);
-    let mut output = Counted::new(Vec::new(alloc));
-    let mut errors = Counted::new(Vec::new(alloc));
-    let words = ["topichub", "replay"];
-    let end = run(alloc, &words, &mut input, &mut output, &mut errors);
-    assert_eq!(rt; end, End::Done);
-    assert_eq!(rt; output.device().as_slice(), REPLIES);
-    assert_eq!(rt; errors.device().len(), 0);
+    let ran = ran(rt.alloc(), &["topichub", "replay"], SCHEDULE);
+    assert_eq!(rt; ran.end, End::Done);
+    assert_eq!(rt; ran.output.as_slice(), REPLIES);
+    assert_eq!(rt; ran.errors.len(), 0);
     Ok(())
 }
 
@@ -49,84 +72,55 @@ const CHEAT: &[u8] = b"TRACE 1 B 2\nAT 0 0 NEXT 2\nTX 1\nBEGIN\nC queued 1\nR co
 
 #[test]
 fn check_tells_its_verdict(rt: HostRuntime) -> Result<(), Fail> {
-    let alloc = rt.alloc();
     for (trace, line, want) in [
         (TRACE, b"legal 1\n".as_slice(), End::Done),
         (CHEAT, b"illegal 6\n".as_slice(), End::Illegal),
         (SCHEDULE, b"bad 1\n".as_slice(), End::Bad),
     ] {
-        let mut input = Counted::new(trace);
-        let mut output = Counted::new(Vec::new(alloc));
-        let mut errors = Counted::new(Vec::new(alloc));
-        let words = ["topichub", "check"];
-        let end = run(alloc, &words, &mut input, &mut output, &mut errors);
-        assert_eq!(rt; end, want);
-        assert_eq!(rt; output.device().as_slice(), line);
-        assert_eq!(rt; errors.device().len(), 0);
+        let ran = ran(rt.alloc(), &["topichub", "check"], trace);
+        assert_eq!(rt; ran.end, want);
+        assert_eq!(rt; ran.output.as_slice(), line);
+        assert_eq!(rt; ran.errors.len(), 0);
     }
     Ok(())
 }
 
 #[test]
 fn a_check_says_to_people_what_is_wrong(rt: HostRuntime) -> Result<(), Fail> {
-    let alloc = rt.alloc();
-    let mut input = Counted::new(CHEAT);
-    let mut output = Counted::new(Vec::new(alloc));
-    let mut errors = Counted::new(Vec::new(alloc));
-    let words = ["topichub", "check"];
-    let end = run_for(alloc, &words, &mut input, &mut output, &mut errors, true);
-    assert_eq!(rt; end, End::Illegal);
-    assert_eq!(rt; output.device().as_slice(), b"illegal 6\n".as_slice());
+    let ran = ran_for(rt.alloc(), &["topichub", "check"], CHEAT, true);
+    assert_eq!(rt; ran.end, End::Illegal);
+    assert_eq!(rt; ran.output.as_slice(), b"illegal 6\n".as_slice());
     assert_eq!(rt;
-        errors.device().as_slice(),
+        ran.errors.as_slice(),
         b"line 6: R count 1\nexpected: R count 0\n".as_slice()
     );
     Ok(())
 }
 
 #[test]
-fn what_stops_a_check_is_said(rt: HostRuntime) -> Result<(), Fail> {
-    let alloc = rt.alloc();
-    let words = ["topichub", "check"];
-    let mut output = Counted::new(Vec::new(alloc));
-    let mut errors = Counted::new(Vec::new(alloc));
-    let mut input = Counted::new(Broken);
-    let end = run(alloc, &words, &mut input, &mut output, &mut errors);
-    assert_eq!(rt; end, End::Read);
-    assert_eq!(rt; output.device().len(), 0);
-    assert_eq!(rt;
-        errors.device().as_slice(),
-        b"topichub: read fault\n".as_slice()
-    );
+fn what_stops_a_run_is_said(rt: HostRuntime) -> Result<(), Fail> {
+    for mode in ["check", "replay"] {
+        let ran = ran_for(rt.alloc(), &["topichub", mode], Broken, false);
+        assert_eq!(rt; ran.end, End::Read, "{mode}");
+        assert_eq!(rt; status(&ran.end), 1, "{mode}");
+        assert_eq!(rt; ran.output.len(), 0, "{mode}");
+        assert_eq!(rt;
+            ran.errors.as_slice(),
+            b"topichub: read fault\n".as_slice(),
+            "{mode}"
+        );
+    }
     Ok(())
 }
 
 #[test]
-fn what_stops_a_replay_is_said(rt: HostRuntime) -> Result<(), Fail> {
+fn a_write_fault_is_said(rt: HostRuntime) -> Result<(), Fail> {
     let alloc = rt.alloc();
-    let words = ["topichub", "replay"];
-    let mut output = Counted::new(Vec::new(alloc));
     let mut errors = Counted::new(Vec::new(alloc));
     let end = run(
         alloc,
-        &words,
-        &mut Counted::new(Broken),
-        &mut output,
-        &mut errors,
-    );
-    assert_eq!(rt; end, End::Read);
-    assert_eq!(rt; status(&end), 1);
-    assert_eq!(rt; output.device().len(), 0);
-    assert_eq!(rt;
-        errors.device().as_slice(),
-        b"topichub: read fault\n".as_slice()
-    );
-    let mut input = Counted::new(SCHEDULE);
-    let mut errors = Counted::new(Vec::new(alloc));
-    let end = run(
-        alloc,
-        &words,
-        &mut input,
+        &["topichub", "replay"],
+        &mut Counted::new(SCHEDULE),
         &mut Counted::new(Broken),
         &mut errors,
     );
@@ -140,39 +134,27 @@ fn what_stops_a_replay_is_said(rt: HostRuntime) -> Result<(), Fail> {
 
 #[test]
 fn help_goes_to_the_output(rt: HostRuntime) -> Result<(), Fail> {
-    let alloc = rt.alloc();
-    let mut input = Counted::new(SCHEDULE);
-    let mut output = Counted::new(Vec::new(alloc));
-    let mut errors = Counted::new(Vec::new(alloc));
-    let words = ["topichub", "--help"];
-    let end = run(alloc, &words, &mut input, &mut output, &mut errors);
-    assert_eq!(rt; end, End::Help);
-    assert_eq!(rt; input.calls(), 0);
+    let ran = ran(rt.alloc(), &["topichub", "--help"], SCHEDULE);
+    assert_eq!(rt; ran.end, End::Help);
+    assert_eq!(rt; ran.reads, 0);
     assert!(rt;
-        output
-            .device()
+        ran.output
             .as_slice()
             .starts_with(b"Broadcast and watch channels by name")
     );
-    assert_eq!(rt; errors.device().len(), 0);
+    assert_eq!(rt; ran.errors.len(), 0);
     Ok(())
 }
 
 #[test]
 fn wrong_words_are_told_as_errors(rt: HostRuntime) -> Result<(), Fail> {
-    let alloc = rt.alloc();
-    let mut input = Counted::new(SCHEDULE);
-    let mut output = Counted::new(Vec::new(alloc));
-    let mut errors = Counted::new(Vec::new(alloc));
-    let words = ["topichub", "play"];
-    let end = run(alloc, &words, &mut input, &mut output, &mut errors);
-    assert_eq!(rt; end, End::Usage);
-    assert_eq!(rt; status(&end), 2);
-    assert_eq!(rt; input.calls(), 0);
-    assert_eq!(rt; output.device().len(), 0);
+    let ran = ran(rt.alloc(), &["topichub", "play"], SCHEDULE);
+    assert_eq!(rt; ran.end, End::Usage);
+    assert_eq!(rt; status(&ran.end), 2);
+    assert_eq!(rt; ran.reads, 0);
+    assert_eq!(rt; ran.output.len(), 0);
     assert!(rt;
-        errors
-            .device()
+        ran.errors
             .as_slice()
             .starts_with(b"error: unrecognized subcommand 'play'\n")
     );
@@ -181,15 +163,10 @@ fn wrong_words_are_told_as_errors(rt: HostRuntime) -> Result<(), Fail> {
 
 #[test]
 fn a_schedule_is_no_word(rt: HostRuntime) -> Result<(), Fail> {
-    let alloc = rt.alloc();
-    let mut input = Counted::new(SCHEDULE);
-    let mut output = Counted::new(Vec::new(alloc));
-    let mut errors = Counted::new(Vec::new(alloc));
-    let words = ["topichub", "replay", "x"];
-    let end = run(alloc, &words, &mut input, &mut output, &mut errors);
-    assert_eq!(rt; end, End::Usage);
+    let ran = ran(rt.alloc(), &["topichub", "replay", "x"], SCHEDULE);
+    assert_eq!(rt; ran.end, End::Usage);
     assert!(rt;
-        errors.device().as_slice().ends_with(
+        ran.errors.as_slice().ends_with(
             b"comes from standard input, as in: topichub replay < FILE\n"
         )
     );
