@@ -1,6 +1,5 @@
-/* Refuses one request for memory of a program, the one whose number REFUSE tells, counted from 1. To the file that
-   REFUSE_LOG names it appends that it has refused, when it does, or at the end that the request was not made. Loaded
-   before the C library (LD_PRELOAD). */
+/* Refuses one request for memory of a program, the one whose number REFUSE tells, counted from 1, and appends to the file
+   that REFUSE_LOG names that it has. Loaded before the C library (LD_PRELOAD). */
 #define _GNU_SOURCE
 #include <dlfcn.h>
 #include <fcntl.h>
@@ -28,19 +27,13 @@ __attribute__((constructor)) static void begin(void) {
     requests = 0;
 }
 
-static void tell(const char *said) {
+static void tell(void) {
     const char *path = getenv("REFUSE_LOG");
     int log = path == NULL ? -1 : open(path, O_WRONLY | O_CREAT | O_APPEND, 0600);
     if (log >= 0) {
-        ssize_t written = write(log, said, strlen(said));
+        ssize_t written = write(log, "refused\n", strlen("refused\n"));
         (void)written;
         close(log);
-    }
-}
-
-__attribute__((destructor)) static void end(void) {
-    if (requests < refused) {
-        tell("not reached\n");
     }
 }
 
@@ -48,7 +41,7 @@ static int is_refused(void) {
     if (refused == 0 || ++requests != refused) {
         return 0;
     }
-    tell("refused\n");
+    tell();
     return 1;
 }
 
