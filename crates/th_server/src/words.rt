@@ -1,5 +1,6 @@
 //! The words that ask to serve.
-ghost use Rattle.std.specs.Prelude.{◌≤◌, IfOk, IfSome};
+ghost use Rattle.std.specs.Prelude.{◌≡◌, ◌≤◌, IfOk, IfSome, IsTrue, map, string_bytes};
+ghost use Rattle.th_server.specs.Words.{asks_to_serve};
 
 use crate::serve::serve;
 use std::alloc::{AllocError, Global};
@@ -12,13 +13,20 @@ use std::thread::Threads;
 use std::time::Clock;
 use th_program::{End, Mode, ModeFault, explanation, mode, status, texts};
 
-// The path and the number of sessions, where the words ask to serve, and rightly.
+// Whether the words ask to serve.
+fn asks_to_serve(words: &[String]) -> bool
+    ensures { result ≡ asks_to_serve (map string_bytes words.now) }
+{
+    match words {
+        [_, mode, ..] => mode.as_str() == "serve",
+        _ => false,
+    }
+}
+
+// The path and the number of sessions, where the words say them rightly.
 fn asked_to_serve(alloc: Global, words: &[String]) -> Result<Option<(String, u64)>, AllocError>
     ensures { IfOk result (λ found. IfSome found (λ asked. (1 ≤ asked.1) × (asked.1 ≤ 64))) }
 {
-    if words.len() < 2 || words[1].as_str() != "serve" {
-        return Ok(None);
-    }
     let words = texts(alloc, words)?;
     match mode(alloc, words.as_slice()) {
         Ok(Mode::Serve { path, sessions }) => Ok(Some((path, sessions))),
@@ -31,7 +39,12 @@ fn asked_to_serve(alloc: Global, words: &[String]) -> Result<Option<(String, u64
 /// something else, or are wrong. `listening` and `done` go to standard output, and what stopped it to standard error.
 pub fn serve_by_words<
     R: Threads + Wait + Clock + Clone + Send + Sync + Print + Eprint + Files + Net + AllocGlobal,
->(rt: &R, words: &[String]) -> Option<ExitCode> {
+>(rt: &R, words: &[String]) -> Option<ExitCode>
+    ensures only { IfSome result (λ _. IsTrue (asks_to_serve (map string_bytes words.now))) }
+{
+    if !asks_to_serve(words) {
+        return None;
+    }
     let end = match asked_to_serve(rt.alloc(), words) {
         Ok(Some((path, sessions))) => serve(rt, rt.alloc(), path.as_str(), sessions),
         Ok(None) => return None,
