@@ -2,6 +2,7 @@
    that REFUSE_LOG names that it has. Loaded before the C library (LD_PRELOAD). */
 #define _GNU_SOURCE
 #include <dlfcn.h>
+#include <errno.h>
 #include <fcntl.h>
 #include <stdlib.h>
 #include <string.h>
@@ -38,10 +39,11 @@ static void tell(void) {
 }
 
 static int is_refused(void) {
-    if (refused == 0 || ++requests != refused) {
+    if (refused == 0 || __atomic_add_fetch(&requests, 1, __ATOMIC_RELAXED) != refused) {
         return 0;
     }
     tell();
+    errno = ENOMEM;
     return 1;
 }
 
@@ -67,7 +69,7 @@ void *realloc(void *old, size_t size) {
 }
 
 int posix_memalign(void **made, size_t alignment, size_t size) {
-    return is_refused() ? 12 : real_posix_memalign(made, alignment, size);
+    return is_refused() ? ENOMEM : real_posix_memalign(made, alignment, size);
 }
 
 void *aligned_alloc(size_t alignment, size_t size) {
