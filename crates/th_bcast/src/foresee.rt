@@ -12,6 +12,7 @@ use th_shelf::Shelf;
 
 impl<T: Clone, S: Shelf<T> + Drop> Broadcast<T, S> {
     // A send's reply, which hands a copy of the value back where nothing is sent.
+    #[inline(always)]
     fn foresee_send(&self, tx: TxId, value: &T) -> Result<BReply<T>, AllocError>
         requires { ClonesAreEqual T.is_clone }
         ensures { IfOk result (λ reply. reply ≡ (answer self.now (Send tx value.now)).0) }
@@ -30,6 +31,7 @@ impl<T: Clone, S: Shelf<T> + Drop> Broadcast<T, S> {
     }
 
     // The reply to both receives, with a copy of the value.
+    #[inline(always)]
     fn foresee_receive(&self, rx: RxId) -> Result<BReply<T>, AllocError>
         requires { ClonesAreEqual T.is_clone }
         ensures { IfOk result (λ reply. reply ≡ (answer self.now (TryRecv rx)).0) }
@@ -122,6 +124,7 @@ impl<T: Clone, S: Shelf<T> + Drop> Broadcast<T, S> {
     }
 
     // The reply to a call, where memory is not refused.
+    #[inline(always)]
     fn foreseen(&self, call: &BCall<T>) -> Result<BReply<T>, AllocError>
         requires { ClonesAreEqual T.is_clone }
         ensures reply { IfOk result (λ reply. reply ≡ (answer self.now call.now).0) }
@@ -145,6 +148,7 @@ impl<T: Clone, S: Shelf<T> + Drop> Broadcast<T, S> {
 
     /// The reply that `apply` would give now, a value in it as a clone. Nothing changes. Drops and
     /// counts are always foreseen. It costs about as much as the call.
+    #[inline(always)]
     pub fn foresee(&self, call: &BCall<T>) -> Result<BReply<T>, Short<()>>
         requires { ClonesAreEqual T.is_clone }
         ensures reply { IfOk result (λ reply. reply ≡ (answer self.now call.now).0) }

@@ -43,6 +43,7 @@ impl<T: Clone, S: Shelf<T> + Drop> Broadcast<T, S> {
     }
 
     // The live handles after a call, by the picture's numbers alone.
+    #[inline(always)]
     fn counted(&self, call: &BCall<T>) -> u64
         ensures { result ≡ live_then self.now call.now }
     {
@@ -66,6 +67,7 @@ impl<T: Clone, S: Shelf<T> + Drop> Broadcast<T, S> {
     }
 
     /// How many handles would be live after the call. At most logarithmic in live handles.
+    #[inline(always)]
     pub fn live_after(&self, call: &BCall<T>) -> u64
         ensures after { result ≡ live_handles (answer self.now call.now).1 }
         ensures sound { IsSound self.now }

@@ -195,6 +195,7 @@ impl<O: Channel, S: Side<O>> Handle<O, S> {
     }
 
     // One event. It waits until the call is ready.
+    #[inline(always)]
     pub(crate) fn call<R: Wait>(
         &mut self,
         rt: &R,
@@ -226,6 +227,7 @@ impl<O: Channel, S: Side<O>> Handle<O, S> {
 
     /// One event of this very handle that wakes nobody, for whoever makes many calls at once: `Shared::wake` then wakes
     /// once. The calls by their names wake for themselves. It waits until the call is ready.
+    #[inline(always)]
     pub fn call_quietly<R: Wait>(
         &mut self,
         rt: &R,

@@ -51,6 +51,7 @@ impl<O: Channel> Held<O> {
     }
 
     /// Whether the call has to wait. Then it is one more that does.
+    #[inline(always)]
     pub(crate) fn waits(&mut self, call: &O::Call) -> bool
         ensures waits { result ≡ not (O.machine.ready self.new.piece.last call.now) }
         ensures same { self.new ≡ self.old }
@@ -63,6 +64,7 @@ impl<O: Channel> Held<O> {
     }
 
     /// Whether the call has its answer now. Nobody waits for it yet.
+    #[inline(always)]
     pub(crate) fn is_ready(&self, call: &O::Call) -> bool
         ensures { result ≡ O.machine.ready self.now.piece.last call.now }
     {
@@ -70,6 +72,7 @@ impl<O: Channel> Held<O> {
     }
 
     /// Whether there is anyone to wake. They count as woken then.
+    #[inline(always)]
     pub(crate) fn wakes(&mut self) -> bool
         ensures { self.new ≡ self.old }
     {
@@ -79,6 +82,7 @@ impl<O: Channel> Held<O> {
     }
 
     /// Whether there is anyone to wake for what this call has changed.
+    #[inline(always)]
     pub(crate) fn wakes_after(&mut self, answer: &Result<Receipt<O>, Refused<O::Call>>) -> bool
         ensures { self.new ≡ self.old }
     {
@@ -95,6 +99,7 @@ impl<O: Channel> Held<O> {
 
     /// One event of a handle, and its store; the handle's eye looks later. `Foreign` where the handle is of another
     /// channel, as far as its share and what it has seen can tell; else what the log says.
+    #[inline(always)]
     pub(crate) fn event(
         &mut self,
         account: &mut Account,

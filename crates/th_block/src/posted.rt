@@ -62,6 +62,7 @@ impl<O: Object> Posted<O> {
     }
 
     /// One event, as `Logged::apply` makes it, and then the pen's store.
+    #[inline(always)]
     pub(crate) fn apply(
         &mut self,
         share: &mut Share,

@@ -1,15 +1,16 @@
 //! A broadcast channel, over any shelf, as an object that can be logged.
-ghost use Rattle.std.specs.Prelude.{◌≡◌, IfOk, IsOk};
+ghost use Rattle.std.specs.Prelude.{◌≡◌, IfOk, IfErr, IsOk};
 ghost use Rattle.th_model.specs.Limits.{ClonesAreEqual};
-ghost use Rattle.th_model.specs.BroadcastPicture.{TakesNoMemory};
+ghost use Rattle.th_model.specs.BroadcastPicture.{TakesNoMemory, answer};
 
-use crate::object::{Compared, Object};
+use crate::object::{Compared, Event, Object};
 use std::alloc::{AllocError, Global};
 use th_bcast::{Broadcast, PictureParts};
 use th_model::{BCall, BReply, Short};
 use th_shelf::Shelf;
 
 // A copy of a call. Only a sent value takes memory.
+#[inline(always)]
 fn copied<T: Clone>(call: &BCall<T>) -> Result<BCall<T>, AllocError>
     requires { ClonesAreEqual T.is_clone }
     ensures copy { IfOk result (λ copy. copy ≡ call.now) }
@@ -28,6 +29,39 @@ fn copied<T: Clone>(call: &BCall<T>) -> Result<BCall<T>, AllocError>
         BCall::Queued(tx) => Ok(BCall::Queued(*tx)),
         BCall::Left(rx) => Ok(BCall::Left(*rx)),
         BCall::Readers(tx) => Ok(BCall::Readers(*tx)),
+    }
+}
+
+// One event, with what its log keeps of it. It is drawn into each place that calls it, and knows the
+// call there.
+#[inline(always)]
+fn noted<T: Clone, S: Shelf<T> + Drop>(
+    channel: &mut Broadcast<T, S>,
+    call: BCall<T>,
+) -> Result<Event<BCall<T>, BReply<T>>, Short<BCall<T>>>
+    requires { ClonesAreEqual T.is_clone }
+    ensures step { IfOk result (λ e. answer channel.old call ≡ (e.reply, channel.new)) }
+    ensures call { IfOk result (λ e. e.call ≡ call) }
+    ensures entry { IfOk result (λ e. e.entry ≡ (call, e.reply)) }
+    ensures short { IfErr result (λ short. (short.call ≡ call) × (channel.new ≡ channel.old)) }
+    ensures always { TakesNoMemory call → IsOk result }
+{
+    let Ok(kept) = copied(&call) else {
+        return Err(Short { call });
+    };
+    let Ok(told) = copied(&call) else {
+        return Err(Short { call });
+    };
+    let Ok(foreseen) = channel.foresee(&call) else {
+        return Err(Short { call });
+    };
+    match channel.apply(call) {
+        Ok(reply) => Ok(Event {
+            entry: (kept, foreseen),
+            call: told,
+            reply,
+        }),
+        Err(short) => Err(short),
     }
 }
 
@@ -66,18 +100,33 @@ impl<T: Clone, S: Shelf<T> + Drop> Object for Broadcast<T, S> {
 
     ghost spends_ok = { broadcast-spends };
 
+    #[inline(always)]
     fn ready(&self, call: &BCall<T>) -> bool {
         Broadcast::ready(self, call)
     }
 
+    #[inline(always)]
     fn apply(&mut self, call: BCall<T>) -> Result<BReply<T>, Short<BCall<T>>> {
         Broadcast::apply(self, call)
     }
 
+    #[inline(always)]
     fn foresee(&self, call: &BCall<T>) -> Result<BReply<T>, Short<()>> {
         Broadcast::foresee(self, call)
     }
 
+    // The calls that are made most often are compiled each for itself.
+    #[inline(always)]
+    fn event(&mut self, call: BCall<T>) -> Result<Event<BCall<T>, BReply<T>>, Short<BCall<T>>> {
+        match call {
+            BCall::Send(tx, value) => noted(self, BCall::Send(tx, value)),
+            BCall::TryRecv(rx) => noted(self, BCall::TryRecv(rx)),
+            BCall::Recv(rx) => noted(self, BCall::Recv(rx)),
+            other => noted(self, other),
+        }
+    }
+
+    #[inline(always)]
     fn copy_call(call: &BCall<T>) -> Result<BCall<T>, Short<()>> {
         match copied(call) {
             Ok(copy) => Ok(copy),
@@ -93,14 +142,17 @@ impl<T: Clone, S: Shelf<T> + Drop> Object for Broadcast<T, S> {
         Broadcast::from_picture(alloc, state)
     }
 
+    #[inline(always)]
     fn live(&self) -> u64 {
         Broadcast::live(self)
     }
 
+    #[inline(always)]
     fn live_after(&self, call: &BCall<T>) -> u64 {
         Broadcast::live_after(self, call)
     }
 
+    #[inline(always)]
     fn closed(&self) -> bool {
         self.sender_count() == 0
     }

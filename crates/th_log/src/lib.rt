@@ -23,6 +23,6 @@ pub use audits::{AuditFault, Audited, audit};
 pub use closing::close;
 pub use diary::Diary;
 pub use logged::{Logged, MakeFault};
-pub use object::{Compared, Object};
+pub use object::{Compared, Event, Object};
 pub use receipt::{Receipt, Refused};
 pub use segment::{JoinFault, Segment};

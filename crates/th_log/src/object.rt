@@ -6,10 +6,21 @@ ghost use Rattle.th_log.specs.History.{Machine, live_after};
 use std::alloc::Global;
 use th_model::Short;
 
+/// An event as it is noted twice: by its log, and by the receipt of whoever made it.
+#[derive(Drop)]
+pub struct Event<C, R> {
+    /// The call and its reply, for the log.
+    pub entry: (C, R),
+    /// The call, for the receipt.
+    pub call: C,
+    /// The reply, for the receipt.
+    pub reply: R,
+}
+
 /// A channel for one thread, which does what a machine does that remembers everything.
 ///
 /// `copy_call` and `foresee` give what a log keeps of an event before the event is made, so that
-/// after it nothing is left that may be refused.
+/// after it nothing is left that may be refused. `event` does all of it.
 pub trait Object: Drop {
     /// A call, by the number of the handle that makes it.
     type Call: Drop;
@@ -61,6 +72,21 @@ pub trait Object: Drop {
         ensures reply { IfOk result (λ reply.
             reply ≡ (machine.answer (shows self.now) call.now).0) }
         ensures always { takes_none call.now → IsOk result };
+
+    /// The event of a call, with what its log keeps of it: `apply`, behind two copies of the call and
+    /// its reply foreseen. Where memory is refused the call comes back, and nothing has changed.
+    fn event(
+        &mut self,
+        call: Self::Call,
+    ) -> Result<Event<Self::Call, Self::Reply>, Short<Self::Call>>
+        requires { lawful }
+        ensures step { IfOk result (λ e.
+            machine.answer (shows self.old) call ≡ (e.reply, shows self.new)) }
+        ensures call { IfOk result (λ e. e.call ≡ call) }
+        ensures entry { IfOk result (λ e. e.entry ≡ (call, e.reply)) }
+        ensures short { IfErr result (λ short.
+            (short.call ≡ call) × (shows self.new ≡ shows self.old)) }
+        ensures always { takes_none call → IsOk result };
 
     /// The same call, a value in it as a clone.
     fn copy_call(call: &Self::Call) -> Result<Self::Call, Short<()>>

@@ -58,6 +58,7 @@ impl<T: Drop> Watch<T> {
     }
 
     /// How many handles would be live after the call. At most logarithmic in live handles.
+    #[inline(always)]
     pub fn live_after(&self, call: &WCall<T>) -> u64
         ensures after { (eq : T → T → Bool) →
             result ≡ live_watchers (answer eq self.now call.now).1 }
