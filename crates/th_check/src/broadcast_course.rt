@@ -30,6 +30,7 @@ pub type RingBroadcast = Broadcast<Value, RingShelf<Value>>;
 pub type BroadcastCourse = Course<RingBroadcast, BCall<Value>>;
 
 /// Judges one more line, without its line end. The course goes on in place.
+#[inline(always)]
 pub fn take_line(
     alloc: Global,
     version: Version,
@@ -96,6 +97,7 @@ fn take_reply(course: &mut BroadcastCourse, call: BCall<Value>, line: &[u8]) -> 
 }
 
 // Why a line stops the check that is not the channel's own reply to a call, which gives a value or none.
+#[cold]
 fn another(gives: bool, line: &[u8], own: Option<BReply<Value>>) -> Stop
     ensures { (call : BCall Bytes) → gives_value call ≡ gives
         → IsOther (reply_of call line.now) (Expected.Broadcast own) result }

@@ -25,6 +25,7 @@ pub type ValueWatch = Watch<Value>;
 pub type WatchCourse = Course<ValueWatch, WCall<Value>>;
 
 /// Judges one more line, without its line end. The course goes on in place.
+#[inline(always)]
 pub fn take_line(alloc: Global, course: &mut WatchCourse, line: &[u8]) -> Result<(), Stop>
     ensures { (stage : WatchStage) → Shows watch_machine IsProper stage course.old
         → TurnsTo watch_machine IsProper words_of_watch stage line.now (taken result course.new) }
@@ -80,6 +81,7 @@ fn take_reply(course: &mut WatchCourse, call: WCall<Value>, line: &[u8]) -> Resu
 }
 
 // Why a line stops the check that is not the channel's own reply to a call, which gives a value or none.
+#[cold]
 fn another(gives: bool, line: &[u8], own: Option<WReply<Value>>) -> Stop
     ensures { (call : WCall Bytes) → gives_value call ≡ gives
         → IsOther (reply_of call line.now) (Expected.Watch own) result }
