@@ -2,7 +2,7 @@
 ghost use Rattle.std.specs.Prelude.{◌≡◌, ◌+◌, ℕ};
 ghost use Rattle.th_model.specs.BroadcastMachine.{Endless, IsProper};
 ghost use Rattle.th_log.specs.Machines.{broadcast};
-ghost use Rattle.th_traces.specs.BroadcastWords.{reply_of};
+ghost use Rattle.th_traces.specs.BroadcastWords.{gives_value, reply_of};
 ghost use Rattle.th_traces.specs.Spelled.{Bytes};
 ghost use Rattle.th_check.specs.Judging.{IsOther, IsShown, Shows, TurnsTo, taken};
 ghost use Rattle.th_check.specs.Points.{BroadcastStage, words_of_broadcast};
@@ -18,7 +18,10 @@ use th_lines::LineFault;
 use th_log::Object;
 use th_model::{BCall, BReply, Value};
 use th_ring::RingShelf;
-use th_traces::{Version, read_broadcast_call, read_broadcast_reply, spells_broadcast_reply};
+use th_traces::{
+    Version, gives_broadcast_value, read_broadcast_call, says_broadcast_reply,
+    spells_broadcast_reply,
+};
 
 /// A broadcast channel of values, over a ring.
 pub type RingBroadcast = Broadcast<Value, RingShelf<Value>>;
@@ -27,6 +30,7 @@ pub type RingBroadcast = Broadcast<Value, RingShelf<Value>>;
 pub type BroadcastCourse = Course<RingBroadcast, BCall<Value>>;
 
 /// Judges one more line, without its line end. The course goes on in place.
+#[inline(always)]
 pub fn take_line(
     alloc: Global,
     version: Version,
@@ -39,7 +43,7 @@ pub fn take_line(
 {
     match replace(&mut course.due, Due::Nothing) {
         Due::Call => take_call(alloc, version, course, line),
-        Due::Reply(call) => take_reply(alloc, course, call, line),
+        Due::Reply(call) => take_reply(course, call, line),
         Due::Nothing => Err(Stop::Bad),
     }
 }
@@ -70,42 +74,37 @@ fn take_call(
 }
 
 // Judges a line where the reply to this call is due, by which there are so many entries. The channel's own
-// reply is compared as it is spelled; only another line is read.
-fn take_reply(
-    alloc: Global,
-    course: &mut BroadcastCourse,
-    call: BCall<Value>,
-    line: &[u8],
-) -> Result<(), Stop>
+// reply is compared as it is spelled; of another line only its form is asked.
+fn take_reply(course: &mut BroadcastCourse, call: BCall<Value>, line: &[u8]) -> Result<(), Stop>
     ensures { (version : Version) (state : Endless Bytes) (before : ℕ)
         → IsShown broadcast IsProper state course.old.channel → course.old.count ≡ before + 1
         → TurnsTo broadcast IsProper (words_of_broadcast version)
         (ReplyDue state before call) line.now (taken result course.new) }
 {
+    let gives = gives_broadcast_value(&call);
     if !Object::ready(&course.channel, &call) {
-        return Err(another(alloc, &call, line, None));
+        return Err(another(gives, line, None));
     }
-    let Ok(asked) = RingBroadcast::copy_call(&call) else {
-        return Err(Stop::Short);
-    };
     let Ok(reply) = Object::apply(&mut course.channel, call) else {
         return Err(Stop::Short);
     };
     if !spells_broadcast_reply(line, &reply) {
-        return Err(another(alloc, &asked, line, Some(reply)));
+        return Err(another(gives, line, Some(reply)));
     }
     is_broadcast_reply(&reply);
     course.due = Due::Call;
     Ok(())
 }
 
-// Why a line stops the check that is not the channel's own reply to the call.
-fn another(alloc: Global, call: &BCall<Value>, line: &[u8], own: Option<BReply<Value>>) -> Stop
-    ensures { IsOther (reply_of call.now line.now) (Expected.Broadcast own) result }
+// Why a line stops the check that is not the channel's own reply to a call, which gives a value or none.
+#[cold]
+fn another(gives: bool, line: &[u8], own: Option<BReply<Value>>) -> Stop
+    ensures { (call : BCall Bytes) → gives_value call ≡ gives
+        → IsOther (reply_of call line.now) (Expected.Broadcast own) result }
 {
-    match read_broadcast_reply(alloc, call, line) {
-        Ok(_) => Stop::Illegal(Expected::Broadcast(own)),
-        Err(LineFault::BadLine) => Stop::Bad,
-        Err(LineFault::Short) => Stop::Short,
+    if says_broadcast_reply(gives, line) {
+        Stop::Illegal(Expected::Broadcast(own))
+    } else {
+        Stop::Bad
     }
 }

@@ -50,6 +50,7 @@ impl Checker {
     }
 
     // Judges the line that was handed out.
+    #[inline(always)]
     fn judge_line(&mut self, alloc: Global, before_lf: bool) -> Result<(), Stop>
         requires { self.old.judged < 2 ^ 63 }
         ensures line { JudgesLine self.old self.new
@@ -94,6 +95,7 @@ impl Checker {
     }
 
     // Judges what stands after the last LF, at the end of the input.
+    #[inline(never)]
     fn judge_last(&mut self, alloc: Global) -> Result<(), Stop>
         requires few { self.old.judged < 2 ^ 63 }
         requires all { self.old.intake.came.ahead ≡ [] }

@@ -26,6 +26,7 @@ pub enum Spot {
 }
 
 /// Judges one more line, given without its end, or as `None` where it is too long. The spot goes on in place.
+#[inline(always)]
 pub fn take_line(alloc: Global, spot: &mut Spot, line: Option<&[u8]>) -> Result<(), Stop>
     ensures { (here : Point) → Holds here spot.old
         → Takes here (line_given line.entry) (taken result spot.new) }
@@ -50,7 +51,9 @@ pub fn take_line(alloc: Global, spot: &mut Spot, line: Option<&[u8]>) -> Result<
     }
 }
 
-// Judges one more line of a picture. Where it is the last one, answers what begins below it.
+// Judges one more line of a picture. Where it is the last one, answers what begins below it. Such lines are few: they
+// stand apart from the entries' way, which is short without them.
+#[inline(never)]
 fn take_of_picture(alloc: Global, draft: &mut Draft, line: &[u8]) -> Result<Option<Spot>, Stop>
     ensures { Takes (InPicture draft.old) (Good line.now) (drawn result draft.new) }
 {

@@ -272,6 +272,42 @@ fn a_reply_hands_the_value_back(rt: HostRuntime) -> Result<(), Fail> {
 }
 
 #[test]
+fn whether_a_line_says_a_reply_is_seen_by_its_form(rt: HostRuntime) {
+    // The line, and whether it says a reply to a call with a value, and to one without.
+    let rows: [(&'static str, bool, bool); 9] = [
+        ("R no-receivers", true, false),
+        ("R exhausted", true, false),
+        ("R no-receivers v", false, false),
+        ("R no-handle", true, true),
+        ("R count 3", true, true),
+        ("R count 03", false, false),
+        ("R done ", false, false),
+        ("C done", false, false),
+        ("R", false, false),
+    ];
+    for (line, with_value, without) in rows {
+        let bytes = line.as_bytes();
+        assert!(rt; says_watch_reply(true, bytes) == with_value, "{line}");
+        assert!(rt; says_watch_reply(false, bytes) == without, "{line}");
+        assert!(rt; says_broadcast_reply(true, bytes) == with_value, "{line}");
+        assert!(rt; says_broadcast_reply(false, bytes) == without, "{line}");
+    }
+    assert!(rt; says_watch_reply(false, b"R shown new v w"));
+    assert!(rt; says_broadcast_reply(false, b"R value v w"));
+}
+
+#[test]
+fn some_calls_give_a_value(rt: HostRuntime) -> Result<(), Fail> {
+    let sent = BCall::Send(TxId(1), Value::new(rt.alloc(), b"v")?);
+    assert!(rt; gives_broadcast_value(&sent));
+    assert!(rt; !gives_broadcast_value(&BCall::Left(RxId(1))));
+    let replaced = WCall::Replace(TxId(1), Value::new(rt.alloc(), b"v")?);
+    assert!(rt; gives_watch_value(&replaced));
+    assert!(rt; !gives_watch_value(&WCall::Take(RxId(1))));
+    Ok(())
+}
+
+#[test]
 fn one_call_is_of_version_2(rt: HostRuntime) {
     assert!(rt; Version::One.with_call(&BCall::SubscribeOldest(TxId(1))) == Version::Two);
     assert!(rt; Version::One.with_call(&BCall::Subscribe(TxId(1))) == Version::One);

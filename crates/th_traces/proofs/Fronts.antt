@@ -47,3 +47,13 @@ module _ {A : Type 0} (read : List ℕ → Option A) (line : List ℕ) where
       at : (o : Option A) → behind (codes "C") read line ≡ o → o ≡ None
       at None h = refl
       at (Some a) h = let b = behind-found (codes "C") read line a h in absurd (other b.0 b.1)
+
+  pub reply-there : (rest : List ℕ) → line ≡ codes "R " ++ rest → behind (codes "R") read line ≡ read rest
+  reply-there rest e = ap (λ (l : List ℕ). behind (codes "R") read l) e
+
+  pub reply-missing : ((rest : List ℕ) → line ≢ codes "R " ++ rest) → behind (codes "R") read line ≡ None
+  reply-missing other = at (behind (codes "R") read line) refl
+    where
+      at : (o : Option A) → behind (codes "R") read line ≡ o → o ≡ None
+      at None h = refl
+      at (Some a) h = let b = behind-found (codes "R") read line a h in absurd (other b.0 b.1)

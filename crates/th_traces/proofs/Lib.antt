@@ -1,6 +1,7 @@
 mod Coming
 pub mod Entries
 pub mod Fronts
+pub mod Forms
 pub mod BroadcastSpelling
 pub mod WatchSpelling
 pub mod Further

@@ -93,7 +93,7 @@ fn no_handle(given: Option<&Value>, rest: Option<&[u8]>) -> Result<BReply<Value>
 
 // The reply of this word, if it is one that has no value.
 #[tactic(auto, unfolding(crate::specs::BroadcastWords::plain_replies))]
-fn plain(word: &[u8], rest: Option<&[u8]>) -> Option<BReply<Value>>
+pub(crate) fn plain(word: &[u8], rest: Option<&[u8]>) -> Option<BReply<Value>>
     ensures { result ≡ by_word plain_replies word.now (rest_of rest.entry) }
 {
     if word == b"sent".as_slice() {

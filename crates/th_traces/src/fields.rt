@@ -1,5 +1,5 @@
 //! The words at the front of a line, and its last fields.
-ghost use Rattle.std.specs.Prelude.{◌≡◌, ◌≢◌, ◌++◌, ℕ, List, IfOk, OnErr, Err, MatchOption};
+ghost use Rattle.std.specs.Prelude.{◌≡◌, ◌≢◌, ◌++◌, ℕ, List, IfOk, OnErr, Err, MatchOption, is_some};
 ghost use Rattle.std.specs.Option.{option_map};
 ghost use Rattle.th_lines.specs.Fields.{number_last, number_then, value_last};
 ghost use Rattle.th_lines.specs.Reads.{Reads, each_value, rest_of};
@@ -8,7 +8,7 @@ ghost use Rattle.th_traces.specs.Tables.{each_pair, handing, number_value_last};
 use std::alloc::Global;
 use th_lines::LineFault;
 use th_lines::fields::{number, number_and_rest, value};
-use th_model::Value;
+use th_model::{Value, is_value};
 
 // What stands behind these words, if the line begins with them.
 #[inline(always)]
@@ -41,6 +41,16 @@ pub fn last_value(alloc: Global, rest: Option<&[u8]>) -> Result<Value, LineFault
     match rest {
         Some(bytes) => value(alloc, bytes),
         None => Err(LineFault::BadLine),
+    }
+}
+
+// Whether a value is the last field.
+pub fn is_last_value(rest: Option<&[u8]>) -> bool
+    ensures { result ≡ is_some (value_last (λ value. value) (rest_of rest.entry)) }
+{
+    match rest {
+        Some(bytes) => is_value(bytes),
+        None => false,
     }
 }
 

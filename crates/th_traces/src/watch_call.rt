@@ -1,7 +1,7 @@
 //! Calls of a watch channel, read.
-ghost use Rattle.std.specs.Prelude.{◌≡◌};
+ghost use Rattle.std.specs.Prelude.{◌≡◌, false};
 ghost use Rattle.std.specs.Option.{option_map};
-ghost use Rattle.th_lines.specs.Fields.{by_word};
+ghost use Rattle.th_lines.specs.Fields.{Rest, by_word};
 ghost use Rattle.th_lines.specs.Reads.{Reads, rest_of};
 ghost use Rattle.th_traces.specs.WatchWords.{call_of, calls, gives_value, number_calls, value_given};
 
@@ -41,8 +41,36 @@ pub(crate) fn value_given(call: &WCall<Value>) -> Option<&Value>
     }
 }
 
-// The call of this word.
+// The call of this word. Where no value follows, which is the most, only the number is read here.
+#[inline(always)]
 fn by_word(alloc: Global, word: &[u8], rest: Option<&[u8]>) -> Result<WCall<Value>, LineFault>
+    ensures { Reads gives_value result (by_word calls word.now (rest_of rest.entry)) }
+{
+    if is_with_value(word) {
+        return by_any_word(alloc, word, rest);
+    }
+    match by_number(word, rest) {
+        Some(call) => Ok(call),
+        None => Err(LineFault::BadLine),
+    }
+}
+
+// Whether a value follows the number behind this word.
+#[inline(always)]
+fn is_with_value(word: &[u8]) -> bool
+    ensures { result ≡ false → (rest : Rest)
+        → by_word calls word.now rest ≡ by_word number_calls word.now rest }
+{
+    word == b"send".as_slice()
+        || word == b"replace".as_slice()
+        || word == b"set".as_slice()
+        || word == b"differ".as_slice()
+        || word == b"quiet".as_slice()
+}
+
+// The call of this word, whichever it is. It stands by itself, so that calls without a value make no room for one.
+#[inline(never)]
+fn by_any_word(alloc: Global, word: &[u8], rest: Option<&[u8]>) -> Result<WCall<Value>, LineFault>
     ensures { Reads gives_value result (by_word calls word.now (rest_of rest.entry)) }
 {
     if word == b"send".as_slice() {
@@ -83,6 +111,7 @@ fn by_word(alloc: Global, word: &[u8], rest: Option<&[u8]>) -> Result<WCall<Valu
 
 // The call of this word, where a handle's number alone is to follow it.
 #[tactic(auto, unfolding(crate::specs::WatchWords::number_calls))]
+#[inline(always)]
 fn by_number(word: &[u8], rest: Option<&[u8]>) -> Option<WCall<Value>>
     ensures { result ≡ by_word number_calls word.now (rest_of rest.entry) }
 {

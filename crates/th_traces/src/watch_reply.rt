@@ -137,7 +137,7 @@ fn last_answer(rest: Option<&[u8]>) -> Option<bool>
 
 // The reply of this word, if it is one that has no value.
 #[tactic(auto, unfolding(crate::specs::WatchWords::plain_replies, crate::specs::WatchWords::bare_replies))]
-fn plain(word: &[u8], rest: Option<&[u8]>) -> Option<WReply<Value>>
+pub(crate) fn plain(word: &[u8], rest: Option<&[u8]>) -> Option<WReply<Value>>
     ensures { result ≡ by_word plain_replies word.now (rest_of rest.entry) }
 {
     if word == b"modified".as_slice() {
