@@ -3,3 +3,4 @@ pub mod Locked
 pub mod Numbers
 pub mod Pairs
 pub mod Replies
+pub mod Rows

@@ -1,15 +1,17 @@
 //! A caller's handle at a shared channel. One body serves senders and receivers of both channels.
-ghost use Rattle.std.specs.Prelude.{◌≡◌, ◌≤◌, ◌↔◌, true, false, IfErr, IfOk, IsTrue, MatchResult, OnOk, Some};
+ghost use Rattle.std.specs.Prelude.{◌≡◌, ◌≤◌, ◌↔◌, [], length, true, false, IfErr, IfOk, IsTrue, MatchResult, OnOk, Some};
 ghost use Rattle.th_glance.specs.Lists.{last_of};
 ghost use Rattle.th_log.specs.History.{IsLimit};
 ghost use Rattle.th_log.specs.Outcome.{counted};
 ghost use Rattle.th_block.specs.Handles.{Calls, CallsFor, Glances, IsBack, IsFirst, IsMade, IsNext, Tells, seen_of, unused};
 ghost use Rattle.th_block.specs.Locked.{Entered, Fits, IsSeated};
+ghost use Rattle.th_block.specs.Rows.{CallsInRow};
 
 use crate::account::Account;
 use crate::channel::{Channel, Side};
 use crate::held::Held;
 use crate::posted::Posted;
+use crate::ready::{all_ready, see_all};
 use crate::seat::Seat;
 use crate::shared::Shared;
 use std::alloc::Global;
@@ -254,6 +256,34 @@ impl<O: Channel, S: Side<O>> Handle<O, S> {
             }
             Err(refused) => Err(refused),
         }
+    }
+
+    /// Events of this very handle by one call, one behind the other, as long as it has its answer: at most `most`, and at
+    /// most as the list has room for. Their receipts come in the order of the events. It takes the lock once and wakes
+    /// nobody, as `call_quietly`, and waits for nothing but the lock. Fewer events than there could be are made where the
+    /// log refuses one, as `LogFull` or for want of memory: the next call is told why.
+    pub fn call_while_ready<R: Wait>(
+        &mut self,
+        rt: &R,
+        call: &O::Call,
+        most: usize,
+        receipts: &mut Vec<Receipt<O>>,
+    )
+        requires lawful { O.lawful }
+        requires own { S.caller call.now ≡ Some self.old.number }
+        requires none { receipts.old.items ≡ [] }
+        ensures most { length receipts.new.items ≤ most }
+        ensures row { CallsInRow self.old self.new call.now receipts.new.items }
+    {
+        let Handle {
+            shared,
+            account,
+            ..
+        } = self;
+        let mut held = shared.room.held.lock(rt);
+        let total = all_ready(&mut *held, account, call, most, receipts);
+        drop(held);
+        see_all(rt, account, total);
     }
 
     /// Whether a call would wait now, for news or for nothing any more. It makes no event, and takes the lock for a moment:

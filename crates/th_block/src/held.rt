@@ -171,6 +171,13 @@ impl<O: Channel> Held<O> {
         self.posted.split()
     }
 
+    /// How many events the channel has.
+    pub(crate) fn total(&self) -> u64
+        ensures { result ≡ self.now.tally.total }
+    {
+        self.posted.log().total()
+    }
+
     /// What is seen of the channel is sound, as of every log.
     pub(crate) fn is_sound(&self)
         ensures { O.is_sound self.now.piece.last }

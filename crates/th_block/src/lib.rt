@@ -85,6 +85,7 @@ pub mod channel;
 pub mod handle;
 mod held;
 mod posted;
+mod ready;
 mod replace;
 pub mod replaced;
 mod seat;

@@ -3,9 +3,11 @@ ghost use Rattle.std.specs.Prelude.{◌≡◌, [], true, false, ◌<◌, ◌+◌
 ghost use Rattle.th_lines.specs.Device.{ReadMoved, bytes_moved, failures_after, one_more};
 ghost use Rattle.th_lines.specs.Intake.{Ends, Fills, Finds, IsSameLine, Reading, line_given, most_read, nothing_came, nothing_read};
 ghost use Rattle.th_lines.specs.Lines.{line_of};
+ghost use Rattle.th_lines.specs.Repeating.{Repeats};
 
 use crate::counted::{Counted, Moved};
 use crate::cut::{LINE_KEPT, LINE_LIMIT, keep_begun};
+use crate::repeats::repeats;
 use bstr::ByteSlice;
 use std::alloc::{AllocError, Global};
 use std::io::Read;
@@ -111,6 +113,16 @@ impl Intake {
             return Some(&line[..line.len() - 1]);
         }
         Some(line)
+    }
+
+    /// How often the line that was handed out comes next, byte for byte the same and with its LF, at most so often: fewer
+    /// times only where another line comes next, or none that is whole. It compares each byte once.
+    pub fn repeats(&self, most: usize) -> usize
+        ensures { Repeats most self.now.line self.now.came.ahead result }
+    {
+        let line = &self.buffer[self.line_from..self.line_to];
+        let ahead = &self.buffer[self.ahead_from..self.ahead_to];
+        repeats(line, ahead, most)
     }
 
     /// Whether nothing came since the last LF.

@@ -17,6 +17,7 @@ pub mod laws;
 pub mod lines;
 mod print;
 mod read;
+mod repeats;
 pub mod reply;
 pub mod write_buffer;
 
