@@ -49,7 +49,6 @@ pub fn take_line(
 }
 
 // Judges a line where a call is due, or the end line.
-#[inline(always)]
 fn take_call(
     alloc: Global,
     version: Version,
@@ -76,7 +75,6 @@ fn take_call(
 
 // Judges a line where the reply to this call is due, by which there are so many entries. The channel's own
 // reply is compared as it is spelled; of another line only its form is asked.
-#[inline(always)]
 fn take_reply(course: &mut BroadcastCourse, call: BCall<Value>, line: &[u8]) -> Result<(), Stop>
     ensures { (version : Version) (state : Endless Bytes) (before : ℕ)
         → IsShown broadcast IsProper state course.old.channel → course.old.count ≡ before + 1

@@ -38,7 +38,6 @@ pub fn take_line(alloc: Global, course: &mut WatchCourse, line: &[u8]) -> Result
 }
 
 // Judges a line where a call is due, or the end line.
-#[inline(always)]
 fn take_call(alloc: Global, course: &mut WatchCourse, line: &[u8]) -> Result<(), Stop>
     requires { course.old.due ≡ Due.Nothing }
     ensures { (state : Endless Bytes) → IsShown watch_machine IsProper state course.old.channel
@@ -60,7 +59,6 @@ fn take_call(alloc: Global, course: &mut WatchCourse, line: &[u8]) -> Result<(),
 
 // Judges a line where the reply to this call is due, by which there are so many entries. The channel's own
 // reply is compared as it is spelled; of another line only its form is asked.
-#[inline(always)]
 fn take_reply(course: &mut WatchCourse, call: WCall<Value>, line: &[u8]) -> Result<(), Stop>
     ensures { (state : Endless Bytes) (before : ℕ)
         → IsShown watch_machine IsProper state course.old.channel → course.old.count ≡ before + 1
