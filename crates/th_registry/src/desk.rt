@@ -12,8 +12,8 @@ use crate::opening::{Found, Refusal, TopicId};
 use crate::outcome::{ChannelReply, Made, NoEvent, Unspent};
 use th_model::{Listing, Making, NameRef, Question, ReceiverVerb, SenderVerb, Short, Start};
 
-/// Topics by name. Each call but `find`, `list`, `cut`, `wake` and `would_wait` is one event, on the topic of that number
-/// or of the registry, or none; `resubscribe` is both of its events, or none. By which side of handles an event is made
+/// Topics by name. Each call but `find`, `list`, `cut`, `wake` and `ready` is one event, on the topic of that number or of
+/// the registry, or none; `resubscribe` is both of its events, or none. By which side of handles an event is made
 /// is the call's name and the type of its verb. An event's receipt is handed out, but for the end of a handle.
 pub trait Desk: Drop {
     /// A sender of a topic.
@@ -134,9 +134,11 @@ pub trait Desk: Drop {
     fn wake(&mut self)
         ensures { self.new ≡ self.old };
 
-    /// Whether the next value of this receiver has still to come, so that a verb that waits would wait now. It saves
-    /// writes, and no clause rests on it. The receiver keeps its number.
-    fn would_wait(&mut self, topic: TopicId, receiver: &mut Self::Rx) -> bool
+    /// Of this receiver's next calls by a verb that waits, how many have their answer now: 0 where the first would wait.
+    /// The caller makes `most` of them, at least one, before any other call by this receiver. So a desk may make their
+    /// events here, as many as it answers, and then hands out the receipts to those calls, in their order. It saves writes
+    /// and locks, and no clause rests on it. The receiver keeps its number.
+    fn ready(&mut self, topic: TopicId, receiver: &mut Self::Rx, most: usize) -> usize
         ensures desk { self.new ≡ self.old }
         ensures receiver { rx receiver.new ≡ rx receiver.old };
 }

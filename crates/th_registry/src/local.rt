@@ -225,7 +225,7 @@ impl Desk for LocalDesk {
 
     fn wake(&mut self) {}
 
-    fn would_wait(&mut self, _topic: TopicId, _receiver: &mut RxId) -> bool {
-        false
+    fn ready(&mut self, _topic: TopicId, _receiver: &mut RxId, most: usize) -> usize {
+        most
     }
 }

@@ -5,7 +5,9 @@ ghost use Rattle.std.specs.Prelude.{◌≡◌, true};
 /// neither call is to wait.
 ///
 /// A gate holds a line back as long as it says no: so it can set the order of the lines of several sessions. A session
-/// asks for one line at most 1,000 times, and sleeps 10 milliseconds between two times.
+/// asks for one line at most 1,000 times, and sleeps 10 milliseconds between two times. It may ask for a line before it has
+/// answered those in front, where all are the same and wait for values: those that are let through may then be carried out
+/// at once.
 pub trait Gate {
     /// Whether this line of this session may be carried out now. Lines are counted from 1.
     fn may(&self, session: u64, line: u64) -> bool;

@@ -11,11 +11,15 @@ use std::io::Write;
 use std::marker::Model;
 use std::thread::sleep;
 use std::time::{Clock, Duration};
-use th_lines::{Command, Counted, WriteBuffer, WriteFailed};
+use th_lines::{Action, Command, Counted, Intake, WriteBuffer, WriteFailed};
+use th_model::ReceiverVerb;
 use th_registry::Desk;
 
 /// How often a gate is asked for one line.
 const MOST_ASKS: u32 = 1000;
+
+/// Of how many lines that are the same the desk is asked at once, beside the first: so many events it makes under one lock.
+const MOST_AHEAD: usize = 63;
 
 /// How long a session sleeps at a gate before it asks again, in milliseconds.
 const PAUSE: u64 = 10;
@@ -31,6 +35,10 @@ pub(crate) struct Replies<'a, C, G> {
     waiting: WriteBuffer,
     // For how many lines the gate was told that their replies are written.
     told: u64,
+    // How many lines may be answered. It never changes.
+    limit: u64,
+    // How many of the next lines are the same as the last one that waits, and have their answers at the desk.
+    sure: usize,
 }
 
 impl<'a, C, G> Model for Replies<'a, C, G> {
@@ -48,6 +56,25 @@ fn tell<G: Gate>(gate: &G, session: u64, told: u64, answered: u64) {
     }
 }
 
+// Whether the command is one that waits for its answer.
+fn waits(command: &Command<'_>) -> bool {
+    matches!(
+        command,
+        Command::On(_, Action::ByReceiver(ReceiverVerb::Recv | ReceiverVerb::Changed))
+    )
+}
+
+// How many of so many lines behind the next one the gate lets through now.
+fn let_through<G: Gate>(gate: &G, session: u64, answered: u64, most: usize) -> usize {
+    for ahead in 0..most {
+        let line = answered.saturating_add(2).saturating_add(ahead as u64);
+        if !gate.may(session, line) {
+            return ahead;
+        }
+    }
+    most
+}
+
 impl<'a, C: Clock, G: Gate> Replies<'a, C, G> {
     /// Nothing waits yet.
     pub(crate) fn new(
@@ -55,6 +82,7 @@ impl<'a, C: Clock, G: Gate> Replies<'a, C, G> {
         gate: &'a G,
         session: u64,
         waiting: WriteBuffer,
+        limit: u64,
     ) -> Replies<'a, C, G>
         ensures { result ≡ waiting }
     {
@@ -64,6 +92,8 @@ impl<'a, C: Clock, G: Gate> Replies<'a, C, G> {
             session,
             waiting,
             told: 0,
+            limit,
+            sure: 0,
         }
     }
 
@@ -90,7 +120,17 @@ impl<'a, C: Clock, G: Gate> Replies<'a, C, G> {
         Ok(())
     }
 
-    /// Settles where lines were answered since and this command would wait at the desk. So many lines were answered.
+    // How many lines behind the next one are the same as it, may be answered, and are let through now, so that they will
+    // be carried out before anything else. So many lines were answered.
+    fn same_ahead(&self, intake: &Intake, answered: u64) -> usize {
+        let allowed = self.limit.saturating_sub(answered).saturating_sub(1);
+        let most = MOST_AHEAD.min(allowed as usize);
+        let same = intake.repeats(most);
+        let_through(self.gate, self.session, answered, same)
+    }
+
+    /// Settles where lines were answered since and this command would wait at the desk. So many lines were answered. Its
+    /// line is the one that was handed out last: of lines behind it that are the same the desk is asked too, once for all.
     pub(crate) fn settle_before<D: Desk, W: Write>(
         &mut self,
         session: &mut Session<D>,
@@ -98,16 +138,31 @@ impl<'a, C: Clock, G: Gate> Replies<'a, C, G> {
         writer: &mut Counted<W>,
         answered: u64,
         command: &Command<'_>,
+        intake: &Intake,
     ) -> Result<(), WriteFailed>
         ensures session { session.new ≡ session.old }
         ensures desk { desk.new ≡ desk.old }
         ensures wrote { AddsOrFails []
             (output W.contents writer.old self.old) (output W.contents writer.new self.new) result }
     {
-        if self.told < answered && session.would_wait(desk, command) {
-            return self.settle(desk, writer, answered);
+        if !waits(command) {
+            return Ok(());
         }
-        Ok(())
+        if self.sure > 0 {
+            self.sure -= 1;
+            return Ok(());
+        }
+        if self.told == answered {
+            return Ok(());
+        }
+        let same = self.same_ahead(intake, answered);
+        match session.ready(desk, command, same.saturating_add(1)) {
+            0 => self.settle(desk, writer, answered),
+            ready => {
+                self.sure = ready - 1;
+                Ok(())
+            }
+        }
     }
 
     /// Waits until the gate lets the next line through. So many lines were answered. All replies are written before

@@ -69,7 +69,8 @@ fn is_bye(answer: &Answer) -> bool
     matches!(answer, Answer::Reply(Reply::Bye))
 }
 
-// Carries out a line, and settles before one that would wait. So many lines were answered.
+// Carries out a line, and settles before one that would wait. So many lines were answered. The line is lent from the intake,
+// which shows whether the same comes next.
 #[inline(always)]
 fn answer_in_time<C: Clock, G: Gate, D: Desk, W: Write>(
     session: &mut Session<D>,
@@ -79,6 +80,7 @@ fn answer_in_time<C: Clock, G: Gate, D: Desk, W: Write>(
     writer: &mut Counted<W>,
     answered: u64,
     line: Option<&[u8]>,
+    intake: &Intake,
 ) -> Result<Answer, WriteFailed>
     ensures { AnswersInTime D.says (line_given line.entry)
         (session.old, desk.old) (session.new, desk.new)
@@ -92,7 +94,7 @@ fn answer_in_time<C: Clock, G: Gate, D: Desk, W: Write>(
         Ok(command) => command,
         Err(fault) => return Ok(refused(fault)),
     };
-    match replies.settle_before(session, desk, writer, answered, &command) {
+    match replies.settle_before(session, desk, writer, answered, &command, intake) {
         Ok(()) => Ok(session.step(desk, command)),
         Err(e) => Err(e),
     }
@@ -110,6 +112,7 @@ fn serve<C: Clock, G: Gate, D: Desk, W: Write>(
     writer: &mut Counted<W>,
     answered: u64,
     line: Option<&[u8]>,
+    intake: &Intake,
 ) -> Result<bool, SessionFault>
     ensures { Serves keeping D.says (line_given line.entry)
         (session.old, desk.old) (session.new, desk.new)
@@ -120,7 +123,9 @@ fn serve<C: Clock, G: Gate, D: Desk, W: Write>(
         Ok(()) => {}
         Err(e) => return Err(e),
     }
-    match answer_in_time(session, replies, alloc, desk, writer, answered, line) {
+    match answer_in_time(
+        session, replies, alloc, desk, writer, answered, line, intake,
+    ) {
         Ok(answer) => {
             let quits = is_bye(&answer);
             let put = replies.put(session, answer, writer);
@@ -150,7 +155,7 @@ impl<'a, D: Desk, C: Clock, G: Gate> Run<'a, D, C, G> {
         Ok(Run {
             session: Session::new(alloc),
             intake,
-            replies: Replies::new(clock, gate, number, waiting),
+            replies: Replies::new(clock, gate, number, waiting, limit),
             answered: 0,
             limit,
         })
@@ -214,6 +219,7 @@ impl<'a, D: Desk, C: Clock, G: Gate> Run<'a, D, C, G> {
             writer,
             answered,
             line,
+            &self.intake,
         ) {
             Ok(quits) => {
                 self.answered = answered + 1;
@@ -272,6 +278,7 @@ impl<'a, D: Desk, C: Clock, G: Gate> Run<'a, D, C, G> {
             writer,
             answered,
             line,
+            &self.intake,
         ) {
             Ok(_) => {
                 self.answered = answered.saturating_add(1);

@@ -16,7 +16,7 @@ use std::alloc::Global;
 use std::collections::BTreeMap;
 use std::marker::Model;
 use th_lines::{Action, Code, Command, Reply};
-use th_model::{NameRef, ReceiverVerb};
+use th_model::NameRef;
 use th_registry::channel::{TopicReceipt, TopicSegment};
 use th_registry::{Desk, TopicId};
 
@@ -107,22 +107,24 @@ fn trace<D: Desk>(
     }
 }
 
-// Whether the actor's own receiver of this topic, if there is one, has its next value still to come.
-fn would_wait<D: Desk>(
+// Of so many next calls by the actor's own receiver of this topic, how many have their answer now: all, where there is no
+// such receiver.
+fn ready<D: Desk>(
     seats: &mut BTreeMap<u64, Seats<D::Tx, D::Rx>>,
     desk: &mut D,
     topic: TopicId,
-) -> bool
+    most: usize,
+) -> usize
     ensures held { held D.tx D.rx seats.new.entries ≡ held D.tx D.rx seats.old.entries }
     ensures desk { desk.new ≡ desk.old }
 {
     let Some(seat) = seats.get_mut(&topic.0) else {
-        return false;
+        return most;
     };
     let Some(receiver) = &mut seat.receiver else {
-        return false;
+        return most;
     };
-    desk.would_wait(topic, receiver)
+    desk.ready(topic, receiver, most)
 }
 
 impl<D: Desk> Session<D> {
@@ -241,20 +243,25 @@ impl<D: Desk> Session<D> {
         }
     }
 
-    /// Whether this command would wait at the desk now: it is by the actor's receiver, it waits for a value, and that
-    /// has still to come.
-    pub(crate) fn would_wait(&mut self, desk: &mut D, command: &Command<'_>) -> bool
+    /// Of the next commands, so many of which are this one, that waits, how many have their answer now: 0 where the first
+    /// may wait. There is room then for the receipts of all that the desk was asked for, so that no command is refused whose
+    /// event the desk has made.
+    pub(crate) fn ready(&mut self, desk: &mut D, command: &Command<'_>, most: usize) -> usize
         ensures session { self.new ≡ self.old }
         ensures desk { desk.new ≡ desk.old }
     {
-        let Command::On(name, Action::ByReceiver(ReceiverVerb::Recv | ReceiverVerb::Changed)) =
-            command
-        else {
-            return false;
+        let Command::On(name, action) = command else {
+            return most;
         };
-        match desk.find(name) {
-            Some(found) => would_wait(&mut self.seats, desk, found.topic),
-            None => false,
+        let Some(found) = desk.find(name) else {
+            return most;
+        };
+        if !is_for(found.kind, action) {
+            return most;
+        }
+        match self.receipts.reserve(most) {
+            Ok(()) => ready(&mut self.seats, desk, found.topic, most),
+            Err(_) => 0,
         }
     }
 }

@@ -10,6 +10,7 @@ ghost use Rattle.th_shared.specs.Saying.{IsLast, IsNumbered, MaySay, first};
 
 use crate::event::{event, is_on, last_event, why};
 use crate::handles::{TopicReceiver, TopicSender};
+use crate::kept::Kept;
 use crate::topic::{BroadcastTopic, First};
 use std::sync::Wait;
 use th_block::{BReceiver, BSender, Handle, Replaced, Side};
@@ -60,11 +61,12 @@ pub(crate) fn ask<R: Wait>(
     }
 }
 
-/// What a receiver does.
+/// What a receiver does, where it was not done yet.
 #[inline(always)]
 pub(crate) fn receive<R: Wait>(
     rt: &R,
     topic: TopicId,
+    kept: &mut Kept,
     receiver: &mut BReceiver<Value>,
     verb: ReceiverVerb,
 ) -> Result<TopicReceipt, NoEvent>
@@ -74,6 +76,9 @@ pub(crate) fn receive<R: Wait>(
     let Some(call) = broadcast_by_receiver(verb, RxId(receiver.number())) else {
         return Err(NoEvent::WrongKind);
     };
+    if let Some(receipt) = kept.take(topic, &call) {
+        return Ok(Channel::Broadcast(receipt));
+    }
     match event(rt, topic, receiver, call) {
         Ok(receipt) => Ok(Channel::Broadcast(receipt)),
         Err(why) => Err(why),

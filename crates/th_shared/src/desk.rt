@@ -8,6 +8,7 @@ ghost use Rattle.th_shared.specs.Saying.{MaySay};
 
 use crate::ended::{Ended, end_of};
 use crate::handles::{TopicReceiver, TopicSender};
+use crate::kept::Kept;
 use crate::known::Known;
 use crate::quiet::{Quiet, hush, is_quiet, wake};
 use crate::registry::{Topics, ask, bind, end, open, owner_of, subscribe};
@@ -17,7 +18,7 @@ use std::marker::Model;
 use std::mem::replace;
 use std::sync::{Arc, Mutex, Wait};
 use th_model::{
-    BCall, Listing, Making, NameRef, Question, ReceiverVerb, RxId, SenderVerb, Short, Start, WCall,
+    Listing, Making, NameRef, Question, ReceiverVerb, RxId, SenderVerb, Short, Start, WCall,
 };
 use th_registry::channel::{TopicReceipt, TopicSegment};
 use th_registry::{Channel, ChannelReply, Desk, Found, Made, NoEvent, Refusal, TopicId, Unspent};
@@ -30,6 +31,10 @@ use th_seats::Share;
 /// `find` takes none for a topic of which this desk had a handle made. Neither is held while a receiver waits.
 ///
 /// An event of a sender wakes nobody before `wake`, which this desk calls too before it waits.
+///
+/// `ready` makes the receives of a broadcast receiver that it answers, at most 64 under one lock, and `by_receiver` hands out
+/// their receipts without it. A receiver that is spent before it was told of all of them is not told of the others: their
+/// events stand in the history, and its share counts them.
 #[derive(Drop)]
 pub struct SharedDesk<R: Wait + Clone> {
     // By which it waits.
@@ -43,6 +48,8 @@ pub struct SharedDesk<R: Wait + Clone> {
     quiet: Option<Quiet>,
     // Topics that it finds without their lock.
     known: Known,
+    // Receives that it made before they were asked for.
+    kept: Kept,
 }
 
 impl<R: Wait + Clone> Model for SharedDesk<R> {
@@ -74,6 +81,7 @@ impl<R: Wait + Clone> SharedDesk<R> {
             live: 0,
             quiet: None,
             known: Known::new(alloc),
+            kept: Kept::new(alloc),
         }
     }
 
@@ -121,6 +129,7 @@ impl<R: Wait + Clone> SharedDesk<R> {
             live,
             mut quiet,
             known,
+            kept,
         } = self;
         wake(&rt, &mut quiet);
         let count = match Arc::get_mut(&mut topics) {
@@ -133,6 +142,7 @@ impl<R: Wait + Clone> SharedDesk<R> {
                     live,
                     quiet,
                     known,
+                    kept,
                 });
             }
         };
@@ -144,6 +154,7 @@ impl<R: Wait + Clone> SharedDesk<R> {
                 live,
                 quiet,
                 known,
+                kept,
             });
         };
         match Arc::try_unwrap(topics) {
@@ -161,6 +172,7 @@ impl<R: Wait + Clone> SharedDesk<R> {
                 live,
                 quiet,
                 known,
+                kept,
             }),
         }
     }
@@ -323,14 +335,19 @@ impl<R: Wait + Clone> Desk for SharedDesk<R> {
         receiver: &mut TopicReceiver,
         verb: ReceiverVerb,
     ) -> Result<TopicReceipt, NoEvent> {
-        let SharedDesk { rt, quiet, .. } = self;
+        let SharedDesk {
+            rt,
+            quiet,
+            kept,
+            ..
+        } = self;
         match verb {
             ReceiverVerb::Recv | ReceiverVerb::Changed => wake(rt, quiet),
             _ => {}
         }
         match receiver {
             TopicReceiver::Live(Channel::Broadcast(receiver)) => {
-                broadcast::receive(rt, topic, receiver, verb)
+                broadcast::receive(rt, topic, kept, receiver, verb)
             }
             TopicReceiver::Live(Channel::Watch(reader)) => watch::receive(rt, topic, reader, verb),
             TopicReceiver::Spent(_) => Err(NoEvent::NotLive),
@@ -346,6 +363,7 @@ impl<R: Wait + Clone> Desk for SharedDesk<R> {
             rt,
             shares,
             live,
+            kept,
             ..
         } = self;
         if !make_room(shares, *live) {
@@ -353,6 +371,7 @@ impl<R: Wait + Clone> Desk for SharedDesk<R> {
         }
         let (after, said) = match replace(receiver, TopicReceiver::Spent(0)) {
             TopicReceiver::Live(Channel::Broadcast(old)) => {
+                kept.forget(topic, &old);
                 broadcast::resubscribe(rt, topic, old)
             }
             other => (other, Err(NoEvent::WrongKind)),
@@ -414,10 +433,12 @@ impl<R: Wait + Clone> Desk for SharedDesk<R> {
             rt,
             shares,
             live,
+            kept,
             ..
         } = self;
         match receiver {
             TopicReceiver::Live(Channel::Broadcast(receiver)) => {
+                kept.forget(topic, &receiver);
                 match broadcast::spend(rt, topic, receiver) {
                     Ok((share, reply)) => {
                         keep(shares, live, topic, share);
@@ -476,16 +497,20 @@ impl<R: Wait + Clone> Desk for SharedDesk<R> {
         wake(rt, quiet);
     }
 
-    fn would_wait(&mut self, _topic: TopicId, receiver: &mut TopicReceiver) -> bool {
-        let rt = &self.rt;
+    fn ready(&mut self, topic: TopicId, receiver: &mut TopicReceiver, most: usize) -> usize {
+        let SharedDesk { rt, kept, .. } = self;
         match receiver {
             TopicReceiver::Live(Channel::Broadcast(receiver)) => {
-                receiver.would_wait(rt, &BCall::Recv(RxId(receiver.number())))
+                kept.receive_ahead(rt, topic, receiver, most)
             }
             TopicReceiver::Live(Channel::Watch(reader)) => {
-                reader.would_wait(rt, &WCall::Changed(RxId(reader.number())))
+                if reader.would_wait(rt, &WCall::Changed(RxId(reader.number()))) {
+                    0
+                } else {
+                    1
+                }
             }
-            TopicReceiver::Spent(_) => false,
+            TopicReceiver::Spent(_) => most,
         }
     }
 }

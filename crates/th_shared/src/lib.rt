@@ -27,6 +27,7 @@ pub mod desk;
 pub mod ended;
 mod event;
 pub mod handles;
+mod kept;
 mod known;
 pub mod observer;
 mod quiet;

@@ -1,6 +1,6 @@
 use Rattle.std.proofs.Common.{◌≡◌, Some, refl, sym}
 use Rattle.th_session.proofs.Seating.{held-set, receiver-kept}
-use Rattle.th_session.proofs.session.would_wait.Goals as goal
+use Rattle.th_session.proofs.session.ready.Goals as goal
 
 pub returns-in_default-receiver-clause-held : goal.returns-in_default-receiver-clause-held
 returns-in_default-receiver-clause-held g c =
@@ -9,6 +9,6 @@ returns-in_default-receiver-clause-held g c =
 pub returns-clause-held : goal.returns-clause-held
 returns-clause-held g c =
     let holds : c.in-Some.seat.now.receiver ≡ Some c.in-Some-receiver.receiver = c.in-Some-receiver.is in
-    let kept = receiver-kept g.D.Desk.tx g.D.Desk.rx c.in-Some.seat.now _ c.would_wait.new.receiver holds c.would_wait.ensures.receiver in
+    let kept = receiver-kept g.D.Desk.tx g.D.Desk.rx c.in-Some.seat.now _ c.ready.new.receiver holds c.ready.ensures.receiver in
     held-set g.D.Desk.tx g.D.Desk.rx c.args.seats.now.entries _ c.args.topic.0 c.in-Some.seat.now _ (sym c.in-Some.ensures.value)
-    (c.get_mut.follows.holds (record { sender = c.in-Some.seat.now.sender; receiver = Some c.would_wait.new.receiver })).0 kept
+    (c.get_mut.follows.holds (record { sender = c.in-Some.seat.now.sender; receiver = Some c.ready.new.receiver })).0 kept
