@@ -6,7 +6,7 @@ ghost use Rattle.th_lines.specs.Reads.{Reads, rest_of};
 ghost use Rattle.th_traces.specs.BroadcastWords.{call_of, calls, gives_value, number_calls, value_given};
 ghost use Rattle.th_traces.specs.Versions.{has_call};
 
-use crate::fields::{behind, last_number, number_and_value};
+use crate::fields::{behind_letter, last_number, number_and_value};
 use crate::head::Version;
 use std::alloc::Global;
 use th_lines::LineFault;
@@ -26,7 +26,7 @@ pub fn read_broadcast_call(
 ) -> Result<BCall<Value>, LineFault>
     ensures { Reads gives_value result (call_of version line.now) }
 {
-    let Some(bytes) = behind(line, b"C ") else {
+    let Some(bytes) = behind_letter(line, b'C') else {
         return Err(LineFault::BadLine);
     };
     let (word, rest) = cut(bytes);

@@ -7,7 +7,7 @@ ghost use Rattle.th_traces.specs.BroadcastWords.{gives_value, replies, reply_of}
 
 use crate::broadcast_call::value_given;
 use crate::broadcast_reply::plain;
-use crate::fields::{behind, is_last_value};
+use crate::fields::{behind_letter, is_last_value};
 use th_lines::fields::cut;
 use th_model::{BCall, Value};
 
@@ -25,7 +25,7 @@ pub fn says_broadcast_reply(gives: bool, line: &[u8]) -> bool
     ensures { (call : BCall Bytes) → gives_value call ≡ gives
         → result ≡ is_some (reply_of call line.now) }
 {
-    let Some(bytes) = behind(line, b"R ") else {
+    let Some(bytes) = behind_letter(line, b'R') else {
         return false;
     };
     let (word, rest) = cut(bytes);

@@ -1,5 +1,5 @@
 //! The words at the front of a line, and its last fields.
-ghost use Rattle.std.specs.Prelude.{◌≡◌, ◌≢◌, ◌++◌, ℕ, List, IfOk, OnErr, Err, MatchOption, is_some};
+ghost use Rattle.std.specs.Prelude.{◌≡◌, ◌≢◌, ◌++◌, ◌∷◌, [], ℕ, List, IfOk, OnErr, Err, MatchOption, is_some};
 ghost use Rattle.std.specs.Option.{option_map};
 ghost use Rattle.th_lines.specs.Fields.{number_last, number_then, value_last};
 ghost use Rattle.th_lines.specs.Reads.{Reads, each_value, rest_of};
@@ -17,6 +17,18 @@ pub fn behind<'a>(line: &'a [u8], words: &[u8]) -> Option<&'a [u8]>
         (λ rest. line.now ≡ words.now ++ rest.now) }
 {
     line.strip_prefix(words)
+}
+
+// What stands behind this letter and a space, if the line begins with them.
+#[inline(always)]
+pub fn behind_letter(line: &[u8], letter: u8) -> Option<&[u8]>
+    ensures { MatchOption result ((rest : List ℕ) → line.now ≢ (letter ∷ 32 ∷ []) ++ rest)
+        (λ rest. line.now ≡ (letter ∷ 32 ∷ []) ++ rest.now) }
+{
+    match line {
+        [first, b' ', rest @ ..] if *first == letter => Some(rest),
+        _ => None,
+    }
 }
 
 // A number as the last field.

@@ -5,7 +5,7 @@ ghost use Rattle.th_lines.specs.Fields.{Rest, by_word};
 ghost use Rattle.th_lines.specs.Reads.{Reads, rest_of};
 ghost use Rattle.th_traces.specs.WatchWords.{call_of, calls, gives_value, number_calls, value_given};
 
-use crate::fields::{behind, last_number, number_and_value};
+use crate::fields::{behind_letter, last_number, number_and_value};
 use std::alloc::Global;
 use th_lines::LineFault;
 use th_lines::fields::cut;
@@ -20,7 +20,7 @@ use th_model::{Edit, RxId, TxId, Value, WCall};
 pub fn read_watch_call(alloc: Global, line: &[u8]) -> Result<WCall<Value>, LineFault>
     ensures { Reads gives_value result (call_of line.now) }
 {
-    let Some(bytes) = behind(line, b"C ") else {
+    let Some(bytes) = behind_letter(line, b'C') else {
         return Err(LineFault::BadLine);
     };
     let (word, rest) = cut(bytes);

@@ -5,7 +5,7 @@ ghost use Rattle.th_lines.specs.Reads.{rest_of};
 ghost use Rattle.th_traces.specs.Spelled.{Bytes};
 ghost use Rattle.th_traces.specs.WatchWords.{gives_value, replies, reply_of, shown};
 
-use crate::fields::{behind, is_last_value};
+use crate::fields::{behind_letter, is_last_value};
 use crate::watch_call::value_given;
 use crate::watch_reply::plain;
 use th_lines::fields::cut;
@@ -25,7 +25,7 @@ pub fn says_watch_reply(gives: bool, line: &[u8]) -> bool
     ensures { (call : WCall Bytes) → gives_value call ≡ gives
         → result ≡ is_some (reply_of call line.now) }
 {
-    let Some(bytes) = behind(line, b"R ") else {
+    let Some(bytes) = behind_letter(line, b'R') else {
         return false;
     };
     let (word, rest) = cut(bytes);

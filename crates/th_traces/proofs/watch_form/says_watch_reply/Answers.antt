@@ -1,4 +1,4 @@
-use Rattle.std.proofs.Common.{◌≡◌, Bool, cond, [], Option, Some, None, rules}
+use Rattle.std.proofs.Common.{◌≡◌, cond, [], Some, None, rules}
 use Rattle.std.specs.Prelude.{is_some}
 use Rattle.th_traces.specs.Tables.{by_table}
 use Rattle.th_traces.specs.WatchWords.{replies, reply_of, value_given}
