@@ -332,3 +332,14 @@ fn an_intake_is_empty_between_lines(rt: HostRuntime) -> Result<(), Fail> {
     assert!(rt; intake.last_line() && intake.is_empty());
     Ok(())
 }
+
+#[test]
+fn lines_that_come_again_are_counted(rt: HostRuntime) -> Result<(), Fail> {
+    let mut reader = Counted::new(Device::new(rt.alloc(), b"a\na\na\nb\na", 0, 100));
+    let mut intake = Intake::new(rt.alloc())?;
+    assert!(rt; intake.fill(&mut reader) == Moved::Bytes(9));
+    assert!(rt; intake.next_line() && intake.repeats(9) == 2 && intake.repeats(1) == 1);
+    assert!(rt; intake.next_line() && intake.repeats(9) == 1);
+    assert!(rt; intake.next_line() && intake.repeats(9) == 0);
+    Ok(())
+}

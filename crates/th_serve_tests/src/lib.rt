@@ -9,3 +9,5 @@ mod connections;
 mod ends;
 #[cfg(test)]
 mod peer;
+#[cfg(test)]
+mod settling;

@@ -60,7 +60,10 @@ fn tell<G: Gate>(gate: &G, session: u64, told: u64, answered: u64) {
 fn waits(command: &Command<'_>) -> bool {
     matches!(
         command,
-        Command::On(_, Action::ByReceiver(ReceiverVerb::Recv | ReceiverVerb::Changed))
+        Command::On(
+            _,
+            Action::ByReceiver(ReceiverVerb::Recv | ReceiverVerb::Changed)
+        )
     )
 }
 

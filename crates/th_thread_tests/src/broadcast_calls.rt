@@ -7,7 +7,7 @@ use std::sync::Wait;
 use th_block::{BReceiver, BSender, Resub, RingBroadcast, Shared, broadcast, broadcast_at};
 use th_glance::Glance;
 use th_log::{Logged, MakeFault, Receipt, Refused, Segment};
-use th_model::{BCall, BReply, Capacity, TxId};
+use th_model::{BCall, BReply, Capacity, RxId, TxId};
 use th_seats::Share;
 
 pub(crate) type News = RingBroadcast<u64>;
@@ -103,6 +103,21 @@ pub(crate) fn release_sender(tx: BSender<u64>) -> Share {
 pub(crate) fn drop_sender(_tx: BSender<u64>) {}
 
 // The calls of a receiver.
+
+// Receives that have their answers now, at most so many, by one lock.
+pub(crate) fn recv_ready<R: Wait>(
+    rt: &R,
+    alloc: Global,
+    rx: &mut BReceiver<u64>,
+    most: usize,
+) -> Vec<Receipt<News>> {
+    let mut receipts = Vec::new(alloc);
+    if receipts.reserve(most).is_ok() {
+        let number = rx.number();
+        rx.call_while_ready(rt, &BCall::Recv(RxId(number)), most, &mut receipts);
+    }
+    receipts
+}
 
 pub(crate) fn try_recv<R: Wait>(rt: &R, rx: &mut BReceiver<u64>) -> Answer {
     rx.try_recv(rt)

@@ -1,11 +1,12 @@
 //! Each call of each handle, once.
 use crate::broadcast_calls::{
     News, clone_tx, drop_receiver, drop_sender, finish, left, make_at, next, owner_of, queued,
-    readers, receiver_number, receiver_seen, recv, release_receiver, release_sender, resubscribe,
-    send, sender_number, sender_seen, spend_sender, subscribe, subscribe_oldest, try_recv,
+    readers, receiver_number, receiver_seen, recv, recv_ready, release_receiver, release_sender,
+    resubscribe, send, sender_number, sender_seen, spend_sender, subscribe, subscribe_oldest,
+    try_recv,
 };
 use crate::channels::{made, opened, subscribed};
-use crate::histories::{drop_log, finished, told, total};
+use crate::histories::{drop_log, finished, reply_of, told, total};
 use crate::watch_calls;
 use std::alloc::Global;
 use std::process::Abort;
@@ -79,6 +80,34 @@ fn calls_of_a_receiver(rt: HostRuntime) {
     told(&rt, recv(&rt, &mut rx), Closed);
     drop_receiver(rx);
     drop_receiver(other);
+}
+
+// So many receives by one lock were told so.
+fn are_told<R: Wait + Abort>(
+    rt: &R,
+    alloc: Global,
+    rx: &mut BReceiver<u64>,
+    most: usize,
+    replies: &[BReply<u64>],
+) {
+    let receipts = recv_ready(rt, alloc, rx, most);
+    assert_eq!(rt; receipts.len(), replies.len());
+    for (receipt, reply) in receipts.iter().zip(replies.iter()) {
+        assert_eq!(rt; reply_of(receipt), reply);
+    }
+}
+
+// What is received by one lock is what one receive after another gets.
+#[test]
+fn receives_that_are_ready(rt: HostRuntime) {
+    let mut tx = opened(&rt, rt.alloc(), 2, 30, 7);
+    let mut rx = subscribed(&rt, &mut tx);
+    sends(&rt, &mut tx, &[1, 2, 3], 1);
+    are_told(&rt, rt.alloc(), &mut rx, 2, &[Lagged(1), Value(2)]);
+    are_told(&rt, rt.alloc(), &mut rx, 9, &[Value(3)]);
+    are_told(&rt, rt.alloc(), &mut rx, 9, &[]);
+    drop_receiver(rx);
+    drop_sender(tx);
 }
 
 // `next` gives what `recv` gives.
