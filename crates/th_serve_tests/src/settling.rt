@@ -1,4 +1,5 @@
-//! A session over memory, at a desk that threads share, which ends well whichever one request for memory is refused.
+//! A session over memory, at a desk that threads share, which ends well whichever one request for memory is refused:
+//! `checks/allocations` refuses each in turn.
 use std::alloc::Global;
 use std::process::Abort;
 use std::sync::Wait;

@@ -197,7 +197,8 @@ pub(crate) fn resubscribe<R: Wait>(
     TopicReceiver,
     Result<(Made<TopicReceiver>, Option<Share>), NoEvent>,
 )
-    ensures event { MaySay (On topic.0 (Resubscribes (rx old))) (made_rx receiver (first result.1)) }
+    ensures event { MaySay (On topic.0 (Resubscribes (rx old)))
+        (made_rx receiver (first result.1)) }
     ensures number { receiver result.0 ≡ rx old }
 {
     let number = old.number();
