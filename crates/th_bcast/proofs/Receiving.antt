@@ -1,5 +1,5 @@
 -- A receive leaves a sound picture, and asks for memory where a value is to be read.
-use Rattle.std.proofs.Common.{◌≡◌, ℕ, ◌+◌, ◌-◌, ◌<◌, ◌≤◌, false, eqb, ltb, Some, slice_get, refl, ap, ◌∙◌, arith}
+use Rattle.std.proofs.Common.{◌≡◌, ℕ, ◌+◌, ◌-◌, ◌<◌, ◌≤◌, true, false, eqb, ltb, Some, slice_get, refl, ap, ◌∙◌, arith}
 use Rattle.std.proofs.lemmas.Bool.Decides.{nat_tests}
 use Rattle.th_model.specs.declared.handles.RxId.{RxId}
 use Rattle.th_model.specs.declared.broadcast.BCall.TheVariants.{TryRecv}
@@ -13,6 +13,7 @@ use Rattle.th_model.proofs.BroadcastSoundness.{sound-placed}
 use Rattle.th_shelf.specs.declared.received.Received.{Received}
 use Rattle.th_shelf.specs.declared.received.Received.TheVariants.{Nobody, Nothing, Missed, Value}
 use Rattle.th_shelf.specs.Receiving.{Receives}
+use Rattle.th_bcast.specs.Telling.{reply_to}
 
 module _ {T : Type 0} (p : Picture T) (s : IsSound p) (rx : RxId) where
   -- the answer to a receiver at this place
@@ -42,6 +43,20 @@ module _ {T : Type 0} (p : Picture T) (s : IsSound p) (rx : RxId) where
       let inside : p.window.tail - p.window.capacity ≤ r.at = r.stands.in_window in
       let before : r.at < p.window.tail = r.stands.sent in
       rw r.moved (sound-placed p s rx.0 (r.at + 1) (rw r.stands.place refl) (omega arith) (omega arith))
+
+  -- the answer to a receive that finds this
+  pub received-answer : (found : Received T) (w' : Window T) → Receives p.window rx.0 found w'
+      → answer p (TryRecv rx) ≡ (reply_to p.senders found, with_window p w')
+  received-answer Nobody w' r = rw (r.1, r.0) refl
+  received-answer Nothing w' r =
+      let same : eqb p.window.tail p.window.tail ≡ true = grind (arith, nat_tests) in
+      rw (r.1, r.0, same) refl
+  received-answer (Missed n) w' r =
+      let behind : r.from < p.window.tail - p.window.capacity = r.behind in
+      let apart : eqb r.from p.window.tail ≡ false = grind (arith, nat_tests) in
+      let before : ltb r.from (p.window.tail - p.window.capacity) ≡ true = grind (arith, nat_tests) in
+      rw (r.moved, r.count, r.place, apart, before) refl
+  received-answer (Value v) w' r = rw r.moved (at r.at r.stands.place ∙ reads r.at r.stands ∙ rw r.here refl)
 
   -- memory is asked for where a value is to be read
   pub reading-asks : (i : ℕ) → IsToRead p.window rx.0 i → TakesMemory (answer p (TryRecv rx)).0

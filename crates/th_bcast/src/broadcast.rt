@@ -144,6 +144,24 @@ impl<T: Clone, S: Shelf<T> + Drop> Broadcast<T, S> {
         Ok(told(found, self.senders.is_empty()))
     }
 
+    /// What `try_recv` and `recv` would answer, twice: a value stands in the second reply as a copy. It
+    /// is for whoever notes each reply. The receiver's place is found once.
+    #[inline(always)]
+    pub fn receive_twice(&mut self, rx: RxId) -> Result<(BReply<T>, BReply<T>), Short<RxId>>
+        requires { ClonesAreEqual T.is_clone }
+        ensures step { IfOk result (λ r. answer self.old (TryRecv rx) ≡ (r.0, self.new)) }
+        ensures waited { IfOk result (λ r. answer self.old (Recv rx) ≡ (r.0, self.new)) }
+        ensures again { IfOk result (λ r. r.1 ≡ r.0) }
+        ensures short { IfErr result (λ short. (short.call ≡ rx) × (self.new ≡ self.old)) }
+    {
+        let Ok((found, copy)) = self.shelf.receive_with_copy(rx, true) else {
+            return Err(Short { call: rx });
+        };
+        let closed = self.senders.is_empty();
+        let again = found.again(copy);
+        Ok((told(found, closed), told(again, closed)))
+    }
+
     /// The next value, in the order sent. A receiver that is behind the window is told `Lagged`
     /// with the number of values that it missed, and goes on at the oldest of the window. With
     /// nothing to come it is `Empty`, or `Closed` where no sender is left.

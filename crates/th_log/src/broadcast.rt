@@ -115,13 +115,31 @@ impl<T: Clone, S: Shelf<T> + Drop> Object for Broadcast<T, S> {
         Broadcast::foresee(self, call)
     }
 
-    // The calls that are made most often are compiled each for itself.
+    // A receive tells its reply twice, so that the receiver's place is found once. A send is compiled for itself.
     #[inline(always)]
     fn event(&mut self, call: BCall<T>) -> Result<Event<BCall<T>, BReply<T>>, Short<BCall<T>>> {
         match call {
             BCall::Send(tx, value) => noted(self, BCall::Send(tx, value)),
-            BCall::TryRecv(rx) => noted(self, BCall::TryRecv(rx)),
-            BCall::Recv(rx) => noted(self, BCall::Recv(rx)),
+            BCall::TryRecv(rx) => match self.receive_twice(rx) {
+                Ok((reply, again)) => Ok(Event {
+                    entry: (BCall::TryRecv(rx), again),
+                    call: BCall::TryRecv(rx),
+                    reply,
+                }),
+                Err(_) => Err(Short {
+                    call: BCall::TryRecv(rx),
+                }),
+            },
+            BCall::Recv(rx) => match self.receive_twice(rx) {
+                Ok((reply, again)) => Ok(Event {
+                    entry: (BCall::Recv(rx), again),
+                    call: BCall::Recv(rx),
+                    reply,
+                }),
+                Err(_) => Err(Short {
+                    call: BCall::Recv(rx),
+                }),
+            },
             other => noted(self, other),
         }
     }

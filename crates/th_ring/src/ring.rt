@@ -20,7 +20,7 @@ use th_shelf::{Received, Shelf, WindowParts};
 /// and none of them looks at another receiver or at the window. `leave` and `join_oldest` are linear in
 /// the kept values that the receiver has still to read. `reader_at(k)` is linear in `k`. `from_window`
 /// counts the places for each kept value. All slots are made with the shelf: afterwards only `join`
-/// and `join_oldest` take memory, and a read that is not the last one, for its clone.
+/// and `join_oldest` take memory, and a read for its clones: the last one of a value needs none.
 #[derive(Drop)]
 pub struct RingShelf<T> {
     // The most values that are kept: a power of two, and the number of slots. It never changes.
@@ -292,24 +292,29 @@ impl<T: Clone> Shelf<T> for RingShelf<T> {
     }
 
     // Who skips to the window's beginning had all of the window to come, and has it still.
-    fn receive(&mut self, rx: RxId) -> Result<Received<T>, Short<RxId>> {
+    #[inline(always)]
+    fn receive_with_copy(
+        &mut self,
+        rx: RxId,
+        wanted: bool,
+    ) -> Result<(Received<T>, Option<T>), Short<RxId>> {
         let Some(place) = self.places.get_mut(&rx.0) else {
-            return Ok(Received::Nobody);
+            return Ok((Received::Nobody, None));
         };
         let at = *place;
         if at == self.tail {
-            return Ok(Received::Nothing);
+            return Ok((Received::Nothing, None));
         }
         let first = self.tail.saturating_sub(self.capacity);
         if at < first {
-            return Ok(Received::Missed(skip_to(place, first)));
+            return Ok((Received::Missed(skip_to(place, first)), None));
         }
         let index = low_bits(at, self.capacity);
-        let Ok(value) = read(&mut self.slots[index]) else {
+        let Ok((value, copy)) = read(&mut self.slots[index], wanted) else {
             return Err(Short { call: rx });
         };
         *place += 1;
-        Ok(Received::Value(value))
+        Ok((Received::Value(value), copy))
     }
 
     fn jump(&mut self, rx: RxId) -> u64 {

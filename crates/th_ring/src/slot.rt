@@ -1,9 +1,10 @@
 //! A slot of the ring.
-ghost use Rattle.std.specs.Prelude.{◌≡◌, ◌+◌, ◌<◌, ◌^◌, ℕ, Some, IsSome, IsOk, IfOk, OnOk, OnErr};
+ghost use Rattle.std.specs.Prelude.{◌≡◌, ◌+◌, ◌<◌, ◌^◌, ℕ, Some, IsSome, IsOk, IfOk, OnOk, OnErr, IsTrue, false};
 ghost use Rattle.th_model.specs.Limits.{ClonesAreEqual};
 ghost use Rattle.th_ring.specs.Slot.{less_one, more_one};
 
 use std::alloc::AllocError;
+use th_shelf::received::copy_of;
 
 /// What stands at a position.
 #[derive(Drop)]
@@ -34,32 +35,36 @@ pub fn wait<T>(slot: &mut Slot<T>)
     slot.to_come += 1;
 }
 
-// One receiver reads the value: the last one takes it, and each other a clone.
-pub fn read<T: Clone>(slot: &mut Slot<T>) -> Result<T, AllocError>
+// One receiver reads the value: the last one takes it, and each other a clone. Where it is wanted, a
+// copy comes beside it.
+#[inline(always)]
+pub fn read<T: Clone>(slot: &mut Slot<T>, wanted: bool) -> Result<(T, Option<T>), AllocError>
     requires clones { ClonesAreEqual T.is_clone }
     requires waits { 0 < slot.old.to_come }
     requires there { IsSome slot.old.value }
-    ensures value { IfOk result (λ value. slot.old.value ≡ Some value) }
+    ensures value { IfOk result (λ r. slot.old.value ≡ Some r.0) }
+    ensures copy { IfOk result (λ r. IsTrue wanted → r.1 ≡ Some r.0) }
     ensures ok { OnOk result (slot.new ≡ less_one slot.old) }
     ensures short { OnErr result (slot.new ≡ slot.old) }
-    ensures last { slot.old.to_come ≡ 1 → IsOk result }
+    ensures last { wanted ≡ false → slot.old.to_come ≡ 1 → IsOk result }
 {
+    let Some(kept) = &slot.value else {
+        unreachable!()
+    };
+    let Ok(copy) = copy_of(kept, wanted) else {
+        return Err(AllocError);
+    };
     if slot.to_come == 1 {
         slot.to_come = 0;
         match slot.value.take() {
-            Some(value) => Ok(value),
+            Some(value) => Ok((value, copy)),
             None => unreachable!(),
         }
     } else {
-        match &slot.value {
-            Some(value) => {
-                let Ok(value) = value.clone() else {
-                    return Err(AllocError);
-                };
-                slot.to_come -= 1;
-                Ok(value)
-            }
-            None => unreachable!(),
-        }
+        let Ok(value) = kept.clone() else {
+            return Err(AllocError);
+        };
+        slot.to_come -= 1;
+        Ok((value, copy))
     }
 }

@@ -29,6 +29,13 @@ module _ {T : Type 0} where
   Receives w rx (Missed n) w' = Skips w rx n w'
   Receives w rx (Value v) w' = Reads w rx v w'
 
+  -- the value that was found
+  abbrev pub value_found : Received T → Option T
+  value_found Nobody = None
+  value_found Nothing = None
+  value_found (Missed _) = None
+  value_found (Value v) = Some v
+
 -- the receivers whose numbers are above this one, or all, each with its place
 abbrev pub above : Option ℕ → Places → Places
 above None places = places

@@ -1,5 +1,4 @@
-use Rattle.std.proofs.Common.{◌≡◌, ◌∷◌, ◌+◌, arith}
-use Rattle.th_model.specs.Places.{to_come}
+use Rattle.std.proofs.Common.{arith}
 use Rattle.th_ring.proofs.Counts.{counts-one, to_come-le}
 use Rattle.th_ring.proofs.ring.count_to_come.Goals as goal
 

@@ -1,4 +1,4 @@
-use Rattle.std.proofs.Common.{◌≡◌, ◌+◌, ◌-◌, ◌<◌, length, drop, slice_get, sym, ap, ◌∙◌, arith}
+use Rattle.std.proofs.Common.{◌≡◌, ◌+◌, ◌-◌, ◌<◌, length, drop, slice_get, ap, ◌∙◌, arith}
 use Rattle.std.proofs.lemmas.List.{length-set, length-drop, drop-drop}
 use Rattle.th_model.proofs.WindowLemmas.{slice_get-drop}
 use Rattle.th_ring.specs.Ring.{filled_slot}

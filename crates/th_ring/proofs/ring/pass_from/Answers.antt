@@ -1,4 +1,4 @@
-use Rattle.std.proofs.Common.{ℕ, ap, ◌∙◌, arith}
+use Rattle.std.proofs.Common.{ap, ◌∙◌, arith}
 use Rattle.std.proofs.lemmas.List.{length-set}
 use Rattle.th_ring.specs.Slot.{less_one}
 use Rattle.th_ring.specs.Ring.{slot_at}

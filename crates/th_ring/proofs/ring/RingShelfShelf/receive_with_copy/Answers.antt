@@ -1,13 +1,13 @@
-use Rattle.std.proofs.Common.{◌≡◌, ◌+◌, ◌-◌, ◌<◌, ◌≤◌, ℕ, List, length, set, Some, refl, sym, ap, ◌∙◌, arith}
+use Rattle.std.proofs.Common.{◌≡◌, ◌+◌, ◌-◌, ◌<◌, ◌≤◌, set, Some, refl, sym, ap, ◌∙◌, arith}
 use Rattle.std.specs.Ordering.{nat_cmp}
 use Rattle.std.specs.BTreeMap.{is_at}
 use Rattle.std.proofs.lemmas.List.{set-get_or}
 use Rattle.std.proofs.lemmas.Map.Steps.{set_value_same}
-use Rattle.th_model.specs.Places.{Places, place_of, with_place}
+use Rattle.th_model.specs.Places.{Places, place_of}
 use Rattle.th_model.proofs.PlaceLemmas.{all-at}
 use Rattle.th_shelf.proofs.Written.{rising_from_sorted, set_value-with}
 use Rattle.th_ring.proofs.Calls.{ring_jumped, window_jumped, ring_taken, window_taken, value_taken, value_there, count_at, slot_is, slots_are, waited}
-use Rattle.th_ring.proofs.ring.RingShelfShelf.receive.Goals as goal
+use Rattle.th_ring.proofs.ring.RingShelfShelf.receive_with_copy.Goals as goal
 
 pub invariant_of-self-then-at-self : goal.invariant_of-self-then-at-self
 invariant_of-self-then-at-self g c =
@@ -133,14 +133,14 @@ overflow_add-place g c =
     omega (arith, before, c.self.ranges)
 
 pub returns-in_default-read-clause-last : goal.returns-in_default-read-clause-last
-returns-in_default-read-clause-last g c = λ sure last.
+returns-in_default-read-clause-last g c = λ alone sure last.
     let ps : Places = c.self.inside.places.entries in
     let here : place_of ps c.args.rx.0 ≡ Some c.in-Some.place.now = sym c.in-Some.ensures.value in
     let le : c.in-Some.place.now ≤ c.self.inside.tail = all-at (λ i. i ≤ c.self.inside.tail) ps c.args.rx.0 _ c.self.invariant.places_in here in
     let before : c.in-Some.place.now < c.self.inside.tail = omega (arith, le, c.if-at-self.false) in
     let inside : c.self.inside.tail - c.self.inside.capacity ≤ c.in-Some.place.now = omega (arith, c.if-at-first.false, c.saturating_sub-first.ensures) in
-    let alone = rw (← c.self.view_is) at last in
-    let one = alone c.in-Some.place.now (record { place = here; in_window = inside; sent = before }) in
+    let only = rw (← c.self.view_is) at last in
+    let one = only c.in-Some.place.now (record { place = here; in_window = inside; sent = before }) in
     let count = count_at c.self.inside.capacity c.self.inside.tail c.self.inside.slots.items c.self.inside.places.entries c.self.invariant c.in-Some.place.now c.low_bits-index.result c.index_mut.result.now c.low_bits-index.ensures c.index_mut.ensures.value (omega arith) before in
-    let ok = c.read.ensures.last (count ∙ one) in
+    let ok = c.read.ensures.last alone (count ∙ one) in
     rw c.in_default-read.is at ok

@@ -6,7 +6,7 @@ use Rattle.th_model.specs.Places.{Places, place_of}
 use Rattle.th_model.proofs.PlaceLemmas.{all-at}
 use Rattle.th_shelf.proofs.Trimming.{low_at, read_trim, read_window, jumped_trim, jumped_window}
 use Rattle.th_shelf.proofs.Written.{rising_from_sorted, set_value-with}
-use Rattle.th_shelf.proofs.plain.PlainShelfShelf.receive.Goals as goal
+use Rattle.th_shelf.proofs.plain.PlainShelfShelf.receive_with_copy.Goals as goal
 
 pub invariant_of-self-then-at-self : goal.invariant_of-self-then-at-self
 invariant_of-self-then-at-self g c =
