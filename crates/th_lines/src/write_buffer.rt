@@ -124,6 +124,11 @@ impl WriteBuffer {
         append_pieces(&mut self.waiting, &mut self.retries, writer, lines)
     }
 
+    /// Whether one line more goes in without a write. No clause says so: when bytes are written, none rests on.
+    pub fn has_room(&self) -> bool {
+        self.waiting.capacity() - self.waiting.len() >= LINE_ROOM
+    }
+
     /// Writes all that waits and flushes the writer, so that whoever reads the replies has them all. Where nothing
     /// waits the writer is not called.
     ///

@@ -119,7 +119,7 @@ Replies, one for each line:
   YES, NO               HAS: unseen, or seen; EDIT: published, or not
   CHANGED               the newest value was unseen, and is seen now
   BYE                   QUIT: the actor holds nothing any more
-  ERR code word         refused, and nothing changed
+  ERR code word         refused, and nothing changed (17 and 20 are logged)
 
 Refusals:
   10 bad-line           the line is no actor and command

@@ -4,16 +4,16 @@ ghost use Rattle.std.specs.Prelude.{◌≡◌, true};
 /// Lets the lines of sessions through, one by one, and is told of their replies. A session asks and tells often, so
 /// neither call is to wait.
 ///
-/// A gate holds a line back as long as it says no: so it can set the order of the lines of several sessions. A session
-/// asks for one line at most 1,000 times, and sleeps 10 milliseconds between two times. It may ask for a line before it has
-/// answered those in front, where all are the same and wait for values: those that are let through may then be carried out
-/// at once.
+/// A gate holds a line back as long as it says no: so it can set the order of the lines of several sessions. Once it has
+/// let a line through it is to go on saying so, since a session may ask again. A session asks for the line that comes next
+/// at most 1,000 times, and sleeps 10 milliseconds between two times. It may ask for a line before it has answered those in
+/// front, where all are the same and wait for values, once more: those that are let through may then be carried out at once.
 pub trait Gate {
     /// Whether this line of this session may be carried out now. Lines are counted from 1.
     fn may(&self, session: u64, line: u64) -> bool;
 
     /// The reply to this line of this session is written and flushed. This comes once for each line that was carried
-    /// out, in their order, but for those whose replies were not written since the writer failed.
+    /// out, in their order; after a failed write it comes no more.
     fn answered(&self, session: u64, line: u64);
 }
 

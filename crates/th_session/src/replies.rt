@@ -11,7 +11,7 @@ use std::io::Write;
 use std::marker::Model;
 use std::thread::sleep;
 use std::time::{Clock, Duration};
-use th_lines::{Action, Command, Counted, Intake, WriteBuffer, WriteFailed};
+use th_lines::{Action, Command, Counted, Intake, Reply, WriteBuffer, WriteFailed};
 use th_model::ReceiverVerb;
 use th_registry::Desk;
 
@@ -65,6 +65,19 @@ fn waits(command: &Command<'_>) -> bool {
             Action::ByReceiver(ReceiverVerb::Recv | ReceiverVerb::Changed)
         )
     )
+}
+
+// Whether the command is one that takes the next value. Of a version there is at most one to wait for.
+fn takes_a_value(command: &Command<'_>) -> bool {
+    matches!(
+        command,
+        Command::On(_, Action::ByReceiver(ReceiverVerb::Recv))
+    )
+}
+
+// Whether the answer may be longer than a line.
+fn has_lines(answer: &Answer) -> bool {
+    matches!(answer, Answer::Trace | Answer::Reply(Reply::Topics(_)))
 }
 
 // How many of so many lines behind the next one the gate lets through now.
@@ -158,7 +171,11 @@ impl<'a, C: Clock, G: Gate> Replies<'a, C, G> {
         if self.told == answered {
             return Ok(());
         }
-        let same = self.same_ahead(intake, answered);
+        let same = if takes_a_value(command) {
+            self.same_ahead(intake, answered)
+        } else {
+            0
+        };
         match session.ready(desk, command, same.saturating_add(1)) {
             0 => self.settle(desk, writer, answered),
             ready => {
@@ -197,18 +214,24 @@ impl<'a, C: Clock, G: Gate> Replies<'a, C, G> {
         Err(SessionFault::Gate)
     }
 
-    /// Puts the text of the answer that the session was given last behind what waits.
+    /// Puts the text of the answer that the session was given last behind what waits. Where that may write, who waits for
+    /// what was done is woken before: a peer that does not read may hold the write up.
     #[inline(always)]
     pub(crate) fn put<D: Desk, W: Write>(
         &mut self,
         session: &Session<D>,
         answer: Answer,
+        desk: &mut D,
         writer: &mut Counted<W>,
     ) -> Result<(), WriteFailed>
-        ensures { PutsTold answer session.now
+        ensures desk { desk.new ≡ desk.old }
+        ensures told { PutsTold answer session.now
             (output W.contents writer.old self.old) (output W.contents writer.new self.new) result }
     {
         let waiting = &mut self.waiting;
+        if !waiting.has_room() || has_lines(&answer) {
+            desk.wake();
+        }
         session.put_answer(answer, waiting, writer)
     }
 }

@@ -128,7 +128,7 @@ fn serve<C: Clock, G: Gate, D: Desk, W: Write>(
     ) {
         Ok(answer) => {
             let quits = is_bye(&answer);
-            let put = replies.put(session, answer, writer);
+            let put = replies.put(session, answer, desk, writer);
             session.let_go(keeping);
             match put {
                 Ok(()) => Ok(quits),
@@ -388,10 +388,11 @@ fn is_whole(fault: Option<SessionFault>) -> bool
 /// handed out holds none, and has the receipts and the segments that it was answered ([`Session::parts`]), if they are
 /// kept.
 ///
-/// Lines that come together are carried out together, and their replies are written in one piece: before each read,
-/// before a command that would wait at the desk, before each sleep at the gate, and at the end. So no reply is held back
-/// while the session waits for anything. Each time the desk wakes who waits for what was done, and the gate is told of
-/// each line whose reply is written.
+/// Lines that come together are carried out together, and their replies are written together: before each read, before a
+/// command that would wait at the desk, before each sleep at the gate, at the end, and whenever 60 KiB of them wait. So no
+/// reply is held back while the session waits for anything. Before each write, and once all handles are spent, the desk
+/// wakes who waits for what was done: so a peer that does not read holds up nobody else. The gate is told of each line whose
+/// reply is written, but where 60 KiB waited, by the next of the other writes.
 ///
 /// It answers at most 1,000,000 lines and makes at most 2^32 reads, of which an interrupted one is made again and
 /// counts; at most 1,000 interrupted writes and flushes are made again. All its buffers, 132 KiB, are made at the start;
@@ -427,5 +428,6 @@ pub fn run_session<C: Clock, R: Read, W: Write, D: Desk, G: Gate>(
     let fault = run.go(alloc, keeping, reader, writer, desk, MOST_READS);
     let mut session = run.into_session();
     session.spend_all(desk);
+    desk.wake();
     (session, fault)
 }

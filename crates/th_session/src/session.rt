@@ -147,7 +147,7 @@ impl<D: Desk> Session<D> {
         self.receipts.as_slice()
     }
 
-    /// The last one.
+    /// The receipt of the last event that the actor was told of, if there was one.
     pub fn last_receipt(&self) -> Option<&TopicReceipt>
         ensures { option_copied result ≡ last_of self.now.receipts }
     {
@@ -164,7 +164,7 @@ impl<D: Desk> Session<D> {
         self.segments.as_slice()
     }
 
-    /// The last one.
+    /// The segment that the actor was answered last, if there was one.
     pub fn last_segment(&self) -> Option<&TopicSegment>
         ensures { option_copied result ≡ last_of self.now.segments }
     {

@@ -374,7 +374,13 @@ impl<R: Wait + Clone> Desk for SharedDesk<R> {
                 kept.forget(topic, &old);
                 broadcast::resubscribe(rt, topic, old)
             }
-            other => (other, Err(NoEvent::WrongKind)),
+            TopicReceiver::Live(Channel::Watch(reader)) => (
+                TopicReceiver::Live(Channel::Watch(reader)),
+                Err(NoEvent::WrongKind),
+            ),
+            TopicReceiver::Spent(number) => {
+                (TopicReceiver::Spent(number), Err(NoEvent::NotLive))
+            }
         };
         *receiver = after;
         match said {

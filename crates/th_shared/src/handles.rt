@@ -1,7 +1,4 @@
 //! The handles of a topic that threads share.
-ghost use Rattle.std.specs.Prelude.{◌≡◌, Some};
-ghost use Rattle.th_shared.specs.Numbers.{number_of};
-
 use th_block::{BReceiver, BSender, WReader, WSender};
 use th_model::Value;
 use th_registry::Channel;
@@ -19,14 +16,4 @@ pub enum TopicReceiver {
     Live(LiveReceiver),
     /// It was spent when another began in its place, and this was its number.
     Spent(u64),
-}
-
-/// The number of a live receiver.
-pub(crate) fn number_of(receiver: &LiveReceiver) -> u64
-    ensures { result ≡ number_of receiver.now }
-{
-    match receiver {
-        Channel::Broadcast(receiver) => receiver.number(),
-        Channel::Watch(reader) => reader.number(),
-    }
 }

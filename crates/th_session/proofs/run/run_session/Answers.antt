@@ -16,9 +16,9 @@ pub returns : goal.returns
 returns g c =
     let kept = c.into_session-session.ensures in
     let end = c.spend_all.ensures in
-    record {
+    rw c.wake.ensures (record {
       last = (c.go-fault.new.self.kept, c.go-fault.new.desk);
       ran = c.go-fault.ensures;
       spent = subst (λ (k : Kept). Plays g.D.Desk.says (spend_all k.handles) c.go-fault.new.desk (Replied Bye) [] c.spend_all.new.desk) kept end.spent;
       kept = end.none ∙ ap (λ (k : Kept). record k { handles = [] }) kept;
-    }
+    })

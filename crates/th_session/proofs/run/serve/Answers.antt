@@ -14,11 +14,11 @@ returns-in-Err-answer_in_time g c =
 pub returns-in-Ok-put : goal.returns-in-Ok-put
 returns-in-Ok-put g c =
     let answered = c.in-Ok-answer_in_time.ensures in
-    carries c.args.keeping g.D.Desk.says (line_given c.args.line) c.args.session.now c.args.desk.now c.enter.new.desk _ _ _ _ c.in-Ok.ensures.desk c.in-Ok.ensures.wrote _
-    c.in-Ok-answer_in_time.answer answered.0 answered.1 c.let_go.new.self c.let_go.ensures c.is_bye-quits.result c.is_bye-quits.ensures c.in-Ok-put.ensures
+    rw c.in-Ok-put.ensures.desk (carries c.args.keeping g.D.Desk.says (line_given c.args.line) c.args.session.now c.args.desk.now c.enter.new.desk _ _ _ _ c.in-Ok.ensures.desk c.in-Ok.ensures.wrote _
+    c.in-Ok-answer_in_time.answer answered.0 answered.1 c.let_go.new.self c.let_go.ensures c.is_bye-quits.result c.is_bye-quits.ensures c.in-Ok-put.ensures.told)
 
 pub returns-in-Err-put : goal.returns-in-Err-put
 returns-in-Err-put g c =
     let answered = c.in-Ok-answer_in_time.ensures in
-    carries_broken c.args.keeping g.D.Desk.says (line_given c.args.line) c.args.session.now c.args.desk.now c.enter.new.desk _ _ _ _ c.in-Ok.ensures.desk c.in-Ok.ensures.wrote _
-    c.in-Ok-answer_in_time.answer answered.0 answered.1 c.let_go.new.self c.let_go.ensures c.in-Err-put.ensures
+    rw c.in-Err-put.ensures.desk (carries_broken c.args.keeping g.D.Desk.says (line_given c.args.line) c.args.session.now c.args.desk.now c.enter.new.desk _ _ _ _ c.in-Ok.ensures.desk c.in-Ok.ensures.wrote _
+    c.in-Ok-answer_in_time.answer answered.0 answered.1 c.let_go.new.self c.let_go.ensures c.in-Err-put.ensures.told)

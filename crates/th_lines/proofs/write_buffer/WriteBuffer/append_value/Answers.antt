@@ -1,4 +1,4 @@
-use Rattle.std.proofs.Common.{◌≡◌, ℕ, List, ◌++◌, subst, sym}
+use Rattle.std.proofs.Common.{ℕ, List, ◌++◌, subst, sym}
 use Rattle.th_lines.specs.Output.{Adds, Output, WritesFront, output}
 use Rattle.th_lines.specs.Replies.{ended, head, spell, telling}
 use Rattle.th_lines.proofs.OutputLemmas.{adds_first, front_all}
