@@ -62,8 +62,8 @@ fn attend<R: Threads + Wait + Clock + Clone + Send + Sync + Print + Eprint>(
     }
 }
 
-/// Makes a socket at the path, where nothing stands yet, and serves so many connections. Afterwards nothing stands there
-/// any more.
+/// Makes a socket at the path, serves so many connections, and removes the socket. Where something stands at the path already it
+/// stays, and nobody is served.
 pub fn serve<R: Threads + Wait + Clock + Clone + Send + Sync + Print + Eprint + Files + Net>(
     rt: &R,
     alloc: Global,

@@ -10,7 +10,7 @@ ghost use Rattle.th_shared.specs.Saying.{IsLast, IsNumbered, MaySay, first};
 
 use crate::event::{event, is_on, last_event, why};
 use crate::handles::{TopicReceiver, TopicSender};
-use crate::kept::Kept;
+use crate::received_ahead::ReceivedAhead;
 use crate::topic::{BroadcastTopic, First};
 use std::sync::Wait;
 use th_block::{BReceiver, BSender, Handle, Replaced, Side};
@@ -66,7 +66,7 @@ pub(crate) fn ask<R: Wait>(
 pub(crate) fn receive<R: Wait>(
     rt: &R,
     topic: TopicId,
-    kept: &mut Kept,
+    ahead: &mut ReceivedAhead,
     receiver: &mut BReceiver<Value>,
     verb: ReceiverVerb,
 ) -> Result<TopicReceipt, NoEvent>
@@ -76,7 +76,7 @@ pub(crate) fn receive<R: Wait>(
     let Some(call) = broadcast_by_receiver(verb, RxId(receiver.number())) else {
         return Err(NoEvent::WrongKind);
     };
-    if let Some(receipt) = kept.take(topic, &call) {
+    if let Some(receipt) = ahead.take(topic, &call) {
         return Ok(Channel::Broadcast(receipt));
     }
     match event(rt, topic, receiver, call) {

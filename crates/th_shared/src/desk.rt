@@ -6,12 +6,12 @@ ghost use Rattle.th_registry.specs.Typed.{replied};
 ghost use Rattle.th_shared.specs.Numbers.{number_of, receiver, sender};
 ghost use Rattle.th_shared.specs.Saying.{MaySay};
 
+use crate::deferred_wake::{DeferredWake, defer, is_deferred, wake};
 use crate::ended::{Ended, end_of};
 use crate::handles::{TopicReceiver, TopicSender};
-use crate::kept::Kept;
-use crate::known::Known;
-use crate::quiet::{Quiet, hush, is_quiet, wake};
+use crate::received_ahead::ReceivedAhead;
 use crate::registry::{Topics, ask, bind, end, open, owner_of, subscribe};
+use crate::topic_cache::TopicCache;
 use crate::{broadcast, watch};
 use std::alloc::Global;
 use std::marker::Model;
@@ -30,7 +30,8 @@ use th_seats::Share;
 /// one by the hub's own sender the lock of the topics too; `list`, `open_topic` and `find` take the latter alone, but that
 /// `find` takes none for a topic of which this desk had a handle made. Neither is held while a receiver waits.
 ///
-/// An event of a sender wakes nobody before `wake`, which this desk calls too before it waits.
+/// An event of a sender wakes nobody before `wake`. The desk wakes too before it waits, before it goes to another channel, and
+/// where it is given up (`into_shares`, `finish`).
 ///
 /// `ready` makes the receives of a broadcast receiver that it answers, at most 64 under one lock, and `by_receiver` hands out
 /// their receipts without it. A receiver that is spent before it was told of all of them is not told of the others: their
@@ -45,11 +46,11 @@ pub struct SharedDesk<R: Wait + Clone> {
     // How many handles were made through this desk, and not spent through it.
     live: usize,
     // The channel of which it made events that woke nobody yet.
-    quiet: Option<Quiet>,
+    deferred: Option<DeferredWake>,
     // Topics that it finds without their lock.
-    known: Known,
+    cache: TopicCache,
     // Receives that it made before they were asked for.
-    kept: Kept,
+    ahead: ReceivedAhead,
 }
 
 impl<R: Wait + Clone> Model for SharedDesk<R> {
@@ -60,7 +61,7 @@ impl<R: Wait + Clone> Model for SharedDesk<R> {
 }
 
 impl<R: Wait + Clone> SharedDesk<R> {
-    /// No topic.
+    /// The first owner of topics, of which there are none yet, that waits by `rt`.
     ///
     /// # Errors
     ///
@@ -79,9 +80,9 @@ impl<R: Wait + Clone> SharedDesk<R> {
             topics,
             shares: Vec::new(alloc),
             live: 0,
-            quiet: None,
-            known: Known::new(alloc),
-            kept: Kept::new(alloc),
+            deferred: None,
+            cache: TopicCache::new(alloc),
+            ahead: ReceivedAhead::new(alloc),
         }
     }
 
@@ -105,10 +106,10 @@ impl<R: Wait + Clone> SharedDesk<R> {
         let SharedDesk {
             rt,
             shares,
-            mut quiet,
+            mut deferred,
             ..
         } = self;
-        wake(&rt, &mut quiet);
+        wake(&rt, &mut deferred);
         shares
     }
 
@@ -127,11 +128,11 @@ impl<R: Wait + Clone> SharedDesk<R> {
             mut topics,
             shares,
             live,
-            mut quiet,
-            known,
-            kept,
+            mut deferred,
+            cache,
+            ahead,
         } = self;
-        wake(&rt, &mut quiet);
+        wake(&rt, &mut deferred);
         let count = match Arc::get_mut(&mut topics) {
             Some(lock) => lock.get_mut().rows.len(),
             None => {
@@ -140,9 +141,9 @@ impl<R: Wait + Clone> SharedDesk<R> {
                     topics,
                     shares,
                     live,
-                    quiet,
-                    known,
-                    kept,
+                    deferred,
+                    cache,
+                    ahead,
                 });
             }
         };
@@ -152,9 +153,9 @@ impl<R: Wait + Clone> SharedDesk<R> {
                 topics,
                 shares,
                 live,
-                quiet,
-                known,
-                kept,
+                deferred,
+                cache,
+                ahead,
             });
         };
         match Arc::try_unwrap(topics) {
@@ -170,9 +171,9 @@ impl<R: Wait + Clone> SharedDesk<R> {
                 topics,
                 shares,
                 live,
-                quiet,
-                known,
-                kept,
+                deferred,
+                cache,
+                ahead,
             }),
         }
     }
@@ -213,7 +214,7 @@ impl<R: Wait + Clone> Desk for SharedDesk<R> {
     ghost says = { Says };
 
     fn find(&self, name: &NameRef<'_>) -> Option<Found> {
-        match self.known.find(name) {
+        match self.cache.find(name) {
             Some(found) => Some(found),
             None => {
                 let topics = self.topics.lock(&self.rt);
@@ -238,7 +239,7 @@ impl<R: Wait + Clone> Desk for SharedDesk<R> {
             topics,
             shares,
             live,
-            known,
+            cache,
             ..
         } = self;
         if !make_room(shares, *live) {
@@ -246,7 +247,7 @@ impl<R: Wait + Clone> Desk for SharedDesk<R> {
         }
         let mut topics = topics.lock(rt);
         let made = bind(rt, &mut *topics, topic);
-        known.learn(&*topics, topic);
+        cache.add(&*topics, topic);
         count(live, &made);
         made
     }
@@ -262,7 +263,7 @@ impl<R: Wait + Clone> Desk for SharedDesk<R> {
             topics,
             shares,
             live,
-            known,
+            cache,
             ..
         } = self;
         if !make_room(shares, *live) {
@@ -273,7 +274,7 @@ impl<R: Wait + Clone> Desk for SharedDesk<R> {
             Some(Channel::Watch(sender)) => watch::subscribe(rt, topic, start, sender),
             None => {
                 let mut topics = topics.lock(rt);
-                known.learn(&*topics, topic);
+                cache.add(&*topics, topic);
                 subscribe(rt, &mut *topics, topic, start)
             }
         };
@@ -288,22 +289,22 @@ impl<R: Wait + Clone> Desk for SharedDesk<R> {
         sender: &mut TopicSender,
         verb: SenderVerb,
     ) -> Result<TopicReceipt, NoEvent> {
-        let SharedDesk { rt, quiet, .. } = self;
+        let SharedDesk { rt, deferred, .. } = self;
         match sender {
             Channel::Broadcast(sender) => {
                 let told = broadcast::send(rt, topic, sender, verb);
-                if !is_quiet(quiet, sender.key()) {
+                if told.is_ok() && !is_deferred(deferred, sender.key()) {
                     if let Ok(owner) = sender.shared() {
-                        hush(rt, quiet, sender.key(), Channel::Broadcast(owner));
+                        defer(rt, deferred, sender.key(), Channel::Broadcast(owner));
                     }
                 }
                 told
             }
             Channel::Watch(sender) => {
                 let told = watch::send(rt, topic, sender, verb);
-                if !is_quiet(quiet, sender.key()) {
+                if told.is_ok() && !is_deferred(deferred, sender.key()) {
                     if let Ok(owner) = sender.shared() {
-                        hush(rt, quiet, sender.key(), Channel::Watch(owner));
+                        defer(rt, deferred, sender.key(), Channel::Watch(owner));
                     }
                 }
                 told
@@ -337,17 +338,17 @@ impl<R: Wait + Clone> Desk for SharedDesk<R> {
     ) -> Result<TopicReceipt, NoEvent> {
         let SharedDesk {
             rt,
-            quiet,
-            kept,
+            deferred,
+            ahead,
             ..
         } = self;
         match verb {
-            ReceiverVerb::Recv | ReceiverVerb::Changed => wake(rt, quiet),
+            ReceiverVerb::Recv | ReceiverVerb::Changed => wake(rt, deferred),
             _ => {}
         }
         match receiver {
             TopicReceiver::Live(Channel::Broadcast(receiver)) => {
-                broadcast::receive(rt, topic, kept, receiver, verb)
+                broadcast::receive(rt, topic, ahead, receiver, verb)
             }
             TopicReceiver::Live(Channel::Watch(reader)) => watch::receive(rt, topic, reader, verb),
             TopicReceiver::Spent(_) => Err(NoEvent::NotLive),
@@ -363,7 +364,7 @@ impl<R: Wait + Clone> Desk for SharedDesk<R> {
             rt,
             shares,
             live,
-            kept,
+            ahead,
             ..
         } = self;
         if !make_room(shares, *live) {
@@ -371,7 +372,7 @@ impl<R: Wait + Clone> Desk for SharedDesk<R> {
         }
         let (after, said) = match replace(receiver, TopicReceiver::Spent(0)) {
             TopicReceiver::Live(Channel::Broadcast(old)) => {
-                kept.forget(topic, &old);
+                ahead.forget(topic, &old);
                 broadcast::resubscribe(rt, topic, old)
             }
             TopicReceiver::Live(Channel::Watch(reader)) => (
@@ -439,12 +440,12 @@ impl<R: Wait + Clone> Desk for SharedDesk<R> {
             rt,
             shares,
             live,
-            kept,
+            ahead,
             ..
         } = self;
         match receiver {
             TopicReceiver::Live(Channel::Broadcast(receiver)) => {
-                kept.forget(topic, &receiver);
+                ahead.forget(topic, &receiver);
                 match broadcast::spend(rt, topic, receiver) {
                     Ok((share, reply)) => {
                         keep(shares, live, topic, share);
@@ -499,15 +500,15 @@ impl<R: Wait + Clone> Desk for SharedDesk<R> {
     }
 
     fn wake(&mut self) {
-        let SharedDesk { rt, quiet, .. } = self;
-        wake(rt, quiet);
+        let SharedDesk { rt, deferred, .. } = self;
+        wake(rt, deferred);
     }
 
     fn ready(&mut self, topic: TopicId, receiver: &mut TopicReceiver, most: usize) -> usize {
-        let SharedDesk { rt, kept, .. } = self;
+        let SharedDesk { rt, ahead, .. } = self;
         match receiver {
             TopicReceiver::Live(Channel::Broadcast(receiver)) => {
-                kept.receive_ahead(rt, topic, receiver, most)
+                ahead.receive_ahead(rt, topic, receiver, most)
             }
             TopicReceiver::Live(Channel::Watch(reader)) => {
                 if reader.would_wait(rt, &WCall::Changed(RxId(reader.number()))) {

@@ -23,17 +23,17 @@
 #![tactic(auto)]
 
 mod broadcast;
+mod deferred_wake;
 pub mod desk;
 pub mod ended;
 mod event;
 pub mod handles;
-mod kept;
-mod known;
 pub mod observer;
-mod quiet;
+mod received_ahead;
 mod registry;
 pub mod serve;
 mod topic;
+mod topic_cache;
 mod watch;
 
 pub use desk::SharedDesk;

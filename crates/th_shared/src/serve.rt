@@ -180,8 +180,8 @@ fn serve_all<
 
 /// Accepts so many connections, 1 to 64, one after another, and serves each as a session in a thread of its own: they are
 /// numbered from 1, each line waits at the gate, and the observer hears of each end. It ends when all have ended. Where
-/// nothing is kept of what sessions are answered, a session takes no more memory as it goes on, but for its handles and for
-/// 24 bytes with each handle that it spends.
+/// nothing is kept of what sessions are answered, a session takes no more memory as it goes on, but for its handles, the names of
+/// the topics that they are on, and 24 bytes with each handle that it spends.
 ///
 /// # Errors
 ///

@@ -12,12 +12,12 @@ use th_registry::TopicId;
 use th_registry::channel::HubBroadcast;
 
 /// The most receives that are made under one lock.
-const MOST_KEPT: usize = 64;
+const MOST_AHEAD: usize = 64;
 
 /// The receipts of receives that were made under one lock, for calls of one receiver that its session makes next. Each is
 /// handed out once, to a call that it is the receipt of, in the order of the events.
 #[derive(Drop)]
-pub(crate) struct Kept {
+pub(crate) struct ReceivedAhead {
     // The next one stands last.
     receipts: Vec<Receipt<HubBroadcast>>,
 }
@@ -35,10 +35,10 @@ fn is_of(receipt: &Receipt<HubBroadcast>, topic: TopicId, call: &BCall<Value>) -
     }
 }
 
-impl Kept {
+impl ReceivedAhead {
     /// None. It takes no memory.
-    pub(crate) fn new(alloc: Global) -> Kept {
-        Kept {
+    pub(crate) fn new(alloc: Global) -> ReceivedAhead {
+        ReceivedAhead {
             receipts: Vec::new(alloc),
         }
     }
@@ -85,11 +85,11 @@ impl Kept {
         let call = BCall::Recv(RxId(receiver.number()));
         if !self.receipts.is_empty()
             || !is_on(receiver, topic)
-            || self.receipts.reserve(MOST_KEPT).is_err()
+            || self.receipts.reserve(MOST_AHEAD).is_err()
         {
             return if receiver.would_wait(rt, &call) { 0 } else { 1 };
         }
-        receiver.call_while_ready(rt, &call, most.min(MOST_KEPT), &mut self.receipts);
+        receiver.call_while_ready(rt, &call, most.min(MOST_AHEAD), &mut self.receipts);
         self.receipts.reverse();
         self.receipts.len()
     }

@@ -1,4 +1,4 @@
-//! The topics that a desk knows by name.
+//! The topics that a desk finds without their lock.
 use crate::registry::Topics;
 use std::alloc::Global;
 use std::collections::HashMap;
@@ -7,26 +7,26 @@ use th_registry::{Found, TopicId};
 
 /// Topics of which a desk had a handle made. A topic stays under its name, so each of them is found without a lock.
 #[derive(Drop)]
-pub(crate) struct Known {
+pub(crate) struct TopicCache {
     topics: HashMap<Name, Found>,
 }
 
-impl Known {
+impl TopicCache {
     /// None.
-    pub(crate) fn new(alloc: Global) -> Known {
-        Known {
+    pub(crate) fn new(alloc: Global) -> TopicCache {
+        TopicCache {
             topics: HashMap::new(alloc),
         }
     }
 
-    /// The topic of this name, if it is known.
+    /// The topic of this name, if it is in the cache.
     pub(crate) fn find(&self, name: &NameRef<'_>) -> Option<Found> {
         let found = self.topics.get(&name.to_name())?;
         Some(*found)
     }
 
-    /// Knows this topic too. Without memory for it, it is not known.
-    pub(crate) fn learn(&mut self, topics: &Topics, topic: TopicId) {
+    /// Puts this topic into the cache; without memory for it, it is left out.
+    pub(crate) fn add(&mut self, topics: &Topics, topic: TopicId) {
         if let Some((name, channel)) = topics.rows.get(topic.0 as usize) {
             let kind = channel.kind();
             if let Ok(name) = name.clone() {
