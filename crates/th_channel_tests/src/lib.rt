@@ -5,12 +5,6 @@
 #[cfg(test)]
 mod bcast;
 #[cfg(test)]
-mod glance;
-#[cfg(test)]
-mod log;
-#[cfg(test)]
 mod ring;
-#[cfg(test)]
-mod seats;
 #[cfg(test)]
 mod watch;

@@ -9,7 +9,6 @@ mod memory;
 mod order;
 mod receipts;
 mod rows;
-mod runs;
 mod segments;
 mod traces;
 

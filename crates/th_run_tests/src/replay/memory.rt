@@ -1,7 +1,8 @@
 //! Want of memory.
 use super::cases::case_of;
 use super::rows::{EVERY_COMMAND, Step, TRACED};
-use super::{WELL, run};
+use super::run;
+use crate::devices::WELL;
 use bstr::ByteSlice;
 use std::alloc::{AllocError, Global};
 use std::test::Fail;

@@ -1,5 +1,6 @@
 //! Bounds on lines and reads.
-use super::{Manner, WELL, run_bounded};
+use super::run_bounded;
+use crate::devices::{Manner, WELL};
 use std::test::Fail;
 use th_replay::ReplayFault;
 

@@ -1,17 +1,8 @@
-//! Schedules, bytes in and bytes out: the devices, and what comes of a run over them.
-mod actors;
-mod bounds;
-mod cases;
-mod faults;
-mod lists;
-mod memory;
-mod rows;
-
+//! Readers and writers over memory that move little at a call, or fail at a call that is named.
 use std::alloc::{AllocError, Global};
 use std::io;
 use std::io::{ErrorKind, Read, Write};
 use th_lines::Counted;
-use th_replay::{ReplayFault, replay, replay_bounded};
 
 /// How a device behaves: it moves at most so many bytes at a call, and from its k-th call on, counted from 1, so many
 /// calls fail so.
@@ -40,7 +31,7 @@ impl Manner {
 #[derive(Drop)]
 pub(crate) struct Source<'a> {
     rest: &'a [u8],
-    calls: u64,
+    pub(crate) calls: u64,
     manner: Manner,
 }
 
@@ -60,8 +51,8 @@ impl<'a> Read for Source<'a> {
 #[derive(Drop)]
 pub(crate) struct Sink {
     pub(crate) text: Vec<u8>,
-    flushed: usize,
-    calls: u64,
+    pub(crate) flushed: usize,
+    pub(crate) calls: u64,
     manner: Manner,
 }
 
@@ -86,20 +77,6 @@ impl Write for Sink {
     }
 }
 
-/// What came of a run.
-#[derive(Drop)]
-struct Outcome {
-    result: Result<u64, ReplayFault>,
-    text: Vec<u8>,
-    flushed: usize,
-    reads: u64,
-    writes: u64,
-    read_failures: u64,
-    write_failures: u64,
-    /// Whether the devices counted as many calls of their own.
-    is_counted: bool,
-}
-
 pub(crate) fn reader_of(input: &[u8], manner: Manner) -> Counted<Source<'_>> {
     Counted::new(Source {
         rest: input,
@@ -116,50 +93,4 @@ pub(crate) fn writer_to(alloc: Global, manner: Manner) -> Result<Counted<Sink>, 
         calls: 0,
         manner,
     }))
-}
-
-fn ended(
-    answer: Result<u64, ReplayFault>,
-    reader: &Counted<Source<'_>>,
-    writer: Counted<Sink>,
-) -> Outcome {
-    let writes = writer.calls();
-    let write_failures = writer.failures();
-    let Sink {
-        text,
-        flushed,
-        calls,
-        ..
-    } = writer.into_device();
-    Outcome {
-        result: answer,
-        text,
-        flushed,
-        reads: reader.calls(),
-        writes,
-        read_failures: reader.failures(),
-        write_failures,
-        is_counted: reader.calls() == reader.device().calls && writes == calls,
-    }
-}
-
-fn run_bounded(
-    alloc: Global,
-    input: &[u8],
-    read: Manner,
-    write: Manner,
-    lines: u64,
-    reads: u64,
-) -> Result<Outcome, AllocError> {
-    let mut reader = reader_of(input, read);
-    let mut writer = writer_to(alloc, write)?;
-    let result = replay_bounded(alloc, &mut reader, &mut writer, lines, reads);
-    Ok(ended(result, &reader, writer))
-}
-
-fn run(alloc: Global, input: &[u8], read: Manner, write: Manner) -> Result<Outcome, AllocError> {
-    let mut reader = reader_of(input, read);
-    let mut writer = writer_to(alloc, write)?;
-    let result = replay(alloc, &mut reader, &mut writer);
-    Ok(ended(result, &reader, writer))
 }

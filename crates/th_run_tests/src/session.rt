@@ -1,5 +1,5 @@
 //! Whole runs of a session over memory, and what is left on the desk after them.
-use crate::replay::{Manner, Sink, WELL, reader_of, writer_to};
+use crate::devices::{Manner, Sink, WELL, reader_of, writer_to};
 use std::alloc::{AllocError, Global};
 use std::io;
 use std::io::{Read, Write};

@@ -1,6 +1,7 @@
 //! Readers and writers that fail.
 use super::cases::cases;
-use super::{Manner, Outcome, WELL, run};
+use super::{Outcome, run};
+use crate::devices::{Manner, WELL};
 use std::alloc::{AllocError, Global};
 use std::io::ErrorKind;
 use std::test::Fail;

@@ -1,5 +1,6 @@
 //! Lists of as many topics as there may be.
-use super::{Manner, WELL, run};
+use super::run;
+use crate::devices::{Manner, WELL};
 use std::alloc::{AllocError, Global};
 use std::io::ErrorKind;
 use std::test::Fail;
