@@ -102,15 +102,19 @@ impl<R: Wait + Clone> SharedDesk<R> {
     }
 
     /// The shares of the handles that were spent through this desk, once nothing more is asked at it.
-    pub fn into_shares(self) -> Vec<(TopicId, Share)> {
-        let SharedDesk {
-            rt,
-            shares,
-            mut deferred,
-            ..
-        } = self;
-        wake(&rt, &mut deferred);
+    pub fn into_shares(mut self) -> Vec<(TopicId, Share)> {
+        wake(&self.rt, &mut self.deferred);
+        let SharedDesk { shares, .. } = self;
         shares
+    }
+
+    // An empty list with room for what is left of each topic; `None` where another owner is left, or there was no memory.
+    fn room_for_ends(&mut self, alloc: Global) -> Option<Vec<Ended>> {
+        let lock = Arc::get_mut(&mut self.topics)?;
+        match Vec::with_capacity(alloc, lock.get_mut().rows.len()) {
+            Ok(list) => Some(list),
+            Err(_) => None,
+        }
     }
 
     /// What is left of each topic, in order of opening, for the last owner; and the shares of the handles that were
@@ -120,44 +124,22 @@ impl<R: Wait + Clone> SharedDesk<R> {
     ///
     /// The desk comes back, where another owner is left, or there was no memory for the list.
     pub fn finish(
-        self,
+        mut self,
         alloc: Global,
     ) -> Result<(Vec<Ended>, Vec<(TopicId, Share)>), SharedDesk<R>> {
+        wake(&self.rt, &mut self.deferred);
+        let Some(mut list) = self.room_for_ends(alloc) else {
+            return Err(self);
+        };
         let SharedDesk {
             rt,
-            mut topics,
+            topics,
             shares,
             live,
-            mut deferred,
+            deferred,
             cache,
             ahead,
         } = self;
-        wake(&rt, &mut deferred);
-        let count = match Arc::get_mut(&mut topics) {
-            Some(lock) => lock.get_mut().rows.len(),
-            None => {
-                return Err(SharedDesk {
-                    rt,
-                    topics,
-                    shares,
-                    live,
-                    deferred,
-                    cache,
-                    ahead,
-                });
-            }
-        };
-        let Ok(mut list) = Vec::with_capacity(alloc, count) else {
-            return Err(SharedDesk {
-                rt,
-                topics,
-                shares,
-                live,
-                deferred,
-                cache,
-                ahead,
-            });
-        };
         match Arc::try_unwrap(topics) {
             Ok(lock) => {
                 let Topics { rows, .. } = lock.into_inner();
