@@ -23,7 +23,8 @@ impl From<AllocError> for ModeFault {
 // The program with one mode.
 fn with_replay<'a>(alloc: Global) -> Result<Command<'a>, AllocError>
     ensures { IfOk result (λ c. app_of c ≡
-        with_subcommand (with_required (new_app (codes "topichub"))) (new_app (codes "replay")).top) }
+        with_subcommand (with_required (new_app (codes "topichub")))
+        (new_app (codes "replay")).top) }
 {
     let replay = Command::new(alloc, "replay")
         .about(REPLAY_ABOUT)
