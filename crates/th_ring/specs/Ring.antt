@@ -37,6 +37,12 @@ module _ {T : Type 0} where
   filled_slot low kept places i =
       record { value = slice_get kept (i - low); to_come = to_come places i }
 
+  -- in the window of the slots from `first` to the tail, those outside of them are as they were
+  abbrev pub AreOthersSame : ℕ → ℕ → ℕ → List (Slot T) → List (Slot T) → Type 0
+  AreOthersSame capacity first tail old new =
+      (i : ℕ) → tail ≤ i + capacity → i < first + capacity → (first ≤ i → tail ≤ i)
+      → slot_at new capacity i ≡ slot_at old capacity i
+
   -- the kept values: those from the least kept position to the tail
   abbrev pub ring_kept : ℕ → ℕ → List (Slot T) → Places → List T
   ring_kept capacity tail slots places =

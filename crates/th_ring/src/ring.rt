@@ -3,7 +3,7 @@ ghost use Rattle.std.specs.Prelude.{◌≡◌, ◌+◌, ◌-◌, ◌%◌, ◌^�
 ghost use Rattle.th_model.specs.Limits.{IsCapacity};
 ghost use Rattle.th_model.specs.Places.{low_of, to_come};
 ghost use Rattle.th_ring.specs.Slot.{vacant, less_one, more_one};
-ghost use Rattle.th_ring.specs.Ring.{IsRing, ring_window, slot_at, filled_slot};
+ghost use Rattle.th_ring.specs.Ring.{IsRing, ring_window, slot_at, filled_slot, AreOthersSame};
 
 use crate::slot::{Slot, pass, read, wait};
 use std::alloc::{AllocError, Global};
@@ -124,8 +124,7 @@ fn fill<T: Drop>(
     ensures size { length slots.new.items ≡ capacity }
     ensures filled { (i : ℕ) → low ≤ i → i < tail
         → slot_at slots.new.items capacity i ≡ filled_slot low kept.items places.now.entries i }
-    ensures others { (i : ℕ) → tail ≤ i + capacity → i < low + capacity → (low ≤ i → tail ≤ i)
-        → slot_at slots.new.items capacity i ≡ slot_at slots.old.items capacity i }
+    ensures others { AreOthersSame capacity low tail slots.old.items slots.new.items }
 {
     for i in low..tail {
         let value = kept.pop_front();
@@ -148,8 +147,7 @@ fn pass_from<T: Drop>(slots: &mut Vec<Slot<T>>, capacity: u64, first: u64, tail:
     ensures size { length slots.new.items ≡ capacity }
     ensures passed { (i : ℕ) → first ≤ i → i < tail
         → slot_at slots.new.items capacity i ≡ less_one (slot_at slots.old.items capacity i) }
-    ensures others { (i : ℕ) → tail ≤ i + capacity → i < first + capacity → (first ≤ i → tail ≤ i)
-        → slot_at slots.new.items capacity i ≡ slot_at slots.old.items capacity i }
+    ensures others { AreOthersSame capacity first tail slots.old.items slots.new.items }
 {
     for i in first..tail {
         let at = low_bits(i, capacity);
@@ -168,8 +166,7 @@ fn wait_from<T>(slots: &mut Vec<Slot<T>>, capacity: u64, first: u64, tail: u64)
     ensures size { length slots.new.items ≡ capacity }
     ensures waited { (i : ℕ) → first ≤ i → i < tail
         → slot_at slots.new.items capacity i ≡ more_one (slot_at slots.old.items capacity i) }
-    ensures others { (i : ℕ) → tail ≤ i + capacity → i < first + capacity → (first ≤ i → tail ≤ i)
-        → slot_at slots.new.items capacity i ≡ slot_at slots.old.items capacity i }
+    ensures others { AreOthersSame capacity first tail slots.old.items slots.new.items }
 {
     for i in first..tail {
         let at = low_bits(i, capacity);
