@@ -78,7 +78,21 @@ impl Eye {
 
     /// Looks until this eye's count is above the place, with pauses between the looks. If the pen has
     /// stored the event of that place before, the first look finds it; else this waits.
+    #[inline(always)]
     pub fn catch_up<R: Wait>(&mut self, rt: &R, place: u64)
+        ensures table { self.new.table ≡ self.old.table }
+        ensures later { IsPrefix self.old.list self.new.list }
+        ensures counted { IsCounted self.new.list }
+        ensures above { place < last_count self.new.list }
+        ensures rises { last_count self.old.list ≤ last_count self.new.list }
+    {
+        if self.glance().count <= place {
+            self.look_on(rt, place);
+        }
+    }
+
+    // Pauses and looks, until this eye's count is above the place.
+    fn look_on<R: Wait>(&mut self, rt: &R, place: u64)
         ensures table { self.new.table ≡ self.old.table }
         ensures later { IsPrefix self.old.list self.new.list }
         ensures counted { IsCounted self.new.list }
@@ -87,10 +101,10 @@ impl Eye {
     {
         let backoff = Backoff::new();
         for _ in rt.forever() {
+            backoff.snooze();
             if self.glance().count > place {
                 return;
             }
-            backoff.snooze();
         }
         unreachable!()
     }

@@ -1,7 +1,7 @@
 use Rattle.std.proofs.Common.{◌≡◌, ◌≤◌}
 use mathlib.Core.List.{IsPrefix}
 use Rattle.th_glance.specs.Lists.{last_count}
-use Rattle.th_glance.proofs.eye.Eye.catch_up.Given as goal
+use Rattle.th_glance.proofs.eye.Eye.look_on.Given as goal
 
 abbrev pub invariant-loop : goal.invariant-loop
 invariant-loop g l =
