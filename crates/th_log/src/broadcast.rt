@@ -1,12 +1,14 @@
 //! A broadcast channel, over any shelf, as an object that can be logged.
-ghost use Rattle.std.specs.Prelude.{◌≡◌, IfOk, IfErr, IsOk};
+ghost use Rattle.std.specs.Prelude.{◌≡◌, ◌≢◌, ℕ, IfOk, IfErr, IfSome, IfNone, IsOk};
 ghost use Rattle.th_model.specs.Limits.{ClonesAreEqual};
 ghost use Rattle.th_model.specs.BroadcastPicture.{TakesNoMemory, answer};
+ghost use Rattle.th_model.specs.declared.broadcast.BCall.TheVariants.{Send};
+ghost use Rattle.th_model.specs.declared.broadcast.BReply.TheVariants.{Sent};
 
 use crate::object::{Compared, Event, Object};
 use std::alloc::{AllocError, Global};
 use th_bcast::{Broadcast, PictureParts};
-use th_model::{BCall, BReply, Short};
+use th_model::{BCall, BReply, Short, TxId};
 use th_shelf::Shelf;
 
 // A copy of a call. Only a sent value takes memory.
@@ -65,6 +67,58 @@ fn noted<T: Clone, S: Shelf<T> + Drop>(
     }
 }
 
+// How many receivers a reply tells of, where a value was sent.
+#[inline(always)]
+fn sent_to<T>(reply: &BReply<T>) -> Option<u64>
+    ensures sent { IfSome result (λ n. reply.now ≡ Sent n) }
+    ensures unsent { IfNone result ((n : ℕ) → reply.now ≢ Sent n) }
+{
+    match reply {
+        BReply::Sent(readers) => Some(*readers),
+        _ => None,
+    }
+}
+
+// A send, with what its log keeps of it. What is sent does not come back in the reply, which is told
+// twice without a copy; so the sender is looked up once.
+#[inline(always)]
+fn noted_send<T: Clone, S: Shelf<T> + Drop>(
+    channel: &mut Broadcast<T, S>,
+    tx: TxId,
+    value: T,
+) -> Result<Event<BCall<T>, BReply<T>>, Short<BCall<T>>>
+    requires { ClonesAreEqual T.is_clone }
+    ensures step { IfOk result (λ e. answer channel.old (Send tx value) ≡ (e.reply, channel.new)) }
+    ensures call { IfOk result (λ e. e.call ≡ Send tx value) }
+    ensures entry { IfOk result (λ e. e.entry ≡ (Send tx value, e.reply)) }
+    ensures short { IfErr result (λ short.
+        (short.call ≡ Send tx value) × (channel.new ≡ channel.old)) }
+{
+    let Ok(kept) = value.clone() else {
+        return Err(Short {
+            call: BCall::Send(tx, value),
+        });
+    };
+    let Ok(told) = value.clone() else {
+        return Err(Short {
+            call: BCall::Send(tx, value),
+        });
+    };
+    let reply = match channel.send(tx, value) {
+        Ok(reply) => reply,
+        Err(short) => return Err(short),
+    };
+    let Some(readers) = sent_to(&reply) else {
+        // Nothing was sent, so nothing has changed, and the reply is the same again.
+        return noted(channel, BCall::Send(tx, kept));
+    };
+    Ok(Event {
+        entry: (BCall::Send(tx, kept), BReply::Sent(readers)),
+        call: BCall::Send(tx, told),
+        reply,
+    })
+}
+
 impl<T: Clone, S: Shelf<T> + Drop> Object for Broadcast<T, S> {
     ghost use Rattle.th_model.specs.Limits.{ClonesAreEqual};
     ghost use Rattle.th_model.specs.BroadcastMachine.{Endless, IsProper};
@@ -115,11 +169,12 @@ impl<T: Clone, S: Shelf<T> + Drop> Object for Broadcast<T, S> {
         Broadcast::foresee(self, call)
     }
 
-    // A receive tells its reply twice, so that the receiver's place is found once. A send is compiled for itself.
+    // A receive tells its reply twice, so that the receiver's place is found once, and a send so that
+    // its sender is.
     #[inline(always)]
     fn event(&mut self, call: BCall<T>) -> Result<Event<BCall<T>, BReply<T>>, Short<BCall<T>>> {
         match call {
-            BCall::Send(tx, value) => noted(self, BCall::Send(tx, value)),
+            BCall::Send(tx, value) => noted_send(self, tx, value),
             BCall::TryRecv(rx) => match self.receive_twice(rx) {
                 Ok((reply, again)) => Ok(Event {
                     entry: (BCall::TryRecv(rx), again),
