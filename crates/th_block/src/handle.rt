@@ -213,7 +213,11 @@ impl<O: Channel, S: Side<O>> Handle<O, S> {
         } = self;
         let room = &*shared.room;
         let locked = room.held.lock(rt);
-        let mut held = room.news.wait_while(rt, locked, |held| held.waits(&call));
+        let mut held = if locked.is_ready(&call) {
+            locked
+        } else {
+            room.news.wait_while(rt, locked, |held| held.waits(&call))
+        };
         let answer = held.event(account, call);
         let wakes = held.wakes_after(&answer);
         drop(held);
@@ -246,7 +250,11 @@ impl<O: Channel, S: Side<O>> Handle<O, S> {
         } = self;
         let room = &*shared.room;
         let locked = room.held.lock(rt);
-        let mut held = room.news.wait_while(rt, locked, |held| held.waits(&call));
+        let mut held = if locked.is_ready(&call) {
+            locked
+        } else {
+            room.news.wait_while(rt, locked, |held| held.waits(&call))
+        };
         let answer = held.event(account, call);
         drop(held);
         match answer {
