@@ -213,6 +213,7 @@ impl<O: Channel, S: Side<O>> Handle<O, S> {
         } = self;
         let room = &*shared.room;
         let locked = room.held.lock(rt);
+        // A call that has its answer does not look at the condition: most have.
         let mut held = if locked.is_ready(&call) {
             locked
         } else {

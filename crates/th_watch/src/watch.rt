@@ -149,7 +149,8 @@ impl<T: Drop> Watch<T> {
     #[inline(always)]
     pub fn ready(&self, call: &WCall<T>) -> bool
         ensures ready { result ≡ is_ready self.now call.now }
-        ensures waits { (eq : T → T → Bool) → (result ≡ false) ↔ WouldWait eq self.now call.now }
+        ensures waits { (eq : T → T → Bool)
+            → (result ≡ false) ↔ WouldWait eq self.now call.now }
         ensures sound { IsSound self.now }
     {
         match call {
