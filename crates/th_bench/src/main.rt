@@ -12,8 +12,6 @@
 mod fault;
 mod laps;
 mod plan;
-#[cfg(test)]
-mod tests;
 
 use fault::Fault;
 use laps::{Measured, measure};

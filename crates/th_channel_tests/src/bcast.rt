@@ -2,13 +2,9 @@
 //! refused (`rt try --test --fail-alloc N`, for one N at a time) and no reply may change.
 ghost use Rattle.std.specs.Prelude.{◌<◌};
 
-mod chronicle;
-mod dice;
 mod pictures;
 mod values;
 
-use crate::bcast::chronicle::Chronicle;
-use crate::bcast::dice::Dice;
 use std::alloc::Global;
 use std::process::Abort;
 use std::test::Fail;
@@ -272,60 +268,5 @@ fn the_shelf_shows_what_it_keeps(rt: HostRuntime) -> Result<(), Fail> {
     };
     keeps(&rt, &shelf, [(4, None), (5, Some(&7)), (6, None)]);
     serves(&rt, &shelf, [(0, Some((RX, 5))), (1, None)]);
-    Ok(())
-}
-
-fn chronicle_of(alloc: Global, capacity: u64, base: u64) -> Result<Chronicle, Fail> {
-    match Chronicle::new(alloc, capacity, base) {
-        Ok(chronicle) => Ok(chronicle),
-        Err(_) => Ok(Chronicle::new(alloc, capacity, base)?),
-    }
-}
-
-fn expected(chronicle: &mut Chronicle, call: &BCall<u64>) -> Result<BReply<u64>, Fail> {
-    match chronicle.answer(call) {
-        Ok(reply) => Ok(reply),
-        Err(_) => Ok(chronicle.answer(call)?),
-    }
-}
-
-fn waits(call: &BCall<u64>, want: &BReply<u64>) -> bool {
-    matches!(call, Recv(_)) && *want == Empty
-}
-
-fn is_ready(channel: &Channel, call: &BCall<u64>) -> bool {
-    channel.ready(call)
-}
-
-// The next call, answered by both.
-fn agree(
-    rt: &impl Abort,
-    channel: &mut Channel,
-    chronicle: &mut Chronicle,
-    dice: &mut Dice,
-) -> Result<(), Fail> {
-    let call = dice.call(chronicle);
-    let want = expected(chronicle, &call)?;
-    assert_eq!(rt;
-        is_ready(channel, &call),
-        !waits(&call, &want),
-        "at {call:?}"
-    );
-    answers(rt, channel, call, want)
-}
-
-// 10,000 calls, answered as a reader of the rules would who remembers everything.
-#[test]
-fn agrees_with_plain_lists(rt: HostRuntime) -> Result<(), Fail> {
-    for run in 0..40 {
-        let capacity = [1, 2, 4, 16][run % 4];
-        let base = [0, 1_000, u64::MAX - 40][run % 3];
-        let mut channel = starting_at(rt.alloc(), capacity, base)?;
-        let mut chronicle = chronicle_of(rt.alloc(), capacity, base)?;
-        let mut dice = Dice::new(run as u64);
-        for _ in 0..250 {
-            agree(&rt, &mut channel, &mut chronicle, &mut dice)?;
-        }
-    }
     Ok(())
 }

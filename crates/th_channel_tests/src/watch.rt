@@ -6,14 +6,9 @@ ghost use Rattle.std.specs.Prelude.{◌≡◌, ◌+◌, ◌-◌, ◌^◌, ◌<�
 ghost use Rattle.th_model.specs.Limits.{ClonesAreEqual};
 ghost use Rattle.th_model.specs.WatchMachine.{IsExact};
 
-mod chronicle;
-mod dice;
 mod pictures;
 mod texts;
-mod values;
 
-use crate::watch::chronicle::Chronicle;
-use crate::watch::dice::Dice;
 use std::alloc::Global;
 use std::process::Abort;
 use std::test::Fail;
@@ -425,49 +420,4 @@ fn answers_by_name(rt: HostRuntime) -> Result<(), Fail> {
         (DropTx(TX), NoHandle(None)),
     ];
     follow_by_name(&rt, &mut channel, rows)
-}
-
-fn expected(chronicle: &mut Chronicle, call: &WCall<u64>) -> Result<WReply<u64>, Fail> {
-    match chronicle.answer(call) {
-        Ok(reply) => Ok(reply),
-        Err(_) => Ok(chronicle.answer(call)?),
-    }
-}
-
-fn waits(call: &WCall<u64>, want: &WReply<u64>) -> bool {
-    matches!(call, Changed(_)) && *want == NotYet
-}
-
-impl Run {
-    fn is_ready(&self, call: &WCall<u64>) -> bool {
-        self.channel.ready(call)
-    }
-}
-
-// The next call, answered by both.
-fn agree(
-    rt: &impl Abort,
-    run: &mut Run,
-    chronicle: &mut Chronicle,
-    dice: &mut Dice,
-) -> Result<(), Fail> {
-    let call = dice.call(chronicle.next());
-    let want = expected(chronicle, &call)?;
-    assert_eq!(rt; run.is_ready(&call), !waits(&call, &want), "at {call:?}");
-    run_answers(rt, run, call, want)
-}
-
-// The same calls as a reader of the rules would answer them, who remembers everything.
-#[test]
-fn agrees_with_plain_lists(rt: HostRuntime) -> Result<(), Fail> {
-    let runs = [1, 2, 1_000, u64::MAX - 400];
-    for first in runs {
-        let mut run = Run::starting_at(rt.alloc(), 7, first)?;
-        let mut chronicle = Chronicle::new(rt.alloc(), 7, first)?;
-        let mut dice = Dice::new(first);
-        for _ in 0..2_500 {
-            agree(&rt, &mut run, &mut chronicle, &mut dice)?;
-        }
-    }
-    Ok(())
 }

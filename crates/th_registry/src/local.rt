@@ -7,7 +7,7 @@ use crate::desk::Desk;
 use crate::event;
 use crate::opening::{Found, Refusal, TopicId};
 use crate::outcome::{ChannelReply, Made, NoEvent, Unspent};
-use crate::topics::{Channels, find, list, open_broadcast, open_watch};
+use crate::topics::{Channels, list, open_broadcast, open_watch};
 use indexmap::IndexMap;
 use std::alloc::Global;
 use std::marker::Model;
@@ -90,7 +90,13 @@ impl Desk for LocalDesk {
     ghost says = { DeskSays };
 
     fn find(&self, name: &NameRef<'_>) -> Option<Found> {
-        find(&self.channels, name)
+        match self.channels.get_full(name) {
+            Some((number, _, channel)) => Some(Found {
+                topic: TopicId(number as u64),
+                kind: channel.kind(),
+            }),
+            None => None,
+        }
     }
 
     fn list(&self) -> Result<Listing, Short<()>> {

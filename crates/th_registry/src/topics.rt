@@ -1,13 +1,13 @@
-//! Topics in order of opening: how one is found, how they are listed, and how one is opened at a desk of one thread.
+//! Topics in order of opening: how they are listed, and how one is opened at a desk of one thread.
 ghost use Rattle.std.specs.Prelude.{◌≡◌, ℕ, true, false, is_some, IfOk, OnOk, OnErr, ◌++◌, ◌∷◌};
 ghost use Rattle.th_registry.specs.Hub.{find, list, open_topic, Says, Open, added};
 ghost use Rattle.th_registry.specs.Pictures.{pictures};
 
 use crate::channel::{Channel, HubBroadcast, LocalChannel};
-use crate::opening::{Found, Refusal, TopicId};
+use crate::opening::Refusal;
 use crate::recorded::Recorded;
 use indexmap::IndexMap;
-use th_model::{Capacity, Listed, Listing, Making, Name, NameRef, Short, Value};
+use th_model::{Capacity, Listed, Listing, Making, Name, Short, Value};
 use th_watch::Watch;
 
 /// The most topics of a hub.
@@ -15,22 +15,6 @@ const MOST_TOPICS: usize = 1024;
 
 /// At most 1,024 channels by the names of their topics, in order of opening.
 pub type Channels = IndexMap<Name, LocalChannel>;
-
-/// The topic of this name, among topics in order of opening.
-pub fn find<B: Drop, W: Drop>(
-    topics: &IndexMap<Name, Channel<B, W>>,
-    name: &NameRef<'_>,
-) -> Option<Found>
-    ensures { result ≡ find topics.now.entries name.now }
-{
-    match topics.get_full(name) {
-        Some((number, _, channel)) => Some(Found {
-            topic: TopicId(number as u64),
-            kind: channel.kind(),
-        }),
-        None => None,
-    }
-}
 
 /// The topics with their kinds. It takes memory for all of them at once.
 pub fn list<B: Drop, W: Drop>(topics: &IndexMap<Name, Channel<B, W>>) -> Result<Listing, Short<()>>

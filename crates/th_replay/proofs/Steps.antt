@@ -1,5 +1,5 @@
 -- The step of a command at the desk of one thread, by the handles of who gives it.
-use Rattle.std.proofs.Common.{◌≡◌, ◌⊎◌, inl, inr, ℕ, Bool, true, false, ap, sym, subst, ◌∙◌}
+use Rattle.std.proofs.Common.{◌≡◌, ◌⊎◌, inl, inr, ℕ, Bool, true, false, ap, sym, subst, refl, ◌∙◌}
 use Rattle.th_lines.specs.declared.command.Command.{Command}
 use Rattle.th_lines.specs.declared.reply.Reply.{Reply}
 use Rattle.th_lines.specs.declared.reply.Reply.TheVariants.{Refused}
@@ -12,7 +12,7 @@ use Rattle.th_session.specs.Held.{Holding}
 use Rattle.th_session.specs.Kept.{IsKept, Kept, told, with_receipt, with_segment}
 use Rattle.th_session.specs.Script.{Answer, Replied, Told, Traced}
 use Rattle.th_session.specs.Step.{Steps}
-use Rattle.th_replay.specs.Schedule.{most_entries, picture_asks, picture_step}
+use Rattle.th_replay.specs.Schedule.{has_quit, most_entries, picture_asks, picture_step}
 
 -- The answer, what the actor holds and the topics afterwards are the hub's; or memory was refused where it is asked for,
 -- and nothing has changed.
@@ -60,3 +60,9 @@ pub told_event : (P : Answer → Bool) (answer : Answer) → ((n : ℕ) (r : Cha
 told_event P (Replied reply) none t = absurd (let bad : ⊥ = cc in bad)
 told_event P (Told n r) none t = none n r
 told_event P (Traced n s) none t = absurd (let bad : ⊥ = cc in bad)
+
+-- who is answered no reply has not quit
+pub only_replies_quit : (answer : Answer) → ((reply : Reply) → told answer ≡ answers.Reply reply → ⊥) → has_quit answer ≡ false
+only_replies_quit (Replied reply) none = absurd (none reply refl)
+only_replies_quit (Told n r) none = refl
+only_replies_quit (Traced n s) none = refl

@@ -74,18 +74,6 @@ fn has_quit(reply: &Reply) -> bool
     }
 }
 
-// Whether an actor that was answered so is gone.
-#[inline(always)]
-fn quits(answer: &Answer) -> bool
-    ensures { (given : script.Answer) → answer.now ≡ told given → result ≡ has_quit given }
-{
-    match answer {
-        Answer::Reply(reply) => has_quit(reply),
-        Answer::Event => false,
-        Answer::Trace => false,
-    }
-}
-
 // Whether nobody begins who was answered so.
 #[inline(always)]
 fn begins_nobody(answer: &Answer) -> bool
@@ -169,13 +157,17 @@ impl Hub {
         let Some(session) = self.actors.get_index_mut(place) else {
             return out.append(writer, &Reply::Refused(Code::NotHeld));
         };
-        let answer = step(session, &mut self.desk, command);
-        let is_gone = quits(&answer);
-        let put = session.put_answer(answer, out, writer);
-        if is_gone {
-            self.take_out(place);
+        match step(session, &mut self.desk, command) {
+            Answer::Reply(reply) => {
+                let is_gone = has_quit(&reply);
+                let put = session.put_answer(Answer::Reply(reply), out, writer);
+                if is_gone {
+                    self.take_out(place);
+                }
+                put
+            }
+            told => session.put_answer(told, out, writer),
         }
-        put
     }
 
     // Takes the actor at this place out. The others stay in their order.

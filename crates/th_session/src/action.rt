@@ -9,7 +9,6 @@ ghost use Rattle.th_session.specs.Kept.{told, with_receipt};
 ghost use Rattle.th_session.specs.Script.{answered};
 ghost use Rattle.th_session.specs.Table.{told_made};
 
-use crate::receipts::keep;
 use crate::seats::{
     Seats, has_receiver, has_sender, make_ready, seat_receiver, seat_sender, take_back,
 };
@@ -34,7 +33,7 @@ fn note(
 {
     match said {
         Ok(receipt) => {
-            keep(receipts, topic, receipt);
+            receipts.push_reserved((topic, receipt));
             Answer::Event
         }
         Err(why) => Answer::Reply(replied_none(why)),

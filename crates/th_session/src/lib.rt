@@ -26,7 +26,6 @@ mod keeping;
 pub mod laws;
 pub mod local;
 mod quit;
-mod receipts;
 mod replies;
 mod run;
 pub mod seats;

@@ -9,7 +9,6 @@ ghost use Rattle.th_session.specs.Step.{IsStep};
 use crate::action::act;
 use crate::keeping::Keeping;
 use crate::quit::quit;
-use crate::receipts::keep;
 use crate::seats::Seats;
 use crate::table::{is_for, replied_list, replied_none, replied_opening};
 use std::alloc::Global;
@@ -100,7 +99,7 @@ fn trace<D: Desk>(
     };
     match desk.cut(found.topic) {
         Ok(segment) => {
-            keep(segments, found.topic, segment);
+            segments.push_reserved((found.topic, segment));
             Answer::Trace
         }
         Err(why) => Answer::Reply(replied_none(why)),

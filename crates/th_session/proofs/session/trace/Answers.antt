@@ -19,7 +19,7 @@ returns-in-Ok-cut g c = λ h.
       refl,
       (
         (Some c.in-Some.found, c.args.desk.now, c.in-Some.ensures, inl (Ok c.in-Ok-cut.segment, c.cut.new.self, c.in-Ok-cut.ensures, (refl, refl, refl))),
-        c.keep.ensures ∙ ap (λ segments. with_segment segments answer) c.reserve.ensures.items,
+        c.push_reserved.ensures.items ∙ ap (λ segments. with_segment segments answer) c.reserve.ensures.items,
       ),
     )
 

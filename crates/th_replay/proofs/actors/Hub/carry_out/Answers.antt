@@ -7,11 +7,13 @@ use Rattle.th_lines.specs.Output.{Output, output}
 use Rattle.th_lines.specs.declared.reply.Code.TheVariants as Codes
 use Rattle.th_lines.specs.declared.reply.Reply.TheVariants.{Refused}
 use Rattle.th_registry.specs.Pictures.{SeenTopics}
+use Rattle.th_session.specs.Kept.{told}
 use Rattle.th_session.specs.Script.{Replied}
+use Rattle.th_session.specs.declared.session.Answer.TheVariants as answers
 use Rattle.th_replay.specs.Schedule.{Actors, Hub, PutsAnswer, asks_by_holding, by_holding, has_quit, holdings, picture_asks, picture_step}
 use Rattle.th_replay.proofs.Holdings.{at-held, handles, set-held}
 use Rattle.th_replay.proofs.Orders.{goes_on, gone, lacks, stays}
-use Rattle.th_replay.proofs.Steps.{ends_so, keeps}
+use Rattle.th_replay.proofs.Steps.{ends_so, keeps, only_replies_quit, told_reply}
 use Rattle.th_replay.proofs.actors.Hub.carry_out.Goals as goal
 
 pub returns-in_default : goal.returns-in_default
@@ -26,40 +28,59 @@ returns-in_default g c =
 pub returns-then-is_gone : goal.returns-then-is_gone
 returns-then-is_gone g c =
     let i = c.self.inside in
-    let a = c.step-answer.ensures.step in
+    let a = c.step.ensures.step in
     let had = c.in-Some.session.now in
-    let has = c.step-answer.new.session in
+    let has = c.step.new.session in
     let after : Output = output g.W.Write.contents c.put_answer-put.new.writer c.put_answer-put.new.out in
     let left : Actors = c.take_out.new.self.actors in
     let P : Hub SeenTopics → SeenTopics → Type 0 = λ hub topics. PutsAnswer (by_holding picture_step hub c.args.place c.args.command (slice_get (values_of hub.actors) c.args.place)) (asks_by_holding picture_asks hub c.args.command (slice_get (values_of hub.actors) c.args.place)) hub (record { topics = topics; actors = left }) (output g.W.Write.contents c.args.writer.now c.args.out.now) after c.put_answer-put.result in
-    let quit : has_quit a.0 ≡ true = sym (c.quits-is_gone.ensures a.0 a.1) ∙ c.if-is_gone.true in
+    let said : answers.Reply c.in-Reply.reply ≡ told a.0 = sym c.in-Reply.is ∙ a.1 in
+    let quit : has_quit a.0 ≡ true = ap has_quit (told_reply a.0 c.in-Reply.reply said) ∙ sym c.has_quit-is_gone.ensures ∙ c.if-is_gone.true in
     let rest = gone a.0 c.args.place has.handles (holdings i.actors.entries) left quit (c.take_out.ensures.actors ∙ ap (λ (all : Actors). remove all c.args.place) (set-held i.actors.entries c.args.place has)) in
     let there = at-held i.actors.entries c.args.place ∙ ap (option_map handles) (sym c.get_index_mut.ensures.value ∙ ap option_copied_mut c.in-Some.is) in
-    let end = ends_so had i.desk.topics c.args.command a.0 has c.step-answer.new.desk.topics i.desk.limit c.self.invariant a.2 in
-    let put = c.put_answer-put.ensures a.0 had a.1 (keeps had i.desk.topics c.args.command a.0 has c.step-answer.new.desk.topics i.desk.limit a.2) in
+    let end = ends_so had i.desk.topics c.args.command a.0 has c.step.new.desk.topics i.desk.limit c.self.invariant a.2 in
+    let put = c.put_answer-put.ensures a.0 had said (keeps had i.desk.topics c.args.command a.0 has c.step.new.desk.topics i.desk.limit a.2) in
     subst (λ (topics : SeenTopics). P c.args.self.now topics) (sym c.take_out.ensures.topics)
-    (subst (λ (hub : Hub SeenTopics). P hub c.step-answer.new.desk.topics) c.self.view_is
-    (a.0, goes_on i.desk.topics (holdings i.actors.entries) c.args.place c.args.command had.handles has.handles a.0 c.step-answer.new.desk.topics left there end rest, put))
+    (subst (λ (hub : Hub SeenTopics). P hub c.step.new.desk.topics) c.self.view_is
+    (a.0, goes_on i.desk.topics (holdings i.actors.entries) c.args.place c.args.command had.handles has.handles a.0 c.step.new.desk.topics left there end rest, put))
 
 pub returns-else-is_gone : goal.returns-else-is_gone
 returns-else-is_gone g c =
     let i = c.self.inside in
-    let a = c.step-answer.ensures.step in
+    let a = c.step.ensures.step in
     let had = c.in-Some.session.now in
-    let has = c.step-answer.new.session in
+    let has = c.step.new.session in
     let after : Output = output g.W.Write.contents c.put_answer-put.new.writer c.put_answer-put.new.out in
     let left : Actors = holdings (set_value_at i.actors.entries c.args.place has) in
-    let P : Hub SeenTopics → Type 0 = λ hub. PutsAnswer (by_holding picture_step hub c.args.place c.args.command (slice_get (values_of hub.actors) c.args.place)) (asks_by_holding picture_asks hub c.args.command (slice_get (values_of hub.actors) c.args.place)) hub (record { topics = c.step-answer.new.desk.topics; actors = left }) (output g.W.Write.contents c.args.writer.now c.args.out.now) after c.put_answer-put.result in
-    let not_quit : has_quit a.0 ≡ false = sym (c.quits-is_gone.ensures a.0 a.1) ∙ c.if-is_gone.false in
+    let P : Hub SeenTopics → Type 0 = λ hub. PutsAnswer (by_holding picture_step hub c.args.place c.args.command (slice_get (values_of hub.actors) c.args.place)) (asks_by_holding picture_asks hub c.args.command (slice_get (values_of hub.actors) c.args.place)) hub (record { topics = c.step.new.desk.topics; actors = left }) (output g.W.Write.contents c.args.writer.now c.args.out.now) after c.put_answer-put.result in
+    let said : answers.Reply c.in-Reply.reply ≡ told a.0 = sym c.in-Reply.is ∙ a.1 in
+    let not_quit : has_quit a.0 ≡ false = ap has_quit (told_reply a.0 c.in-Reply.reply said) ∙ sym c.has_quit-is_gone.ensures ∙ c.if-is_gone.false in
     let rest = set-held i.actors.entries c.args.place has ∙ stays a.0 c.args.place has.handles (holdings i.actors.entries) not_quit in
     let there = at-held i.actors.entries c.args.place ∙ ap (option_map handles) (sym c.get_index_mut.ensures.value ∙ ap option_copied_mut c.in-Some.is) in
-    let end = ends_so had i.desk.topics c.args.command a.0 has c.step-answer.new.desk.topics i.desk.limit c.self.invariant a.2 in
-    let put = c.put_answer-put.ensures a.0 had a.1 (keeps had i.desk.topics c.args.command a.0 has c.step-answer.new.desk.topics i.desk.limit a.2) in
+    let end = ends_so had i.desk.topics c.args.command a.0 has c.step.new.desk.topics i.desk.limit c.self.invariant a.2 in
+    let put = c.put_answer-put.ensures a.0 had said (keeps had i.desk.topics c.args.command a.0 has c.step.new.desk.topics i.desk.limit a.2) in
     subst P c.self.view_is
-    (a.0, goes_on i.desk.topics (holdings i.actors.entries) c.args.place c.args.command had.handles has.handles a.0 c.step-answer.new.desk.topics left there end rest, put)
+    (a.0, goes_on i.desk.topics (holdings i.actors.entries) c.args.place c.args.command had.handles has.handles a.0 c.step.new.desk.topics left there end rest, put)
+
+pub returns-in_default-step : goal.returns-in_default-step
+returns-in_default-step g c =
+    let i = c.self.inside in
+    let a = c.step.ensures.step in
+    let had = c.in-Some.session.now in
+    let has = c.step.new.session in
+    let after : Output = output g.W.Write.contents c.put_answer.new.writer c.put_answer.new.out in
+    let left : Actors = holdings (set_value_at i.actors.entries c.args.place has) in
+    let P : Hub SeenTopics → Type 0 = λ hub. PutsAnswer (by_holding picture_step hub c.args.place c.args.command (slice_get (values_of hub.actors) c.args.place)) (asks_by_holding picture_asks hub c.args.command (slice_get (values_of hub.actors) c.args.place)) hub (record { topics = c.step.new.desk.topics; actors = left }) (output g.W.Write.contents c.args.writer.now c.args.out.now) after c.put_answer.result in
+    let not_quit : has_quit a.0 ≡ false = only_replies_quit a.0 (λ reply t. c.in_default-step.not-Reply reply (a.1 ∙ t)) in
+    let rest = set-held i.actors.entries c.args.place has ∙ stays a.0 c.args.place has.handles (holdings i.actors.entries) not_quit in
+    let there = at-held i.actors.entries c.args.place ∙ ap (option_map handles) (sym c.get_index_mut.ensures.value ∙ ap option_copied_mut c.in-Some.is) in
+    let end = ends_so had i.desk.topics c.args.command a.0 has c.step.new.desk.topics i.desk.limit c.self.invariant a.2 in
+    let put = c.put_answer.ensures a.0 had a.1 (keeps had i.desk.topics c.args.command a.0 has c.step.new.desk.topics i.desk.limit a.2) in
+    subst P c.self.view_is
+    (a.0, goes_on i.desk.topics (holdings i.actors.entries) c.args.place c.args.command had.handles has.handles a.0 c.step.new.desk.topics left there end rest, put)
 
 pub invariant_of-self-then-is_gone : goal.invariant_of-self-then-is_gone
-invariant_of-self-then-is_gone g c = c.step-answer.ensures.limit ∙ c.self.invariant
+invariant_of-self-then-is_gone g c = c.step.ensures.limit ∙ c.self.invariant
 
 pub invariant_of-self-else-is_gone : goal.invariant_of-self-else-is_gone
-invariant_of-self-else-is_gone g c = c.step-answer.ensures.limit ∙ c.self.invariant
+invariant_of-self-else-is_gone g c = c.step.ensures.limit ∙ c.self.invariant
