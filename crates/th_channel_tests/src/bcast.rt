@@ -1,272 +1,151 @@
-//! Runs of the channel over the plain shelf. What is refused memory is made again, so that any one allocation may be
-//! refused (`rt try --test --fail-alloc N`, for one N at a time) and no reply may change.
+//! Each maker, and each call by its name, at the values that lines carry.
 ghost use Rattle.std.specs.Prelude.{◌<◌};
-
-mod pictures;
-mod values;
+ghost use Rattle.th_model.specs.Limits.{ClonesAreEqual};
 
 use std::alloc::Global;
 use std::process::Abort;
-use std::test::Fail;
 use th_bcast::Broadcast;
 use th_model::BCall::{
     CloneTx, DropRx, DropTx, Left, Queued, Readers, Recv, Resubscribe, Send, Subscribe, TryRecv,
 };
-use th_model::BReply::{
-    Closed, Count, Done, Empty, Exhausted, Lagged, NewRx, NewTx, NoHandle, NoReceivers, Sent,
-    TooMany, Value,
-};
-use th_model::{BCall, BReply, Capacity, RxId, Short, TxId};
+use th_model::BReply::{Count, Done, NewRx, NewTx, Sent};
+use th_model::{BCall, BReply, Capacity, RxId, Short, TxId, Value, ValueFault};
 use th_shelf::{PlainShelf, Shelf};
 
-type Channel = Broadcast<u64, PlainShelf<u64>>;
+type Channel = Broadcast<Value, PlainShelf<Value>>;
 
 const TX: TxId = TxId(1);
 
 const RX: RxId = RxId(2);
 
-fn starting_at(alloc: Global, asked: u64, base: u64) -> Result<Channel, Fail> {
-    let capacity = Capacity::new(asked)?;
-    match Channel::starting_at(alloc, capacity, base) {
-        Ok(channel) => Ok(channel),
-        Err(_) => Ok(Channel::starting_at(alloc, capacity, base)?),
+fn word(rt: &impl Abort, alloc: Global, bytes: &[u8]) -> Value {
+    match Value::new(alloc, bytes) {
+        Err(ValueFault::Short) => Value::new(alloc, bytes).expect(rt, "a value"),
+        made => made.expect(rt, "a value"),
     }
 }
 
-fn paired(alloc: Global, asked: u64) -> Result<Channel, Fail> {
-    let capacity = Capacity::new(asked)?;
-    match Channel::channel(alloc, capacity) {
-        Ok(channel) => Ok(channel),
-        Err(_) => Ok(Channel::channel(alloc, capacity)?),
+fn made(alloc: Global, maker: u64) -> Result<Channel, Short<()>> {
+    let Ok(capacity) = Capacity::new(2) else {
+        return Err(Short { call: () });
+    };
+    match maker {
+        0 => Channel::new(alloc, capacity),
+        1 => Channel::channel(alloc, capacity),
+        _ => Channel::starting_at(alloc, capacity, 9),
     }
 }
 
-fn reply_to(channel: &mut Channel, call: BCall<u64>) -> Result<BReply<u64>, Fail> {
-    match channel.apply(call) {
-        Ok(reply) => Ok(reply),
-        Err(short) => Ok(channel.apply(short.call)?),
+// The channel of a maker, which is called again where it was refused memory.
+fn channel(rt: &impl Abort, alloc: Global, maker: u64) -> Channel {
+    match made(alloc, maker) {
+        Ok(channel) => channel,
+        Err(_) => made(alloc, maker).expect(rt, "memory for a channel"),
     }
 }
 
-// The call has this reply.
-fn answers(
-    rt: &impl Abort,
-    channel: &mut Channel,
-    call: BCall<u64>,
-    want: BReply<u64>,
-) -> Result<(), Fail> {
-    assert_eq!(rt; reply_to(channel, call)?, want);
-    Ok(())
+// A call by its name. It is written for any shelf: at one that is known each call would have its whole contract.
+fn named<T: Clone, S: Shelf<T> + Drop>(
+    channel: &mut Broadcast<T, S>,
+    call: BCall<T>,
+) -> Result<BReply<T>, Short<BCall<T>>>
+    requires { ClonesAreEqual T.is_clone }
+{
+    match call {
+        BCall::Send(tx, value) => channel.send(tx, value),
+        BCall::TryRecv(rx) => channel.try_recv(rx),
+        BCall::Recv(rx) => channel.recv(rx),
+        BCall::Subscribe(tx) => channel.subscribe(tx),
+        BCall::SubscribeOldest(tx) => channel.subscribe_oldest(tx),
+        BCall::Resubscribe(rx) => channel.resubscribe(rx),
+        BCall::CloneTx(tx) => channel.clone_tx(tx),
+        BCall::DropTx(tx) => Ok(channel.drop_tx(tx)),
+        BCall::DropRx(rx) => Ok(channel.drop_rx(rx)),
+        BCall::Queued(tx) => Ok(channel.queued(tx)),
+        BCall::Left(rx) => Ok(channel.left(rx)),
+        BCall::Readers(tx) => Ok(channel.readers(tx)),
+    }
 }
 
-// Each call of the rows has the reply beside it.
+// The reply to a call by its name, which is made again where it was refused memory.
+fn told(rt: &impl Abort, channel: &mut Channel, call: BCall<Value>) -> BReply<Value> {
+    match named(channel, call) {
+        Ok(reply) => reply,
+        Err(short) => channel.apply(short.call).expect(rt, "memory for a reply"),
+    }
+}
+
+// The call, by its name, has this reply.
+fn tells(rt: &impl Abort, channel: &mut Channel, call: BCall<Value>, want: BReply<Value>) {
+    assert_eq!(rt; told(rt, channel, call), want);
+}
+
+// A channel that a test is done with. Its parts are let go here, in one place.
+fn drop_channel(_channel: Channel) {}
+
+// Each call of the rows, by its name, has the reply beside it.
 fn follow<const N: usize>(
     rt: &impl Abort,
     channel: &mut Channel,
-    rows: [(BCall<u64>, BReply<u64>); N],
-) -> Result<(), Fail>
+    rows: [(BCall<Value>, BReply<Value>); N],
+)
     requires { N < 100 }
 {
     for (call, want) in rows {
-        answers(rt, channel, call, want)?;
+        tells(rt, channel, call, want);
     }
-    Ok(())
 }
 
-// Sends the numbers from 1 on, to one receiver.
-fn send_up_to(rt: &impl Abort, channel: &mut Channel, last: u64) -> Result<(), Fail> {
-    for value in 1..=last {
-        answers(rt, channel, Send(TX, value), Sent(1))?;
+#[test]
+fn is_made(rt: HostRuntime) {
+    for (maker, readers) in [(0, 0), (1, 1), (2, 0)] {
+        let mut channel = channel(&rt, rt.alloc(), maker);
+        tells(&rt, &mut channel, Readers(TX), Count(readers));
+        drop_channel(channel);
     }
-    Ok(())
+}
+
+fn is_ready(channel: &Channel, call: BCall<Value>) -> bool {
+    channel.ready(&call)
+}
+
+// The receiver gets this word.
+fn gives(rt: &impl Abort, channel: &mut Channel, call: BCall<Value>, word: Value) {
+    tells(rt, channel, call, BReply::Value(word));
 }
 
 #[test]
-fn lags_by_the_capacity_in_force(rt: HostRuntime) -> Result<(), Fail> {
-    for (values, first) in [(16, Value(1)), (17, Lagged(1))] {
-        let mut channel = paired(rt.alloc(), 10)?;
-        send_up_to(&rt, &mut channel, values)?;
-        let rows = [
-            (Left(RX), Count(values)),
-            (TryRecv(RX), first),
-            (TryRecv(RX), Value(2)),
-        ];
-        follow(&rt, &mut channel, rows)?;
+fn carries(rt: HostRuntime) {
+    let alloc = rt.alloc();
+    let mut channel = channel(&rt, alloc, 1);
+    assert!(rt; !is_ready(&channel, Recv(RX)));
+    for bytes in [b"seven", b"eight"] {
+        tells(
+            &rt,
+            &mut channel,
+            Send(TX, word(&rt, alloc, bytes)),
+            Sent(1),
+        );
     }
-    Ok(())
+    assert!(rt; is_ready(&channel, Recv(RX)));
+    tells(&rt, &mut channel, Queued(TX), Count(2));
+    gives(&rt, &mut channel, TryRecv(RX), word(&rt, alloc, b"seven"));
+    gives(&rt, &mut channel, Recv(RX), word(&rt, alloc, b"eight"));
+    tells(&rt, &mut channel, Left(RX), Count(0));
+    drop_channel(channel);
 }
 
 #[test]
-fn closes_after_the_last_value(rt: HostRuntime) -> Result<(), Fail> {
-    let mut channel = paired(rt.alloc(), 2)?;
-    let rows = [
-        (Send(TX, 7), Sent(1)),
-        (DropTx(TX), Done),
-        (TryRecv(RX), Value(7)),
-        (TryRecv(RX), Closed),
-        (Recv(RX), Closed),
-        (Subscribe(TX), NoHandle(None)),
-    ];
-    follow(&rt, &mut channel, rows)?;
-
-    // A lagging receiver is told so first.
-    let mut channel = paired(rt.alloc(), 1)?;
-    let rows = [
-        (Send(TX, 7), Sent(1)),
-        (Send(TX, 8), Sent(1)),
-        (DropTx(TX), Done),
-        (TryRecv(RX), Lagged(1)),
-        (TryRecv(RX), Value(8)),
-        (TryRecv(RX), Closed),
-    ];
-    follow(&rt, &mut channel, rows)
-}
-
-#[test]
-fn keeps_for_the_slowest(rt: HostRuntime) -> Result<(), Fail> {
-    let mut channel = paired(rt.alloc(), 2)?;
-    let rows = [
-        (Subscribe(TX), NewRx(RxId(3))),
-        (Send(TX, 7), Sent(2)),
-        (Send(TX, 8), Sent(2)),
-        (Queued(TX), Count(2)),
-        (TryRecv(RX), Value(7)),
-        (Queued(TX), Count(2)),
-        (DropRx(RxId(3)), Done),
-        (Queued(TX), Count(1)),
-        (Resubscribe(RX), NewRx(RxId(4))),
-        (DropRx(RX), Done),
-        (Queued(TX), Count(0)),
-        (TryRecv(RxId(4)), Empty),
-    ];
-    follow(&rt, &mut channel, rows)?;
-
-    // A new receiver gets what is sent after its making.
-    let mut channel = paired(rt.alloc(), 2)?;
-    let rows = [
-        (Send(TX, 7), Sent(1)),
-        (TryRecv(RX), Value(7)),
-        (Subscribe(TX), NewRx(RxId(3))),
-        (Left(RxId(3)), Count(0)),
-        (Queued(TX), Count(0)),
-        (TryRecv(RxId(3)), Empty),
-    ];
-    follow(&rt, &mut channel, rows)
-}
-
-#[test]
-fn ends_at_the_last_position(rt: HostRuntime) -> Result<(), Fail> {
-    let mut channel = starting_at(rt.alloc(), 2, u64::MAX - 1)?;
+fn makes_and_spends_handles(rt: HostRuntime) {
+    let mut channel = channel(&rt, rt.alloc(), 0);
     let rows = [
         (Subscribe(TX), NewRx(RX)),
-        (Send(TX, 7), Sent(1)),
-        (Send(TX, 8), Exhausted(8)),
-        (TryRecv(RX), Value(7)),
-        (TryRecv(RX), Empty),
-    ];
-    follow(&rt, &mut channel, rows)?;
-
-    let mut channel = starting_at(rt.alloc(), 2, u64::MAX)?;
-    let rows = [
-        (Subscribe(TX), NewRx(RX)),
-        (Send(TX, 7), Exhausted(7)),
-        (Left(RX), Count(0)),
-    ];
-    follow(&rt, &mut channel, rows)
-}
-
-#[test]
-fn answers_only_live_handles(rt: HostRuntime) -> Result<(), Fail> {
-    let mut channel = paired(rt.alloc(), 1)?;
-    let rows = [
-        (Send(TxId(9), 7), NoHandle(Some(7))),
-        (TryRecv(RxId(1)), NoHandle(None)),
+        (Resubscribe(RX), NewRx(RxId(3))),
+        (CloneTx(TX), NewTx(TxId(4))),
+        (DropTx(TX), Done),
         (DropRx(RX), Done),
-        (DropRx(RX), NoHandle(None)),
-        (Send(TX, 7), NoReceivers(7)),
+        (Readers(TxId(4)), Count(1)),
     ];
-    follow(&rt, &mut channel, rows)
-}
-
-// As many receivers as there may be, 2 to 65,536.
-fn fill(rt: &impl Abort, channel: &mut Channel) -> Result<(), Fail> {
-    for number in 2..65_537 {
-        answers(rt, channel, Subscribe(TX), NewRx(RxId(number)))?;
-    }
-    Ok(())
-}
-
-#[test]
-fn has_room_for_65_535_receivers(rt: HostRuntime) -> Result<(), Fail> {
-    let mut channel = starting_at(rt.alloc(), 1, 0)?;
-    fill(&rt, &mut channel)?;
-    let rows = [
-        (Subscribe(TX), TooMany),
-        (CloneTx(TX), NewTx(TxId(65_537))),
-        (DropRx(RX), Done),
-        (Subscribe(TX), NewRx(RxId(65_538))),
-        (Readers(TX), Count(65_535)),
-    ];
-    follow(&rt, &mut channel, rows)
-}
-
-fn in_force(asked: u64) -> Option<u64> {
-    let Ok(capacity) = Capacity::new(asked) else {
-        return None;
-    };
-    Some(capacity.in_force())
-}
-
-#[test]
-fn refuses_capacities(rt: HostRuntime) {
-    for (asked, want) in [
-        (0, None),
-        (1, Some(1)),
-        (10, Some(16)),
-        (32_769, Some(65_536)),
-        (65_536, Some(65_536)),
-        (65_537, None),
-    ] {
-        assert_eq!(rt; in_force(asked), want, "asked for {asked}");
-    }
-}
-
-// A shelf with a receiver, and a value at position 5.
-#[tactic(auto, unfolding(th_model::specs::Window::placed, th_model::specs::Window::trimmed))]
-fn shelf_of_one(alloc: Global, capacity: Capacity) -> Result<PlainShelf<u64>, Short<()>> {
-    let mut shelf: PlainShelf<u64> = Shelf::new(alloc, capacity, 5)?;
-    let Ok(()) = shelf.join(RX) else {
-        return Err(Short { call: () });
-    };
-    let Ok(()) = shelf.push(7) else {
-        return Err(Short { call: () });
-    };
-    Ok(shelf)
-}
-
-// The values that a shelf keeps at these positions.
-fn keeps(rt: &impl Abort, shelf: &PlainShelf<u64>, rows: [(u64, Option<&u64>); 3]) {
-    for (position, want) in rows {
-        assert_eq!(rt; shelf.value(position), want, "at {position}");
-    }
-}
-
-// The receivers of a shelf, each with its place, by their numbers from 0.
-fn serves(rt: &impl Abort, shelf: &PlainShelf<u64>, rows: [(u64, Option<(RxId, u64)>); 2]) {
-    for (number, want) in rows {
-        assert_eq!(rt; shelf.reader_at(number), want, "receiver {number}");
-    }
-}
-
-// What no call of the channel reads.
-#[test]
-fn the_shelf_shows_what_it_keeps(rt: HostRuntime) -> Result<(), Fail> {
-    let capacity = Capacity::new(2)?;
-    let shelf = match shelf_of_one(rt.alloc(), capacity) {
-        Ok(shelf) => shelf,
-        Err(_) => shelf_of_one(rt.alloc(), capacity)?,
-    };
-    keeps(&rt, &shelf, [(4, None), (5, Some(&7)), (6, None)]);
-    serves(&rt, &shelf, [(0, Some((RX, 5))), (1, None)]);
-    Ok(())
+    follow(&rt, &mut channel, rows);
+    drop_channel(channel);
 }

@@ -1,13 +1,7 @@
-//! Runs of the channel. The two longest make a call that is refused memory again, once, so that one
-//! allocation after another may be refused (`rt try --test --fail-alloc N`, for N = 1, 2 and so on)
-//! and no reply may change. A refusal elsewhere ends the test with that error; an `assertion` that
-//! fails is a wrong reply.
+//! Edits by closures, which no line of a schedule has, and each call by its name.
 ghost use Rattle.std.specs.Prelude.{◌≡◌, ◌+◌, ◌-◌, ◌^◌, ◌<◌, true, IfOk};
 ghost use Rattle.th_model.specs.Limits.{ClonesAreEqual};
 ghost use Rattle.th_model.specs.WatchMachine.{IsExact};
-
-mod pictures;
-mod texts;
 
 use std::alloc::Global;
 use std::process::Abort;
@@ -19,7 +13,7 @@ use th_model::WCall::{
 };
 use th_model::WReply::{
     Closed, Count, Done, Exhausted, Gone, Marked, Modified, NewRx, NewTx, NoHandle, NoReceivers,
-    NotYet, Shown, TooMany, Was,
+    NotYet, Shown, Was,
 };
 use th_model::{RxId, Short, TxId, WCall, WReply};
 use th_watch::{EditRefused, Watch};
@@ -88,41 +82,6 @@ fn named<T: Clone + PartialEq>(
 
 fn is_ready<T: Drop>(channel: &Watch<T>, call: WCall<T>) -> bool {
     channel.ready(&call)
-}
-
-// A run in which one call may be refused memory.
-#[derive(Drop)]
-struct Run {
-    channel: Watch<u64>,
-    // Whether one was.
-    refused: bool,
-}
-
-impl Run {
-    fn starting_at(alloc: Global, value: u64, version: u64) -> Result<Run, Fail>
-        requires { 0 < version }
-    {
-        match Watch::starting_at(alloc, value, version) {
-            Ok(channel) => Ok(Run {
-                channel,
-                refused: false,
-            }),
-            Err(short) => Ok(Run {
-                channel: Watch::starting_at(alloc, short.call, version)?,
-                refused: true,
-            }),
-        }
-    }
-
-    fn reply_to(&mut self, call: WCall<u64>) -> Result<WReply<u64>, Fail> {
-        match self.channel.apply(call) {
-            Err(short) if !self.refused => {
-                self.refused = true;
-                Ok(self.channel.apply(short.call)?)
-            }
-            said => Ok(said?),
-        }
-    }
 }
 
 // What a caller learns of a closure's edit.
@@ -242,136 +201,7 @@ fn ends_at_the_last_version(rt: HostRuntime) -> Result<(), Fail> {
     follow(&rt, &mut channel, rows)
 }
 
-// The letters of the values by their numbers.
-const A: u64 = 1;
-
-const B: u64 = 2;
-
-const C: u64 = 3;
-
-const D: u64 = 4;
-
-const E: u64 = 5;
-
-const F: u64 = 6;
-
-const Z: u64 = 26;
-
-#[test]
-fn a_story_of_one_reader(rt: HostRuntime) -> Result<(), Fail> {
-    let mut channel = Watch::new(rt.alloc(), A)?;
-    let tx = TxId(2);
-    let rx = RxId(3);
-    // A refused send is not stored; a replace needs no reader.
-    let rows = [
-        (CloneTx(TX), NewTx(tx)),
-        (Send(tx, Z), NoReceivers(Z)),
-        (Replace(tx, B), Was(A)),
-        (Subscribe(TX), NewRx(rx)),
-        (HasChanged(rx), WReply::Changed(false)),
-        (Borrow(rx), Shown(B, false)),
-    ];
-    follow(&rt, &mut channel, rows)?;
-    // A value is unseen until it is taken or marked.
-    let rows = [
-        (Send(tx, C), Done),
-        (Borrow(rx), Shown(C, true)),
-        (Borrow(rx), Shown(C, true)),
-        (Take(rx), Shown(C, true)),
-        (Take(rx), Shown(C, false)),
-        (MarkChanged(rx), Done),
-        (HasChanged(rx), WReply::Changed(true)),
-        (TryChanged(rx), Marked),
-        (TryChanged(rx), NotYet),
-        (MarkChanged(rx), Done),
-        (MarkUnchanged(rx), Done),
-        (HasChanged(rx), WReply::Changed(false)),
-    ];
-    follow(&rt, &mut channel, rows)?;
-    // A quiet edit is shown and not told.
-    let rows = [
-        (EditBy(tx, Quiet(D)), Modified(false)),
-        (HasChanged(rx), WReply::Changed(false)),
-        (Borrow(rx), Shown(D, false)),
-        (EditBy(tx, Differ(D)), Modified(false)),
-        (EditBy(tx, Differ(E)), Modified(true)),
-        (Take(rx), Shown(E, true)),
-    ];
-    follow(&rt, &mut channel, rows)?;
-    // On a closed channel an unseen value is told first.
-    let rows = [
-        (Send(tx, F), Done),
-        (DropTx(TX), Done),
-        (DropTx(tx), Done),
-        (HasChanged(rx), Closed),
-        (TryChanged(rx), Marked),
-        (TryChanged(rx), Closed),
-        (Borrow(rx), Shown(F, false)),
-    ];
-    follow(&rt, &mut channel, rows)
-}
-
-// The same for a run in which one call may be refused memory.
-fn run_answers(
-    rt: &impl Abort,
-    run: &mut Run,
-    call: WCall<u64>,
-    want: WReply<u64>,
-) -> Result<(), Fail> {
-    assert_eq!(rt; run.reply_to(call)?, want);
-    Ok(())
-}
-
-fn run_follows<const N: usize>(
-    rt: &impl Abort,
-    run: &mut Run,
-    rows: [(WCall<u64>, WReply<u64>); N],
-) -> Result<(), Fail>
-    requires { N < 100 }
-{
-    for (call, want) in rows {
-        run_answers(rt, run, call, want)?;
-    }
-    Ok(())
-}
-
-// As many readers as there may be, 2 to 65,536.
-fn fill(rt: &impl Abort, run: &mut Run) -> Result<(), Fail> {
-    for number in 2..65_537 {
-        run_answers(rt, run, Subscribe(TX), NewRx(RxId(number)))?;
-    }
-    Ok(())
-}
-
-fn all_take_8(rt: &impl Abort, run: &mut Run) -> Result<(), Fail> {
-    for number in 2..65_537 {
-        run_answers(rt, run, Take(RxId(number)), Shown(8, true))?;
-    }
-    Ok(())
-}
-
-#[test]
-fn has_room_for_65_535_readers(rt: HostRuntime) -> Result<(), Fail> {
-    let mut run = Run::starting_at(rt.alloc(), 7, 1)?;
-    fill(&rt, &mut run)?;
-    let rows = [
-        (Subscribe(TX), TooMany),
-        (CloneRx(RX), TooMany),
-        (CloneTx(TX), NewTx(TxId(65_537))),
-        (Readers(TX), Count(65_535)),
-        (Send(TX, 8), Done),
-    ];
-    run_follows(&rt, &mut run, rows)?;
-    all_take_8(&rt, &mut run)?;
-    let rows = [
-        (DropRx(RX), Done),
-        (Subscribe(TX), NewRx(RxId(65_538))),
-        (HasChanged(RxId(65_538)), WReply::Changed(false)),
-    ];
-    run_follows(&rt, &mut run, rows)
-}
-
-// The same, each call by its name.
+// The same as `follow`, each call by its name.
 fn follow_by_name<const N: usize>(
     rt: &impl Abort,
     channel: &mut Watch<u64>,

@@ -1,7 +1,10 @@
-//! Tests of the hub: its topics, and the commands of its sessions. A module is named for the crate that it tests.
+//! Tests of a hub of one thread, for what no row of a script shows: what a session keeps, topics with as many handles as there may be,
+//! and a log that is full. What lines are answered is told by the tables of `checks/rows`.
 #![tactic(auto)]
 
 #[cfg(test)]
-mod registry;
+mod hub;
 #[cfg(test)]
-mod session;
+mod kept;
+#[cfg(test)]
+mod limits;

@@ -8,8 +8,6 @@ mod audits;
 mod segments;
 mod shares;
 mod story;
-mod stubborn;
-mod watch;
 
 use std::alloc::Global;
 use std::process::Abort;

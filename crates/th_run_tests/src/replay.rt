@@ -1,11 +1,6 @@
 //! Schedules, bytes in and bytes out: what comes of a run over devices.
-mod actors;
 mod bounds;
-mod cases;
 mod faults;
-mod lists;
-mod memory;
-mod rows;
 
 use crate::devices::{Manner, Sink, Source, WELL, reader_of, writer_to};
 use std::alloc::{AllocError, Global};

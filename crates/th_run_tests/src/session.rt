@@ -1,8 +1,6 @@
 //! Whole runs of a session over memory, and what is left on the desk after them.
 use crate::devices::{Manner, Sink, WELL, reader_of, writer_to};
 use std::alloc::{AllocError, Global};
-use std::io;
-use std::io::{Read, Write};
 use std::process::Abort;
 use std::sync::atomic::{AtomicU64, Ordering};
 use std::test::Fail;
@@ -113,8 +111,6 @@ fn is_ended(rt: &impl Abort, end: &End, fault: Option<SessionFault>, text: &[u8]
     assert!(rt; end.left.as_slice() == b"OK 0\nOK\nOK\nCLOSED\n".as_slice());
 }
 
-const BYTE: Manner = Manner { most: 1, ..WELL };
-
 fn failing_at(call: u64) -> Manner {
     Manner {
         fails_at: call,
@@ -132,14 +128,6 @@ fn nothing_is_read_after_quit(rt: HostRuntime) -> Result<(), Fail> {
     is_ended(&rt, &end, None, QUIT_REPLIES);
     // One write for all that came together, and one flush.
     assert!(rt; end.writes == 2 && end.receipts == 1);
-    Ok(())
-}
-
-#[test]
-fn lines_come_byte_by_byte(rt: HostRuntime) -> Result<(), Fail> {
-    let end = run(&rt, rt.alloc(), &OpenGate, QUITS, BYTE, WELL)?;
-    is_ended(&rt, &end, None, QUIT_REPLIES);
-    assert!(rt; end.writes == 8 && end.receipts == 1);
     Ok(())
 }
 
@@ -206,73 +194,5 @@ fn nothing_is_held_after_a_thousand_noes(rt: HostRuntime) -> Result<(), Fail> {
     is_ended(&rt, &end, Some(SessionFault::Gate), &HOLD_REPLIES[..11]);
     assert!(rt; gate.refused.load(Ordering::SeqCst) == 1000);
     assert!(rt; gate.told.load(Ordering::SeqCst) == 3);
-    Ok(())
-}
-
-#[test]
-fn a_long_line_is_answered_once(rt: HostRuntime) -> Result<(), Fail> {
-    let mut input = Vec::with_capacity(rt.alloc(), 8192)?;
-    input.extend_from_slice(b"OPEN t B 1\n")?;
-    input.resize(4108, b'x')?;
-    input.extend_from_slice(b"\nSUB t\nfoo\n")?;
-    let read = Manner { most: 1000, ..WELL };
-    let end = run(&rt, rt.alloc(), &OpenGate, input.as_slice(), read, WELL)?;
-    let text = b"OK 1\nERR 23 long-line\nOK\nERR 10 bad-line\n";
-    is_ended(&rt, &end, None, text);
-    Ok(())
-}
-
-// Gives empty lines without an end.
-#[derive(Drop)]
-struct EmptyLines;
-
-impl Read for EmptyLines {
-    fn read(&mut self, buf: &mut [u8]) -> io::Result<usize> {
-        buf.fill(b'\n');
-        Ok(buf.len())
-    }
-}
-
-// Counts the bytes that it takes.
-#[derive(Drop)]
-struct Scale {
-    bytes: u64,
-}
-
-impl Write for Scale {
-    fn write(&mut self, buf: &[u8]) -> io::Result<usize> {
-        self.bytes = self.bytes.saturating_add(buf.len() as u64);
-        Ok(buf.len())
-    }
-
-    fn flush(&mut self) -> io::Result<()> {
-        Ok(())
-    }
-}
-
-#[test]
-fn a_million_lines_are_answered(rt: HostRuntime) -> Result<(), Fail> {
-    let gate = ShutGate {
-        from: u64::MAX,
-        refused: AtomicU64::new(0),
-        told: AtomicU64::new(0),
-    };
-    let mut reader = Counted::new(EmptyLines);
-    let mut writer = Counted::new(Scale { bytes: 0 });
-    let mut desk = LocalDesk::new(rt.alloc());
-    let (_, fault) = run_session(
-        &rt,
-        rt.alloc(),
-        &mut reader,
-        &mut writer,
-        &mut desk,
-        &gate,
-        1,
-        Keeping::All,
-    );
-    assert!(rt; fault == Some(SessionFault::TooLong));
-    // Each is answered "ERR 10 bad-line".
-    assert!(rt; writer.device().bytes == 16_000_000);
-    assert!(rt; gate.told.load(Ordering::SeqCst) == 1_000_000);
     Ok(())
 }

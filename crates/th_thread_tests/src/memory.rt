@@ -1,85 +1,15 @@
-//! Want of memory: what was refused is no event, is told to the caller, and can be done again.
-//!
-//! The second test is also run with one allocation after another refused (`rt try --test --fail-alloc N`, for N = 1, 2
-//! and so on).
-ghost use Rattle.std.specs.Prelude.{◌≡◌};
-
-use crate::broadcast_calls::{self, owner_of, sender_seen, spend_receiver, spend_sender};
-use crate::histories::{closed, drop_log, finished, total};
-use std::alloc::{AllocError, Global};
-use std::clone::Clone;
+//! Want of memory: what was refused can be done again. The test is also run with one allocation after another refused (`rt try --test
+//! --fail-alloc N`, for N = 1, 2 and so on).
+use crate::broadcast_calls::{self, owner_of, spend_receiver, spend_sender};
+use crate::histories::{closed, finished, total};
+use std::alloc::Global;
 use std::process::Abort;
 use std::sync::Wait;
 use std::thread;
-use th_block::{BReceiver, BSender, broadcast};
+use th_block::{BReceiver, BSender};
 use th_log::Refused;
-use th_model::{BCall, Capacity, TxId};
+use th_model::Capacity;
 use th_seats::Share;
-
-/// There is never memory for a second one.
-#[derive(Debug, Drop, PartialEq)]
-struct Stubborn(u64);
-
-impl Clone for Stubborn {
-    ghost is_clone = { λ x y. y ≡ x };
-
-    fn clone(&self) -> Result<Stubborn, AllocError> {
-        Err(AllocError)
-    }
-}
-
-// The calls at this type stand in functions of their own, as those at numbers do.
-
-fn opened(rt: &impl Abort, alloc: Global) -> BSender<Stubborn> {
-    let capacity = Capacity::new(2).expect(rt, "a capacity");
-    broadcast(alloc, capacity, 4, 7).expect(rt, "a channel")
-}
-
-fn received_by<R: Wait + Abort>(rt: &R, tx: &mut BSender<Stubborn>) -> BReceiver<Stubborn> {
-    let (_, made) = tx.subscribe(rt).expect(rt, "an event");
-    made.expect(rt, "a receiver")
-}
-
-// The call that comes back for want of memory.
-fn refused<R: Wait + Abort>(
-    rt: &R,
-    tx: &mut BSender<Stubborn>,
-    value: Stubborn,
-) -> BCall<Stubborn> {
-    let Err(Refused::Short(call)) = tx.send(rt, value) else {
-        panic!(rt; "not told to be short of memory");
-    };
-    call
-}
-
-fn sender_is_spent<R: Wait + Abort>(rt: &R, tx: BSender<Stubborn>) -> Share {
-    match tx.spend(rt) {
-        Ok(share) => share,
-        Err(_back) => panic!(rt; "a spending was refused"),
-    }
-}
-
-fn receiver_is_spent<R: Wait + Abort>(rt: &R, rx: BReceiver<Stubborn>) -> Share {
-    match rx.spend(rt) {
-        Ok(share) => share,
-        Err(_back) => panic!(rt; "a spending was refused"),
-    }
-}
-
-#[test]
-fn a_refused_send_comes_back(rt: HostRuntime) {
-    let mut tx = opened(&rt, rt.alloc());
-    let rx = received_by(&rt, &mut tx);
-    let call = refused(&rt, &mut tx, Stubborn(5));
-    assert_eq!(rt; call, BCall::Send(TxId(1), Stubborn(5)));
-    assert_eq!(rt; sender_seen(&tx), 1);
-    let owner = owner_of(&rt, &tx);
-    let (tx, rx) = (sender_is_spent(&rt, tx), receiver_is_spent(&rt, rx));
-    assert_eq!(rt; (tx.count(), rx.count()), (2, 1));
-    let log = finished(&rt, owner);
-    assert_eq!(rt; total(&log), 3);
-    drop_log(log);
-}
 
 // The call is made again where memory was refused, which happens once.
 fn sent<R: Wait>(rt: &R, to: &mut BSender<u64>, value: u64) -> bool {
