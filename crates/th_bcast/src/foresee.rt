@@ -2,7 +2,7 @@
 ghost use Rattle.std.specs.Prelude.{◌≡◌, IfOk, IsOk};
 ghost use Rattle.th_model.specs.Limits.{ClonesAreEqual};
 ghost use Rattle.th_model.specs.Handles.{is_full};
-ghost use Rattle.th_model.specs.BroadcastPicture.{IsSound, answer, TakesNoMemory};
+ghost use Rattle.th_model.specs.BroadcastPicture.{answer, TakesNoMemory};
 ghost use Rattle.th_model.specs.declared.broadcast.BCall.TheVariants.{TryRecv, Send, Subscribe, SubscribeOldest, Resubscribe, CloneTx, DropTx, DropRx};
 
 use crate::broadcast::Broadcast;

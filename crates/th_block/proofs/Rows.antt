@@ -5,7 +5,7 @@ use Rattle.th_glance.specs.Lists.{last_count}
 use Rattle.th_glance.specs.Seats.{Known as Sighted}
 use Rattle.th_log.specs.Outcome.{Told, counted}
 use Rattle.th_block.specs.Handles.{Holder, Known, Looked, Tells, seen_of}
-use Rattle.th_block.specs.Rows.{AddsOne, CallsInRow, EnteredInRow, IsRow, counted_by}
+use Rattle.th_block.specs.Rows.{AddsOne, CallsInRow, EnteredInRow, IsRow}
 
 abbrev pub holder : ℕ → Known → Holder
 holder number known = record { number = number; known = known }

@@ -1,5 +1,5 @@
 -- Calls of a handle that are made together, with nothing between them.
-use Rattle.std.specs.Prelude.{◌≡◌, ℕ, ◌+◌, ◌≤◌, ◌<◌, Bool, true, false, List, [], ◌∷◌, ◌++◌, length}
+use Rattle.std.specs.Prelude.{◌≡◌, ℕ, ◌+◌, ◌≤◌, Bool, true, false, List, [], ◌∷◌, ◌++◌, length}
 use Rattle.th_seats.specs.Tally.{Part, Tally}
 use Rattle.th_log.specs.Outcome.{Told, ticked}
 use Rattle.th_block.specs.Handles.{Holder, Known, Looked, Tells, seen_of}

@@ -18,7 +18,7 @@ use std::alloc::Global;
 use std::marker::{Model, PhantomData};
 use std::sync::Wait;
 use th_glance::{Eye, Glance};
-use th_log::{Logged, MakeFault, Object, Receipt, Refused};
+use th_log::{Logged, MOST_ENTRIES, MakeFault, Object, Receipt, Refused};
 use th_model::Short;
 use th_seats::Share;
 
@@ -64,9 +64,6 @@ impl<O: Object, S> Handle<O, S> {
         }
     }
 }
-
-/// The most entries of a segment.
-const MOST_ENTRIES: u64 = 1_000_000;
 
 // Whether a log with one live handle may have this limit.
 pub(crate) fn is_limit(limit: u64) -> bool

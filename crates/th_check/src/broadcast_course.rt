@@ -8,14 +8,14 @@ ghost use Rattle.th_check.specs.Judging.{IsOther, IsShown, Shows, TurnsTo, taken
 ghost use Rattle.th_check.specs.Points.{BroadcastStage, words_of_broadcast};
 ghost use Rattle.th_check.specs.Stages.{CallDue, ReplyDue};
 
-use crate::course::{Course, Due, MOST_ENTRIES, take_end};
+use crate::course::{Course, Due, take_end};
 use crate::fault::{Expected, Stop};
 use crate::printed::is_broadcast_reply;
 use std::alloc::Global;
 use std::mem::replace;
 use th_bcast::Broadcast;
 use th_lines::LineFault;
-use th_log::Object;
+use th_log::{MOST_ENTRIES, Object};
 use th_model::{BCall, BReply, Value};
 use th_ring::RingShelf;
 use th_traces::{

@@ -1,13 +1,9 @@
 //! How far the entries of a trace were judged.
-ghost use Rattle.std.specs.Prelude.{◌≡◌};
 ghost use Rattle.th_check.specs.Judging.{EndsAt};
 ghost use Rattle.th_traces.specs.Entries.{end_of};
 
 use crate::fault::Stop;
 use th_traces::read_end;
-
-/// The most entries of a trace.
-pub(crate) const MOST_ENTRIES: u64 = 1_000_000;
 
 /// How far the entries of a trace were judged, with the channel that goes through them again.
 #[derive(Drop)]

@@ -7,13 +7,13 @@ ghost use Rattle.th_check.specs.Judging.{IsOther, IsShown, Shows, TurnsTo, taken
 ghost use Rattle.th_check.specs.Points.{WatchStage, watch_machine, words_of_watch};
 ghost use Rattle.th_check.specs.Stages.{CallDue, ReplyDue};
 
-use crate::course::{Course, Due, MOST_ENTRIES, take_end};
+use crate::course::{Course, Due, take_end};
 use crate::fault::{Expected, Stop};
 use crate::printed::is_watch_reply;
 use std::alloc::Global;
 use std::mem::replace;
 use th_lines::LineFault;
-use th_log::Object;
+use th_log::{MOST_ENTRIES, Object};
 use th_model::{Value, WCall, WReply};
 use th_traces::{gives_watch_value, read_watch_call, says_watch_reply, spells_watch_reply};
 use th_watch::Watch;

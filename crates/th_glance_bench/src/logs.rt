@@ -6,7 +6,7 @@ use crate::fault::Fault;
 use std::alloc::Global;
 use th_bcast::Broadcast;
 use th_glance::{Eye, Pen};
-use th_log::{Logged, Object, Receipt};
+use th_log::{Logged, MOST_ENTRIES, Object, Receipt};
 use th_model::{BCall, BReply, Capacity, TxId};
 use th_ring::RingShelf;
 use th_seats::Share;
@@ -15,8 +15,6 @@ use th_seats::Share;
 pub type Ring = Broadcast<u64, RingShelf<u64>>;
 
 const CAPACITY: u64 = 4_096;
-
-const MOST_ENTRIES: u64 = 1_000_000;
 
 const KEY: u64 = 1;
 

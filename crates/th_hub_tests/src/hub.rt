@@ -44,12 +44,11 @@ fn answer_to(
 pub fn follow(rt: &impl Abort, alloc: Global, hub: &mut Hub, rows: &[(&str, &str)]) {
     for (line, wanted) in rows {
         let (actor, command) = line.split_once(' ').unwrap_or(("", line));
-        let session = match actor {
-            "a" => &mut hub.a,
-            "b" => &mut hub.b,
-            _ => &mut hub.c,
+        let told = match actor {
+            "a" => answer_to(rt, alloc, &mut hub.desk, &mut hub.a, command),
+            "b" => answer_to(rt, alloc, &mut hub.desk, &mut hub.b, command),
+            _ => answer_to(rt, alloc, &mut hub.desk, &mut hub.c, command),
         };
-        let told = answer_to(rt, alloc, &mut hub.desk, session, command);
         assert!(rt; told.as_slice() == wanted.as_bytes(), "{line}");
     }
 }

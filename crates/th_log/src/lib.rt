@@ -22,7 +22,7 @@ pub mod watch;
 pub use audits::{AuditFault, Audited, audit};
 pub use closing::close;
 pub use diary::Diary;
-pub use logged::{Logged, MakeFault};
+pub use logged::{Logged, MOST_ENTRIES, MakeFault};
 pub use object::{Compared, Event, Object};
 pub use receipt::{Receipt, Refused};
 pub use segment::{JoinFault, Segment};

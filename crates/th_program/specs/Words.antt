@@ -6,7 +6,6 @@ use Rattle.clap.specs.Words.{App, new_app, new_rule, subcommand_of, with_rule, w
 use Rattle.th_program.specs.declared.modes.Mode.{Mode}
 use Rattle.th_program.specs.declared.modes.Mode.TheVariants.{Check, Replay, Serve}
 use Rattle.th_program.specs.declared.modes.Asked.{Asked}
-use Rattle.th_program.specs.declared.modes.Asked.TheVariants as Asked
 use Rattle.th_program.specs.declared.modes.ModeFault.{ModeFault}
 use Rattle.th_program.specs.declared.modes.ModeFault.TheVariants.{Usage, Help, Short}
 

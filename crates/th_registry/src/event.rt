@@ -1,13 +1,11 @@
 //! The events of one channel.
-ghost use Rattle.std.specs.Prelude.{◌≡◌, ◌<◌, ◌&&◌, Some, not, true, nat_eq};
+ghost use Rattle.std.specs.Prelude.{◌≡◌, ◌<◌, Some, true, nat_eq};
 ghost use Rattle.std.specs.Cmp.Lexicographic.{pointwise};
 ghost use Rattle.th_log.specs.History.{live_after};
 ghost use Rattle.th_log.specs.Machines.{broadcast, watch};
 ghost use Rattle.th_model.specs.Live.{live_handles, live_watchers};
 ghost use Rattle.th_registry.specs.Events.{Asks, Binds, DropsRx, DropsTx, Hub, NewRx, NewTx, Own, Receives, Resubscribes, Sends, Subscribes, any_sender, broadcast_call, broadcast_made_rx, broadcast_made_tx, sender_of, watch_call, watch_made_rx, watch_made_tx};
 ghost use Rattle.th_registry.specs.Outcomes.{BroadcastMoves, BroadcastSays, BroadcastSpends, BroadcastTells, ChannelCuts, ChannelTells, WatchSays, WatchSpends, WatchTells};
-ghost use Rattle.th_registry.specs.Calls.{tx};
-ghost use Rattle.th_registry.specs.Pictures.{seen_broadcast, seen_watch};
 ghost use Rattle.th_registry.specs.Typed.{ended, made_rx, made_tx, outcome_of, replied};
 
 use crate::calls::{

@@ -11,13 +11,11 @@ use crate::topics::{Channels, list, open_broadcast, open_watch};
 use indexmap::IndexMap;
 use std::alloc::Global;
 use std::marker::Model;
+use th_log::MOST_ENTRIES;
 use th_model::{
     Listing, Making, NameRef, Question, ReceiverVerb, RxId, SenderVerb, Short, Start, TxId,
 };
 use thiserror::Error;
-
-/// The most entries of a segment where no other limit is given, and the most that a limit may be.
-const MOST_ENTRIES: u64 = 1_000_000;
 
 /// At most 1,024 topics by name, in order of opening, each with its channel and the channel's log.
 #[derive(Drop)]

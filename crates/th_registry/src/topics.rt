@@ -1,6 +1,6 @@
 //! Topics in order of opening: how they are listed, and how one is opened at a desk of one thread.
-ghost use Rattle.std.specs.Prelude.{◌≡◌, ℕ, true, false, is_some, IfOk, OnOk, OnErr, ◌++◌, ◌∷◌};
-ghost use Rattle.th_registry.specs.Hub.{find, list, open_topic, Says, Open, added};
+ghost use Rattle.std.specs.Prelude.{◌≡◌, false, is_some, IfOk};
+ghost use Rattle.th_registry.specs.Hub.{find, list, Says, Open};
 ghost use Rattle.th_registry.specs.Pictures.{pictures};
 
 use crate::channel::{Channel, HubBroadcast, LocalChannel};

@@ -1,5 +1,5 @@
 //! The ring.
-ghost use Rattle.std.specs.Prelude.{◌≡◌, ◌+◌, ◌-◌, ◌%◌, ◌^◌, ◌<◌, ◌≤◌, ℕ, length, replicate, slice_get, IfOk, IfErr, true};
+ghost use Rattle.std.specs.Prelude.{◌≡◌, ◌+◌, ◌%◌, ◌^◌, ◌<◌, ◌≤◌, ℕ, length, replicate, IfOk, IfErr, true};
 ghost use Rattle.th_model.specs.Limits.{IsCapacity};
 ghost use Rattle.th_model.specs.Places.{low_of, to_come};
 ghost use Rattle.th_ring.specs.Slot.{vacant, less_one, more_one};

@@ -1,5 +1,5 @@
 -- The answer to an action on a topic is no trace, and the answer to the question for a trace tells of no event.
-use Rattle.std.proofs.Common.{◌≡◌, ℕ, inl, inr, Bool, true, false, cond, List, Option, Some, None, Result, Ok, Err, refl, sym, ap, subst, ◌∙◌}
+use Rattle.std.proofs.Common.{◌≡◌, ℕ, inl, inr, Bool, true, false, cond, List, Option, Some, None, Result, Ok, Err, refl, sym, ap, ◌∙◌}
 use Rattle.std.proofs.lemmas.Bool.{false≢true}
 use Rattle.th_lines.specs.declared.command.Action.{Action}
 use Rattle.th_lines.specs.declared.command.Action.TheVariants as Actions

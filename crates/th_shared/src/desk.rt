@@ -1,10 +1,4 @@
 //! The desk that threads share.
-ghost use Rattle.std.specs.Prelude.{◌≡◌};
-ghost use Rattle.th_registry.specs.Events.{Receives, Sends};
-ghost use Rattle.th_registry.specs.Hub.{On};
-ghost use Rattle.th_registry.specs.Typed.{replied};
-ghost use Rattle.th_shared.specs.Numbers.{number_of, receiver, sender};
-ghost use Rattle.th_shared.specs.Saying.{MaySay};
 
 use crate::deferred_wake::{DeferredWake, defer, is_deferred, wake};
 use crate::ended::{Ended, end_of};

@@ -13,15 +13,13 @@ use std::alloc::Global;
 use std::collections::HashMap;
 use std::sync::Wait;
 use th_block::{Handle, Shared, Side};
+use th_log::MOST_ENTRIES;
 use th_model::{Capacity, Listed, Listing, Making, Name, NameRef, Question, Short, Start, Value};
 use th_registry::channel::{HubBroadcast, HubWatch, TopicReceipt};
 use th_registry::{Channel, ChannelReply, Found, Made, NoEvent, Refusal, TopicId};
 
 /// The most topics of a hub.
 const MOST_TOPICS: usize = 1024;
-
-/// The most entries of a segment.
-const MOST_ENTRIES: u64 = 1_000_000;
 
 /// Topics in order of opening, and the number of each by its name.
 #[derive(Drop)]

@@ -1,5 +1,5 @@
 //! A thread for each connection.
-ghost use Rattle.std.specs.Prelude.{◌≡◌, ◌<◌, ◌≤◌};
+ghost use Rattle.std.specs.Prelude.{◌≤◌};
 
 use crate::desk::SharedDesk;
 use crate::observer::Observer;

@@ -1,6 +1,6 @@
 //! What every shelf does with the places of its receivers, which it has in an ordered map by their
 //! numbers.
-ghost use Rattle.std.specs.Prelude.{◌≡◌, ◌-◌, ◌<◌, ◌≤◌, slice_get, IfErr, OnOk};
+ghost use Rattle.std.specs.Prelude.{◌≡◌, ◌-◌, ◌≤◌, slice_get, IfErr, OnOk};
 ghost use Rattle.std.specs.Option.{option_map};
 ghost use Rattle.th_model.specs.Places.{with_place};
 ghost use Rattle.th_shelf.specs.Receiving.{above};

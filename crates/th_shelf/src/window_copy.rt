@@ -1,5 +1,5 @@
 //! A copy of what a shelf holds, as plain data.
-ghost use Rattle.std.specs.Prelude.{◌≡◌, ◌+◌, length, IfOk};
+ghost use Rattle.std.specs.Prelude.{◌≡◌, IfOk};
 ghost use Rattle.std.specs.Map.{keys_of};
 ghost use Rattle.th_model.specs.Limits.{ClonesAreEqual};
 ghost use Rattle.th_model.specs.Handles.{IsRising};

@@ -7,6 +7,7 @@ use std::thread;
 use std::thread::{JoinHandle, Threads};
 use std::time::{Clock, Duration, Instant};
 use th_block::{BReceiver, BSender, RingBroadcast, Shared, broadcast};
+use th_log::MOST_ENTRIES;
 use th_model::{BReply, Capacity};
 
 /// What was received by all receivers together, and how long it took.
@@ -19,8 +20,6 @@ pub struct Measured {
 
 // What one thread received and missed. `None` where a call was refused.
 type Told = Option<(u64, u64)>;
-
-const MOST_ENTRIES: u64 = 1_000_000;
 
 fn opened(alloc: Global, capacity: u64, key: u64) -> Result<BSender<u64>, Fault> {
     let Ok(capacity) = Capacity::new(capacity) else {

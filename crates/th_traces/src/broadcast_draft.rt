@@ -1,6 +1,5 @@
 //! A broadcast channel's picture, of which some lines were read.
 ghost use Rattle.std.specs.Prelude.{◌≡◌, ◌≤◌, max, true};
-ghost use Rattle.th_lines.specs.Fields.{by_word};
 ghost use Rattle.th_lines.specs.Reads.{rest_of};
 ghost use Rattle.th_traces.specs.BroadcastDrafts.{body, has_values, is_whole, receiver_fields, sender_field, start, start_fields, takes_receiver, takes_sender, value_field};
 ghost use Rattle.th_traces.specs.Drafts.{TakesLine};

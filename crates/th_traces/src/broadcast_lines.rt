@@ -3,7 +3,7 @@ ghost use Rattle.std.specs.Prelude.{◌≡◌, ◌+◌, ◌≤◌, ◌∷◌, �
 ghost use Rattle.std.specs.Fmt.{decimal};
 ghost use Rattle.th_lines.specs.Replies.{ended};
 ghost use Rattle.th_traces.specs.Broadcast.{told};
-ghost use Rattle.th_traces.specs.Spelled.{picture_lines, start_line};
+ghost use Rattle.th_traces.specs.Spelled.{picture_lines};
 ghost use Rattle.th_traces.specs.ToCome.{PrintsNext};
 ghost use Rattle.th_traces.specs.declared.head.Version.{Version};
 

@@ -1,6 +1,6 @@
 //! The lines of a picture, read one by one.
 ghost use Rattle.std.specs.Prelude.{◌≡◌, Some};
-ghost use Rattle.th_lines.specs.Fields.{by_word, field_then};
+ghost use Rattle.th_lines.specs.Fields.{by_word};
 ghost use Rattle.th_lines.specs.Reads.{rest_of};
 ghost use Rattle.th_traces.specs.Drafts.{allowed};
 ghost use Rattle.th_traces.specs.Pictures.{ReadsLine, broadcast_start, head_line, is_capacity, kinds, step, versions, watch_start};

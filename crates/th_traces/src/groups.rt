@@ -1,7 +1,7 @@
 //! The numbers of handles, as the lines of a picture tell them.
-ghost use Rattle.std.specs.Prelude.{◌≡◌, length};
+ghost use Rattle.std.specs.Prelude.{◌≡◌};
 ghost use Rattle.std.specs.Map.{keys_of};
-ghost use Rattle.th_traces.specs.Groups.{is_further, last_id};
+ghost use Rattle.th_traces.specs.Groups.{last_id};
 
 use std::collections::{BTreeMap, BTreeSet};
 use th_model::MOST_HANDLES;

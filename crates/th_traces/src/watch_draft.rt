@@ -1,7 +1,6 @@
 //! A watch channel's picture, of which some lines were read.
 ghost use Rattle.std.specs.Prelude.{◌≡◌, Some, true};
-ghost use Rattle.std.specs.Option.{option_map};
-ghost use Rattle.th_lines.specs.Fields.{by_word, field_then};
+ghost use Rattle.th_lines.specs.Fields.{field_then};
 ghost use Rattle.th_lines.specs.Reads.{rest_of};
 ghost use Rattle.th_watch.specs.Held.{shown_picture};
 ghost use Rattle.th_traces.specs.Drafts.{TakesLine};

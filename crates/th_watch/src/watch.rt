@@ -1,5 +1,5 @@
 //! The channel's state and its calls.
-ghost use Rattle.std.specs.Prelude.{◌≡◌, ◌≢◌, ℕ, nat_lt, ◌↔◌, ◌≤◌, ◌<◌, ◌-◌, ◌^◌, Bool, true, false, [], ◌∷◌, IsTrue, IsOk, IfOk, IfErr, OnOk, OnErr, is_some};
+ghost use Rattle.std.specs.Prelude.{◌≡◌, ◌≢◌, ℕ, nat_lt, ◌↔◌, ◌≤◌, ◌<◌, ◌-◌, ◌^◌, Bool, false, [], ◌∷◌, IsTrue, IsOk, IfOk, IfErr, OnOk, OnErr, is_some};
 ghost use Rattle.th_model.specs.Limits.{ClonesAreEqual};
 ghost use Rattle.th_model.specs.WatchMachine.{IsExact, reader_of, with_reader, opened, paired};
 ghost use Rattle.th_model.specs.WatchPicture.{IsSound, IsRefused, mark_at, picture_of, see, answer, uncompared, marked, subscribe, with_version, is_ready, WouldWait, Meets, TakesMemory, TakesNoMemory};
