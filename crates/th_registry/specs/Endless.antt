@@ -22,10 +22,12 @@ use Rattle.th_registry.specs.Receipts.{receipt_of}
 use Rattle.th_registry.specs.Hub.{ChannelMachine, Machines, Topics}
 
 abbrev pub EndlessBroadcast : Type 0
-EndlessBroadcast = History (broadcast.Endless Bytes) (broadcast_picture.Picture Bytes) (BCall Bytes) (BReply Bytes)
+EndlessBroadcast = History (broadcast.Endless Bytes)
+    (broadcast_picture.Picture Bytes) (BCall Bytes) (BReply Bytes)
 
 abbrev pub EndlessWatch : Type 0
-EndlessWatch = History (watch.Endless Bytes) (watch_picture.Picture Bytes) (WCall Bytes) (WReply Bytes)
+EndlessWatch = History (watch.Endless Bytes)
+    (watch_picture.Picture Bytes) (WCall Bytes) (WReply Bytes)
 
 abbrev pub EndlessChannel : Type 0
 EndlessChannel = Channel EndlessBroadcast EndlessWatch
@@ -38,10 +40,12 @@ abbrev pub watch_step : watch.Endless Bytes → WCall Bytes → WReply Bytes × 
 watch_step = watch.step (pointwise nat_eq)
 
 -- each event of a channel becomes an entry
-abbrev pub endless_broadcast : ChannelMachine EndlessBroadcast (BCall Bytes) (BReply Bytes) BroadcastSegment
+abbrev pub endless_broadcast :
+    ChannelMachine EndlessBroadcast (BCall Bytes) (BReply Bytes) BroadcastSegment
 endless_broadcast = record {
   step = λ h call. recorded h call (broadcast.step h.state call);
-  is_full = λ h call. is_full h (live_handles (broadcast_picture.see (broadcast.step h.state call).1));
+  is_full = λ h call. is_full h
+      (live_handles (broadcast_picture.see (broadcast.step h.state call).1));
   has_sender = λ h tx. is_sender h.state.senders tx.0;
   has_receiver = λ h rx. is_some (place_of h.state.index rx.0);
   cut = λ h. (segment h (broadcast_picture.see h.state), cut h (broadcast_picture.see h.state));

@@ -96,8 +96,8 @@ IsRefusal (Cut topic) segment = segment ≡ Err NoEvents.Short
 
 -- What a channel replies to a call, or the first reason why there is no event: the kind has no such call; it goes
 -- through the hub's own sender, and that is not live; it would wait; there is no room for it in the log.
-abbrev pub replies : {C K R P : Type 0} → ChannelMachine C K R P → (waits : K → R → Bool) (no_sender : Bool) →
-    C → Option K → Result R NoEvent × C
+abbrev pub replies : {C K R P : Type 0} → ChannelMachine C K R P → (waits : K → R → Bool)
+    (no_sender : Bool) → C → Option K → Result R NoEvent × C
 replies m waits no_sender c None = (Err NoEvents.WrongKind, c)
 replies m waits no_sender c (Some call) =
     if no_sender then (Err NoEvents.NoSender, c)
@@ -115,7 +115,8 @@ came outcome (Ok reply) = Ok (outcome reply)
 came outcome (Err why) = Err why
 
 -- the receipt of what is replied to a call, where it was an event
-abbrev pub receipted : {C K R P : Type 0} → ChannelMachine C K R P → C → Result R NoEvent → Option K → Option (Receipt K R)
+abbrev pub receipted : {C K R P : Type 0} → ChannelMachine C K R P → C → Result R NoEvent →
+    Option K → Option (Receipt K R)
 receipted m c (Ok reply) (Some call) = Some (m.receipt c call reply)
 receipted m c (Ok reply) None = None
 receipted m c (Err why) call = None
@@ -148,13 +149,15 @@ module _ {B W : Type 0} where
   abbrev pub written : {A : Type 0} → Topics B W → ℕ → A × Channel B W → A × Topics B W
   written ts n s = (s.0, set_value_at ts n s.1)
 
-  abbrev pub on_channel : {A : Type 0} → Topics B W → ℕ → (Channel B W → Result A NoEvent × Channel B W) →
+  abbrev pub on_channel : {A : Type 0} → Topics B W → ℕ →
+      (Channel B W → Result A NoEvent × Channel B W) →
       Option (Channel B W) → Result A NoEvent × Topics B W
   on_channel ts n f None = (Err NoEvents.NoTopic, ts)
   on_channel ts n f (Some c) = written ts n (f c)
 
   -- what the channel of topic n says
-  abbrev pub at_topic : {A : Type 0} → Topics B W → ℕ → (Channel B W → Result A NoEvent × Channel B W) →
+  abbrev pub at_topic : {A : Type 0} → Topics B W → ℕ →
+      (Channel B W → Result A NoEvent × Channel B W) →
       Result A NoEvent × Topics B W
   at_topic ts n f = on_channel ts n f (slice_get (values_of ts) n)
 
@@ -168,7 +171,8 @@ module _ {B W : Type 0} where
 -- a broadcast channel
 module _ {B : Type 0} (m : ChannelMachine B (BCall Bytes) (BReply Bytes) BroadcastSegment) where
   -- one call of a broadcast channel, through the hub's own sender or not
-  abbrev pub broadcast_replies : B → (by_hub : Bool) → Option (BCall Bytes) → Result (BReply Bytes) NoEvent × B
+  abbrev pub broadcast_replies : B → (by_hub : Bool) → Option (BCall Bytes) →
+      Result (BReply Bytes) NoEvent × B
   broadcast_replies c by_hub call =
       replies m broadcast_waits (by_hub && not (m.has_sender c (tx 1))) c call
 
@@ -179,7 +183,8 @@ module _ {B : Type 0} (m : ChannelMachine B (BCall Bytes) (BReply Bytes) Broadca
 
   -- what a broadcast channel replies to an event
   abbrev pub broadcast_event : B → Event → Result (BReply Bytes) NoEvent × B
-  broadcast_event c (Resubscribes r) = moved r (broadcast_replies c false (broadcast_call (Resubscribes r)))
+  broadcast_event c (Resubscribes r) =
+      moved r (broadcast_replies c false (broadcast_call (Resubscribes r)))
   broadcast_event c (DropsTx (Own t)) =
       if_live (m.has_sender c t) c (broadcast_replies c false (broadcast_call (DropsTx (Own t))))
   broadcast_event c (DropsRx r) =
@@ -189,12 +194,14 @@ module _ {B : Type 0} (m : ChannelMachine B (BCall Bytes) (BReply Bytes) Broadca
   -- the receipt of its one call, or of its first; the end of a handle has none
   abbrev pub broadcast_receipt : B → Event → Option BroadcastReceipt
   broadcast_receipt c event =
-      if is_end event then None else receipted m c (broadcast_event c event).0 (broadcast_call event)
+      if is_end event then None
+        else receipted m c (broadcast_event c event).0 (broadcast_call event)
 
 -- a watch channel
 module _ {W : Type 0} (m : ChannelMachine W (WCall Bytes) (WReply Bytes) WatchSegment) where
   -- one call of a watch channel
-  abbrev pub watch_replies : W → (by_hub : Bool) → Option (WCall Bytes) → Result (WReply Bytes) NoEvent × W
+  abbrev pub watch_replies : W → (by_hub : Bool) → Option (WCall Bytes) →
+      Result (WReply Bytes) NoEvent × W
   watch_replies c by_hub call =
       replies m watch_waits (by_hub && not (m.has_sender c (tx 1))) c call
 

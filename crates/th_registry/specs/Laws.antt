@@ -9,20 +9,24 @@ use Rattle.th_registry.specs.Pictures.{pictures, see_topics}
 -- to each query the pictures say what the endless states say, and are afterwards what is seen of them
 abbrev pub SaysWhatIsSeen : Type 0
 SaysWhatIsSeen = (limit : ℕ) (ts : EndlessTopics) (q : Query) → AreProper ts →
-    say (pictures limit) (see_topics ts) q ≡ ((say (endless limit) ts q).0, see_topics (say (endless limit) ts q).1)
+    say (pictures limit) (see_topics ts) q ≡
+        ((say (endless limit) ts q).0, see_topics (say (endless limit) ts q).1)
 
 -- and the endless states stay proper
 abbrev pub StaysProper : Type 0
-StaysProper = (limit : ℕ) (ts : EndlessTopics) (q : Query) → AreProper ts → AreProper (say (endless limit) ts q).1
+StaysProper = (limit : ℕ) (ts : EndlessTopics) (q : Query) → AreProper ts →
+    AreProper (say (endless limit) ts q).1
 
 -- a handle that is live stays so, but for one that the query ends
 abbrev pub HandlesStayLive : Type 0
 HandlesStayLive = (limit : ℕ) (ts : EndlessTopics) (q : Query) (n : ℕ) (x : Handle) → AreProper ts →
-    (EndsOn q (say (endless limit) ts q).0 n x → ⊥) → IsLive ts n x → IsLive (say (endless limit) ts q).1 n x
+    (EndsOn q (say (endless limit) ts q).0 n x → ⊥) →
+    IsLive ts n x → IsLive (say (endless limit) ts q).1 n x
 
 -- a handle that an event made is live on its topic, and was not so before
 abbrev pub NewHandlesAreNew : Type 0
-NewHandlesAreNew = (limit : ℕ) (ts : EndlessTopics) (n : ℕ) (event : Event) (x : Handle) → AreProper ts →
+NewHandlesAreNew = (limit : ℕ) (ts : EndlessTopics) (n : ℕ) (event : Event) (x : Handle) →
+    AreProper ts →
     new_handle (say (endless limit) ts (On n event)).0.0 ≡ Some x →
     IsLive (say (endless limit) ts (On n event)).1 n x × (IsLive ts n x → ⊥)
 

@@ -20,8 +20,8 @@ use Rattle.th_registry.specs.Live.{Handle, Sender, Receiver, IsLive}
 -- What is true of a channel's history between two events. The present segment is a legal history that ends at what is
 -- seen now ("The log"); its limit is the desk's; and room is left for spending each live handle, in the segment and
 -- among all events of the channel ("The limit").
-pub record IsKept {E S C R : Type 0} (m : Machine E S C R) (is_sound : S → Type 0) (limit : ℕ) (h : History E S C R) :
-    Type 0 where
+pub record IsKept {E S C R : Type 0} (m : Machine E S C R) (is_sound : S → Type 0)
+    (limit : ℕ) (h : History E S C R) : Type 0 where
   pub legal : IsLegal m is_sound (segment h (m.see h.state))
   pub same_limit : h.limit ≡ limit
   pub within : length h.entries + m.live (m.see h.state) ≤ limit
@@ -30,7 +30,8 @@ pub record IsKept {E S C R : Type 0} (m : Machine E S C R) (is_sound : S → Typ
 -- of a channel of either kind
 abbrev pub IsKeptChannel : (limit : ℕ) → EndlessChannel → Type 0
 IsKeptChannel limit (Broadcast h) = IsKept machines.broadcast broadcast_picture.IsSound limit h
-IsKeptChannel limit (Watch h) = IsKept (machines.watch (pointwise nat_eq)) watch_picture.IsSound limit h
+IsKeptChannel limit (Watch h) =
+    IsKept (machines.watch (pointwise nat_eq)) watch_picture.IsSound limit h
 
 -- of the channel of each topic
 abbrev pub AreKept : (limit : ℕ) → EndlessTopics → Type 0
@@ -38,7 +39,8 @@ AreKept limit ts = AllByRecursion (λ topic. IsKeptChannel limit topic.1) ts
 
 -- whatever is asked of the hub, its histories stay so
 abbrev pub HistoriesStayKept : Type 0
-HistoriesStayKept = (limit : ℕ) (ts : EndlessTopics) (q : Query) → 0 < limit → AreProper ts → AreKept limit ts →
+HistoriesStayKept = (limit : ℕ) (ts : EndlessTopics) (q : Query) →
+    0 < limit → AreProper ts → AreKept limit ts →
     AreKept limit (say (endless limit) ts q).1
 
 -- the topics after these queries
@@ -48,7 +50,8 @@ after limit ts (q ∷ qs) = after limit (say (endless limit) ts q).1 qs
 
 -- so are those of every hub that is reached from the empty one
 abbrev pub HistoriesAreKept : Type 0
-HistoriesAreKept = (limit : ℕ) (qs : prelude.List Query) → 0 < limit → AreKept limit (after limit [] qs)
+HistoriesAreKept = (limit : ℕ) (qs : prelude.List Query) →
+    0 < limit → AreKept limit (after limit [] qs)
 
 -- a segment that is a legal history of its kind of channel
 abbrev pub IsLegalSegment : ChannelSegment → Type 0
@@ -74,5 +77,6 @@ is_done told = false
 
 -- the end of a live handle is never refused ("The limit")
 abbrev pub LiveHandlesEnd : Type 0
-LiveHandlesEnd = (limit : ℕ) (ts : EndlessTopics) (n : ℕ) (event : Event) (x : Handle) → AreKept limit ts →
+LiveHandlesEnd = (limit : ℕ) (ts : EndlessTopics) (n : ℕ) (event : Event) (x : Handle) →
+    AreKept limit ts →
     IsEndOf event x → IsLive ts n x → is_done (say (endless limit) ts (On n event)).0.0 ≡ true

@@ -21,7 +21,8 @@ SaysOrShort refusal takes s old said new =
     (s ≡ (said, new)) ⊎ ((said ≡ refusal) × (new ≡ old) × (takes s.0 ≡ true))
 
 -- of one call, whose receipt is this
-abbrev pub CallSays : {S C R : Type 0} → Result R NoEvent × History S S C R → Option C → History S S C R →
+abbrev pub CallSays : {S C R : Type 0} → Result R NoEvent × History S S C R →
+    Option C → History S S C R →
     Result (Receipt C R) NoEvent → History S S C R → Type 0
 CallSays s call old said new =
     SaysOrShort (Err Short) is_ok s old (reply_of said) new
@@ -34,7 +35,8 @@ BroadcastSays old by_hub call said new =
 
 abbrev pub WatchSays : SeenWatch → (by_hub : Bool) → Option (WCall Bytes) →
     Result WatchReceipt NoEvent → SeenWatch → Type 0
-WatchSays old by_hub call said new = CallSays (watch_replies seen_watch old by_hub call) call old said new
+WatchSays old by_hub call said new =
+    CallSays (watch_replies seen_watch old by_hub call) call old said new
 
 -- of an event, whose receipt is this, if one is handed out
 abbrev pub NotesOrShort : {C : Type 0} → (Told → Bool) → Noted × C → C → Noted → C → Type 0
@@ -42,23 +44,27 @@ NotesOrShort takes s old noted new =
     SaysOrShort (Err Short, None) (λ noted. takes noted.0) s old noted new
 
 -- what comes of a call that makes no handle
-abbrev pub BroadcastTells : SeenBroadcast → (by_hub : Bool) → Option (BCall Bytes) → Noted → SeenBroadcast → Type 0
+abbrev pub BroadcastTells : SeenBroadcast → (by_hub : Bool) → Option (BCall Bytes) →
+    Noted → SeenBroadcast → Type 0
 BroadcastTells old by_hub call noted new =
     let s = broadcast_replies seen_broadcast old by_hub call in
     let receipt = option_map (λ r. Broadcast r) (receipted seen_broadcast old s.0 call) in
-    NotesOrShort is_ok ((came (λ reply. Replied (replies.Broadcast reply)) s.0, receipt), s.1) old noted new
+    NotesOrShort is_ok ((came (λ reply. Replied (replies.Broadcast reply)) s.0, receipt), s.1)
+        old noted new
 
 abbrev pub WatchTells : SeenWatch → (by_hub : Bool) → Option (WCall Bytes) → Noted → SeenWatch → Type 0
 WatchTells old by_hub call noted new =
     let s = watch_replies seen_watch old by_hub call in
     let receipt = option_map (λ r. Watch r) (receipted seen_watch old s.0 call) in
-    NotesOrShort is_ok ((came (λ reply. Replied (replies.Watch reply)) s.0, receipt), s.1) old noted new
+    NotesOrShort is_ok ((came (λ reply. Replied (replies.Watch reply)) s.0, receipt), s.1)
+        old noted new
 
 -- the end of a live handle, for which no memory is asked
 abbrev pub BroadcastSpends : SeenBroadcast → BCall Bytes → Told → SeenBroadcast → Type 0
 BroadcastSpends old call told new =
     let s = seen_broadcast.step old call in
-    (seen_broadcast.is_full old call ≡ false) × (told ≡ Ok (Replied (replies.Broadcast s.0))) × (new ≡ s.1)
+    (seen_broadcast.is_full old call ≡ false)
+      × (told ≡ Ok (Replied (replies.Broadcast s.0))) × (new ≡ s.1)
 
 abbrev pub WatchSpends : SeenWatch → WCall Bytes → Told → SeenWatch → Type 0
 WatchSpends old call told new =
@@ -66,7 +72,8 @@ WatchSpends old call told new =
     (seen_watch.is_full old call ≡ false) × (told ≡ Ok (Replied (replies.Watch s.0))) × (new ≡ s.1)
 
 -- a new receiver, and then the end of the old one
-abbrev pub BroadcastMoves : SeenBroadcast → RxId → Result BroadcastReceipt NoEvent → SeenBroadcast → Type 0
+abbrev pub BroadcastMoves : SeenBroadcast → RxId → Result BroadcastReceipt NoEvent →
+    SeenBroadcast → Type 0
 BroadcastMoves old r said new =
     let call = broadcast_call (Resubscribes r) in
     CallSays (broadcast_event seen_broadcast old (Resubscribes r)) call old said new

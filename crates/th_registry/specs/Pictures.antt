@@ -22,7 +22,8 @@ use Rattle.th_registry.specs.Hub.{ChannelMachine, Machines, Query, Said, Says, T
 use Rattle.th_registry.specs.Endless.{EndlessChannel, EndlessTopics}
 
 abbrev pub SeenBroadcast : Type 0
-SeenBroadcast = History (broadcast.Picture Bytes) (broadcast.Picture Bytes) (BCall Bytes) (BReply Bytes)
+SeenBroadcast = History (broadcast.Picture Bytes) (broadcast.Picture Bytes)
+    (BCall Bytes) (BReply Bytes)
 
 abbrev pub SeenWatch : Type 0
 SeenWatch = History (watch.Picture Bytes) (watch.Picture Bytes) (WCall Bytes) (WReply Bytes)
@@ -37,7 +38,8 @@ abbrev pub watch_answer : watch.Picture Bytes → WCall Bytes → WReply Bytes �
 watch_answer = watch.answer (pointwise nat_eq)
 
 -- each event of a channel becomes an entry
-abbrev pub seen_broadcast : ChannelMachine SeenBroadcast (BCall Bytes) (BReply Bytes) BroadcastSegment
+abbrev pub seen_broadcast :
+    ChannelMachine SeenBroadcast (BCall Bytes) (BReply Bytes) BroadcastSegment
 seen_broadcast = record {
   step = λ h call. recorded h call (broadcast.answer h.state call);
   is_full = λ h call. is_full h (live_handles (broadcast.answer h.state call).1);

@@ -63,6 +63,8 @@ module _ {D : Type 0} (says : D → (q : Query) → Said q → D → Type 0) whe
   Answers had old line answer has new = AnswersAs (command_of line) had old answer has new
 
   -- the same, and its text was put behind what waits, or the writer failed
-  abbrev pub Puts : {A E : Type 0} → Kept → D → List ℕ → Kept → D → Output → Output → Result A E → Type 0
+  abbrev pub Puts : {A E : Type 0} → Kept → D → List ℕ → Kept → D →
+      Output → Output → Result A E → Type 0
   Puts had old line has new before after result =
-      (answer : Answer) × Answers had old line answer has new × AddsOrFails (said answer) before after result
+      (answer : Answer) × Answers had old line answer has new
+        × AddsOrFails (said answer) before after result

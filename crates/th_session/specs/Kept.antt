@@ -43,7 +43,8 @@ having had answer h = record {
 -- of what the actor had, and of this answer, that is kept which is to be kept
 abbrev pub IsKept : Kept → Answer → Kept → Type 0
 IsKept had answer has =
-    (has.receipts ≡ with_receipt had.receipts answer) × (has.segments ≡ with_segment had.segments answer)
+    (has.receipts ≡ with_receipt had.receipts answer)
+      × (has.segments ≡ with_segment had.segments answer)
 
 -- how an answer is told: of an event that its receipt, and of a trace that its segment, is the last one kept
 abbrev pub told : Answer → session.Answer

@@ -20,13 +20,15 @@ IsOf n call receipt = (call ≡ Some receipt.call) × (receipt.key ≡ n + 1)
 
 -- one event on this topic: its receipt, and what came of it
 abbrev pub IsEvent : ℕ → Event → Outcome → ChannelReceipt → Type 0
-IsEvent n e outcome (Broadcast r) = IsOf n (broadcast_call e) r × (outcome ≡ broadcast_outcome e r.reply)
+IsEvent n e outcome (Broadcast r) =
+    IsOf n (broadcast_call e) r × (outcome ≡ broadcast_outcome e r.reply)
 IsEvent n e outcome (Watch r) = IsOf n (watch_call e) r × (outcome ≡ watch_outcome e r.reply)
 
 -- what is said of an event: it was made, and its receipt is handed out, but for the end of a handle; or it was not
 abbrev pub Notes : ℕ → Event → Told → Option ChannelReceipt → Type 0
 Notes n e (Ok outcome) (Some receipt) = IsEvent n e outcome receipt × (is_end e ≡ false)
-Notes n e (Ok outcome) None = (receipt : ChannelReceipt) × IsEvent n e outcome receipt × (is_end e ≡ true)
+Notes n e (Ok outcome) None =
+    (receipt : ChannelReceipt) × IsEvent n e outcome receipt × (is_end e ≡ true)
 Notes n e (Err why) receipt = receipt ≡ None
 
 -- the last event of a handle on this topic was this call, and was replied so; its receipt is given up

@@ -77,14 +77,11 @@ pub(crate) fn sender_number(tx: &BSender<u64>) -> u64 {
     tx.number()
 }
 
-pub(crate) fn sender_seen<T: Clone + Drop>(tx: &BSender<T>) -> u64 {
+pub(crate) fn sender_seen(tx: &BSender<u64>) -> u64 {
     tx.seen()
 }
 
-pub(crate) fn owner_of<T: Clone + Drop>(
-    rt: &impl Abort,
-    tx: &BSender<T>,
-) -> Shared<RingBroadcast<T>> {
+pub(crate) fn owner_of(rt: &impl Abort, tx: &BSender<u64>) -> Shared<News> {
     tx.shared().expect(rt, "an owner")
 }
 
@@ -197,8 +194,6 @@ pub(crate) fn pair_resub<R: Wait>(
 pub(crate) fn drop_owner(_owner: Shared<News>) {}
 
 /// The channel's log, if no other owner is left.
-pub(crate) fn finish<T: Clone + Drop>(
-    owner: Shared<RingBroadcast<T>>,
-) -> Result<Logged<RingBroadcast<T>>, Shared<RingBroadcast<T>>> {
+pub(crate) fn finish(owner: Shared<News>) -> Result<Logged<News>, Shared<News>> {
     owner.finish()
 }

@@ -3,7 +3,7 @@
 use crate::broadcast_calls::{Answer, News, finish};
 use std::alloc::Global;
 use std::process::Abort;
-use th_block::{RingBroadcast, Shared};
+use th_block::Shared;
 use th_log::{AuditFault, Audited, Diary, Logged, Receipt, Segment, audit, close};
 use th_model::{BCall, BReply};
 use th_seats::{Book, Share, settle};
@@ -57,10 +57,7 @@ pub(crate) fn receipts_of(diary: &Diary<News>) -> &[Receipt<News>] {
 }
 
 /// The channel's log, whose last owner this is.
-pub(crate) fn finished<T: Clone + Drop>(
-    rt: &impl Abort,
-    owner: Shared<RingBroadcast<T>>,
-) -> Logged<RingBroadcast<T>> {
+pub(crate) fn finished(rt: &impl Abort, owner: Shared<News>) -> Logged<News> {
     match finish(owner) {
         Ok(log) => log,
         Err(_owner) => panic!(rt; "another owner is left"),
@@ -68,12 +65,12 @@ pub(crate) fn finished<T: Clone + Drop>(
 }
 
 /// How many events there were.
-pub(crate) fn total<T: Clone + Drop>(log: &Logged<RingBroadcast<T>>) -> u64 {
+pub(crate) fn total(log: &Logged<News>) -> u64 {
     log.total()
 }
 
 /// A log that is let go. Its parts are let go here, in one place.
-pub(crate) fn drop_log<T: Clone + Drop>(_log: Logged<RingBroadcast<T>>) {}
+pub(crate) fn drop_log(_log: Logged<News>) {}
 
 /// The place of the first entry, and the number of entries.
 pub(crate) fn span(log: &Logged<News>) -> (u64, u64) {
