@@ -195,7 +195,7 @@ module _ {B : Type 0} (m : ChannelMachine B (BCall Bytes) (BReply Bytes) Broadca
   abbrev pub broadcast_receipt : B → Event → Option BroadcastReceipt
   broadcast_receipt c event =
       if is_end event then None
-        else receipted m c (broadcast_event c event).0 (broadcast_call event)
+      else receipted m c (broadcast_event c event).0 (broadcast_call event)
 
 -- a watch channel
 module _ {W : Type 0} (m : ChannelMachine W (WCall Bytes) (WReply Bytes) WatchSegment) where

@@ -10,7 +10,7 @@ use Rattle.th_registry.specs.Pictures.{pictures, see_topics}
 abbrev pub SaysWhatIsSeen : Type 0
 SaysWhatIsSeen = (limit : ℕ) (ts : EndlessTopics) (q : Query) → AreProper ts →
     say (pictures limit) (see_topics ts) q ≡
-        ((say (endless limit) ts q).0, see_topics (say (endless limit) ts q).1)
+    ((say (endless limit) ts q).0, see_topics (say (endless limit) ts q).1)
 
 -- and the endless states stay proper
 abbrev pub StaysProper : Type 0

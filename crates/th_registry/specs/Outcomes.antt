@@ -48,23 +48,23 @@ abbrev pub BroadcastTells : SeenBroadcast → (by_hub : Bool) → Option (BCall 
     Noted → SeenBroadcast → Type 0
 BroadcastTells old by_hub call noted new =
     let s = broadcast_replies seen_broadcast old by_hub call in
+    let told = came (λ reply. Replied (replies.Broadcast reply)) s.0 in
     let receipt = option_map (λ r. Broadcast r) (receipted seen_broadcast old s.0 call) in
-    NotesOrShort is_ok ((came (λ reply. Replied (replies.Broadcast reply)) s.0, receipt), s.1)
-        old noted new
+    NotesOrShort is_ok ((told, receipt), s.1) old noted new
 
 abbrev pub WatchTells : SeenWatch → (by_hub : Bool) → Option (WCall Bytes) → Noted → SeenWatch → Type 0
 WatchTells old by_hub call noted new =
     let s = watch_replies seen_watch old by_hub call in
+    let told = came (λ reply. Replied (replies.Watch reply)) s.0 in
     let receipt = option_map (λ r. Watch r) (receipted seen_watch old s.0 call) in
-    NotesOrShort is_ok ((came (λ reply. Replied (replies.Watch reply)) s.0, receipt), s.1)
-        old noted new
+    NotesOrShort is_ok ((told, receipt), s.1) old noted new
 
 -- the end of a live handle, for which no memory is asked
 abbrev pub BroadcastSpends : SeenBroadcast → BCall Bytes → Told → SeenBroadcast → Type 0
 BroadcastSpends old call told new =
     let s = seen_broadcast.step old call in
     (seen_broadcast.is_full old call ≡ false)
-      × (told ≡ Ok (Replied (replies.Broadcast s.0))) × (new ≡ s.1)
+    × (told ≡ Ok (Replied (replies.Broadcast s.0))) × (new ≡ s.1)
 
 abbrev pub WatchSpends : SeenWatch → WCall Bytes → Told → SeenWatch → Type 0
 WatchSpends old call told new =

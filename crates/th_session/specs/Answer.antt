@@ -67,4 +67,4 @@ module _ {D : Type 0} (says : D → (q : Query) → Said q → D → Type 0) whe
       Output → Output → Result A E → Type 0
   Puts had old line has new before after result =
       (answer : Answer) × Answers had old line answer has new
-        × AddsOrFails (said answer) before after result
+      × AddsOrFails (said answer) before after result

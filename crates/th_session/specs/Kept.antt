@@ -44,7 +44,7 @@ having had answer h = record {
 abbrev pub IsKept : Kept → Answer → Kept → Type 0
 IsKept had answer has =
     (has.receipts ≡ with_receipt had.receipts answer)
-      × (has.segments ≡ with_segment had.segments answer)
+    × (has.segments ≡ with_segment had.segments answer)
 
 -- how an answer is told: of an event that its receipt, and of a trace that its segment, is the last one kept
 abbrev pub told : Answer → session.Answer
