@@ -36,6 +36,37 @@ fn new_desk<R: Wait + Clone + Abort>(rt: &R, alloc: Global) -> SharedDesk<R> {
     }
 }
 
+// The desk comes back, whose topics have another owner.
+fn still_owned<R: Wait + Clone + Abort>(
+    rt: &R,
+    alloc: Global,
+    desk: SharedDesk<R>,
+) -> SharedDesk<R> {
+    match desk.finish(alloc) {
+        Ok(_) => panic!(rt; "a desk with another owner has ended"),
+        Err(desk) => desk,
+    }
+}
+
+// The topics of the last desk, through which no handle was spent.
+fn topics_of<R: Wait + Clone + Abort>(rt: &R, alloc: Global, desk: SharedDesk<R>) -> Vec<Ended> {
+    match desk.finish(alloc) {
+        Ok((topics, shares)) => {
+            assert!(rt; shares.is_empty());
+            topics
+        }
+        Err(_) => panic!(rt; "the last desk has not ended"),
+    }
+}
+
+// A handle of the topic of this name is left.
+fn is_held(topic: &Ended, name: &[u8]) -> bool {
+    match topic {
+        Ended::Held(held, _) => held.as_bytes() == name,
+        _ => false,
+    }
+}
+
 // A receiver is left on the topic, whose log is not handed out then. While the topics have another owner, none is.
 #[test]
 fn a_topic_is_held_by_its_receiver(rt: HostRuntime) -> Result<(), Fail> {
@@ -48,15 +79,10 @@ fn a_topic_is_held_by_its_receiver(rt: HostRuntime) -> Result<(), Fail> {
     let Ok(another) = desk.another() else {
         panic!(rt; "no memory");
     };
-    let Err(desk) = desk.finish(alloc) else {
-        panic!(rt; "a desk with another owner has ended");
-    };
+    let desk = still_owned(&rt, alloc, desk);
     drop(another);
-    let Ok((topics, shares)) = desk.finish(alloc) else {
-        panic!(rt; "the last desk has not ended");
-    };
+    let topics = topics_of(&rt, alloc, desk);
     drop(session);
-    assert!(rt; shares.is_empty() && topics.len() == 1);
-    assert!(rt; matches!(&topics[0], Ended::Held(name, _) if name.as_bytes() == b"t".as_slice()));
+    assert!(rt; topics.len() == 1 && is_held(&topics[0], b"t"));
     Ok(())
 }

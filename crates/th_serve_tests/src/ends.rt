@@ -18,6 +18,13 @@ pub struct Left {
     pub shares: Vec<(TopicId, Share)>,
 }
 
+// Notes the receipt of a broadcast topic. There is room for it.
+fn note(rt: &impl Abort, diary: &mut Diary<HubBroadcast>, receipt: TopicReceipt) {
+    if let Channel::Broadcast(receipt) = receipt {
+        assert!(rt; diary.note(receipt).is_ok(), "no room");
+    }
+}
+
 // The receipts as a diary.
 fn diary_of(
     rt: &impl Abort,
@@ -25,15 +32,9 @@ fn diary_of(
     receipts: Vec<(TopicId, TopicReceipt)>,
 ) -> Diary<HubBroadcast> {
     let mut diary = Diary::new(alloc);
-    if diary.reserve(receipts.len() as u64).is_err() {
-        panic!(rt; "no memory");
-    }
+    assert!(rt; diary.reserve(receipts.len() as u64).is_ok(), "no memory");
     for (_, receipt) in receipts {
-        if let Channel::Broadcast(receipt) = receipt {
-            if diary.note(receipt).is_err() {
-                panic!(rt; "no room");
-            }
-        }
+        note(rt, &mut diary, receipt);
     }
     diary
 }

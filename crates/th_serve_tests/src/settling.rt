@@ -25,6 +25,22 @@ fn new_desk<R: Wait + Clone>(rt: &R, alloc: Global) -> Option<SharedDesk<R>> {
     }
 }
 
+// A session that reads LINES, at this desk.
+fn attend<R: Wait + Clock + Clone>(rt: &R, alloc: Global, desk: &mut SharedDesk<R>) {
+    let mut reader = Counted::new(LINES);
+    let mut writer = Counted::new(Vec::new(alloc));
+    let _ = run_session(
+        rt,
+        alloc,
+        &mut reader,
+        &mut writer,
+        desk,
+        &OpenGate,
+        1,
+        Keeping::All,
+    );
+}
+
 // The shares of all handles that a session had, which has ended. It has had none where there was no memory for its desk.
 fn attended<R: Wait + Clock + Clone>(
     rt: &R,
@@ -34,18 +50,7 @@ fn attended<R: Wait + Clock + Clone>(
     let Ok(mut desk) = shared.another() else {
         return Vec::new(alloc);
     };
-    let mut reader = Counted::new(LINES);
-    let mut writer = Counted::new(Vec::new(alloc));
-    let _ = run_session(
-        rt,
-        alloc,
-        &mut reader,
-        &mut writer,
-        &mut desk,
-        &OpenGate,
-        1,
-        Keeping::All,
-    );
+    attend(rt, alloc, &mut desk);
     desk.into_shares()
 }
 
