@@ -15,7 +15,7 @@ use Rattle.th_traces.specs.Spelled.{Bytes, call_line, line, reply_line}
 use Rattle.th_traces.specs.Tables.{behind, by_table}
 use Rattle.th_traces.specs.declared.head.Version.{Version}
 use Rattle.th_traces.specs.Broadcast.{call_fields, reply_fields}
-use Rattle.th_traces.specs.BroadcastWords.{HasFields, IsCall, IsReplyTo, call_of, calls, if_had, number_calls, plain_replies, replies, reply_of, send, value_given}
+use Rattle.th_traces.specs.BroadcastWords.{HasFields, IsCall, IsReplyTo, call_of, calls, handle_calls, if_had, number_calls, plain_replies, replies, reply_of, send, value_given}
 use Rattle.th_traces.specs.Versions.{has_call}
 use Rattle.th_traces.proofs.Entries.{number_value-finds, number_value-again, handing-finds, handing-again, by_table-found, behind-found}
 
@@ -29,7 +29,7 @@ abbrev SpellsCall : List ℕ → BCall Bytes → Type 0
 SpellsCall bytes call = HasFields call × (bytes ≡ line (call_fields call))
 
 calls-find : (word : List ℕ) (rest : Rest) (call : BCall Bytes) → by_word calls word rest ≡ Some call → SpellsCall (joined word rest) call
-unfolding number_calls
+unfolding number_calls handle_calls
 calls-find = table-finds SpellsCall calls (
     number_value-finds SpellsCall (codes "send") send (λ n v h k. ((h, k), refl))
     & number_last-finds SpellsCall (codes "try-recv") (λ n. TryRecv (rx n)) (λ n h. (h, refl))
@@ -47,7 +47,7 @@ calls-find = table-finds SpellsCall calls (
     )
 
 call-again : (call : BCall Bytes) → HasFields call → by_table calls (line (call_fields call)) ≡ Some call
-unfolding number_calls
+unfolding number_calls handle_calls
 call-again (Send t v) h = number_value-again send t.0 v h.0 h.1
 call-again (TryRecv k) h = number_last-again (λ n. TryRecv (rx n)) k.0 h
 call-again (Recv k) h = number_last-again (λ n. Recv (rx n)) k.0 h

@@ -19,7 +19,7 @@ use Rattle.th_traces.specs.Spelled.{Bytes, call_line, line, reply_line}
 use Rattle.th_traces.specs.Tables.{by_table}
 use Rattle.th_traces.specs.Watch.{call_fields, reply_fields}
 use Rattle.th_traces.specs.Watch.{yes_or_no as answer_word}
-use Rattle.th_traces.specs.WatchWords.{IsCall, IsReplyTo, answer_last, bare_replies, call_of, calls, differ, number_calls, plain_replies, quiet, replace, replies, reply_of, send, set, shown, value_given, yes_or_no}
+use Rattle.th_traces.specs.WatchWords.{IsCall, IsReplyTo, answer_last, bare_replies, call_of, calls, differ, handle_calls, number_calls, plain_replies, quiet, replace, replies, reply_of, send, set, shown, value_given, yes_or_no}
 use Rattle.th_traces.proofs.Entries.{number_value-finds, number_value-again, handing-finds, handing-again, table-entry, by_table-found, behind-found}
 
 abbrev tx : ℕ → TxId
@@ -32,7 +32,7 @@ abbrev SpellsCall : List ℕ → WCall Bytes → Type 0
 SpellsCall bytes call = IsCall call × (bytes ≡ line (call_fields call))
 
 calls-find : (word : List ℕ) (rest : Rest) (call : WCall Bytes) → by_word calls word rest ≡ Some call → SpellsCall (joined word rest) call
-unfolding number_calls
+unfolding number_calls handle_calls
 calls-find = table-finds SpellsCall calls (
     number_value-finds SpellsCall (codes "send") send (λ n v h k. ((h, k), refl))
     & number_value-finds SpellsCall (codes "replace") replace (λ n v h k. ((h, k), refl))
@@ -57,7 +57,7 @@ calls-find = table-finds SpellsCall calls (
     )
 
 call-again : (call : WCall Bytes) → IsCall call → by_table calls (line (call_fields call)) ≡ Some call
-unfolding number_calls
+unfolding number_calls handle_calls
 call-again (Send t v) h = number_value-again send t.0 v h.0 h.1
 call-again (Replace t v) h = number_value-again replace t.0 v h.0 h.1
 call-again (EditBy t (Set v)) h = number_value-again set t.0 v h.0 h.1

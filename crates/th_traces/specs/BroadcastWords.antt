@@ -22,6 +22,17 @@ rx number = record { 0 = number }
 abbrev pub send : ℕ → Bytes → BCall Bytes
 send number value = Send (tx number) value
 
+-- the calls of handles that a number alone follows: those that end or copy them, and questions
+unfoldable pub handle_calls : Table (BCall Bytes)
+handle_calls =
+    (codes "clone-tx", number_last (λ n. CloneTx (tx n)))
+    ∷ (codes "drop-tx", number_last (λ n. DropTx (tx n)))
+    ∷ (codes "drop-rx", number_last (λ n. DropRx (rx n)))
+    ∷ (codes "queued", number_last (λ n. Queued (tx n)))
+    ∷ (codes "left", number_last (λ n. Left (rx n)))
+    ∷ (codes "readers", number_last (λ n. Readers (tx n)))
+    ∷ []
+
 -- the calls that a handle's number alone follows
 unfoldable pub number_calls : Table (BCall Bytes)
 number_calls =
@@ -30,13 +41,7 @@ number_calls =
     ∷ (codes "subscribe", number_last (λ n. Subscribe (tx n)))
     ∷ (codes "subscribe-oldest", number_last (λ n. SubscribeOldest (tx n)))
     ∷ (codes "resubscribe", number_last (λ n. Resubscribe (rx n)))
-    ∷ (codes "clone-tx", number_last (λ n. CloneTx (tx n)))
-    ∷ (codes "drop-tx", number_last (λ n. DropTx (tx n)))
-    ∷ (codes "drop-rx", number_last (λ n. DropRx (rx n)))
-    ∷ (codes "queued", number_last (λ n. Queued (tx n)))
-    ∷ (codes "left", number_last (λ n. Left (rx n)))
-    ∷ (codes "readers", number_last (λ n. Readers (tx n)))
-    ∷ []
+    ∷ handle_calls
 
 abbrev pub calls : Table (BCall Bytes)
 calls = (codes "send", number_value_last send) ∷ number_calls

@@ -37,7 +37,19 @@ differ number value = EditBy (tx number) (Differ value)
 abbrev pub quiet : ℕ → Bytes → WCall Bytes
 quiet number value = EditBy (tx number) (Quiet value)
 
--- the calls that a handle's number alone follows
+-- the calls of handles that a number alone follows: of both kinds, and of senders
+unfoldable pub handle_calls : Table (WCall Bytes)
+handle_calls =
+    (codes "subscribe", number_last (λ n. Subscribe (tx n)))
+    ∷ (codes "clone-rx", number_last (λ n. CloneRx (rx n)))
+    ∷ (codes "clone-tx", number_last (λ n. CloneTx (tx n)))
+    ∷ (codes "drop-tx", number_last (λ n. DropTx (tx n)))
+    ∷ (codes "drop-rx", number_last (λ n. DropRx (rx n)))
+    ∷ (codes "is-closed", number_last (λ n. IsClosed (tx n)))
+    ∷ (codes "readers", number_last (λ n. Readers (tx n)))
+    ∷ []
+
+-- the calls that a handle's number alone follows: looks at the value and its mark, and those
 unfoldable pub number_calls : Table (WCall Bytes)
 number_calls =
     (codes "borrow", number_last (λ n. Borrow (rx n)))
@@ -47,14 +59,7 @@ number_calls =
     ∷ (codes "changed", number_last (λ n. Changed (rx n)))
     ∷ (codes "mark-changed", number_last (λ n. MarkChanged (rx n)))
     ∷ (codes "mark-unchanged", number_last (λ n. MarkUnchanged (rx n)))
-    ∷ (codes "subscribe", number_last (λ n. Subscribe (tx n)))
-    ∷ (codes "clone-rx", number_last (λ n. CloneRx (rx n)))
-    ∷ (codes "clone-tx", number_last (λ n. CloneTx (tx n)))
-    ∷ (codes "drop-tx", number_last (λ n. DropTx (tx n)))
-    ∷ (codes "drop-rx", number_last (λ n. DropRx (rx n)))
-    ∷ (codes "is-closed", number_last (λ n. IsClosed (tx n)))
-    ∷ (codes "readers", number_last (λ n. Readers (tx n)))
-    ∷ []
+    ∷ handle_calls
 
 abbrev pub calls : Table (WCall Bytes)
 calls =

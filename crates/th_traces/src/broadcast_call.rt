@@ -3,7 +3,7 @@ ghost use Rattle.std.specs.Prelude.{◌≡◌};
 ghost use Rattle.std.specs.Option.{option_map};
 ghost use Rattle.th_lines.specs.Fields.{by_word};
 ghost use Rattle.th_lines.specs.Reads.{Reads, rest_of};
-ghost use Rattle.th_traces.specs.BroadcastWords.{call_of, calls, gives_value, number_calls, value_given};
+ghost use Rattle.th_traces.specs.BroadcastWords.{call_of, calls, gives_value, handle_calls, number_calls, value_given};
 ghost use Rattle.th_traces.specs.Versions.{has_call};
 
 use crate::fields::{behind_letter, last_number, number_and_value};
@@ -93,6 +93,14 @@ fn by_number(word: &[u8], rest: Option<&[u8]>) -> Option<BCall<Value>>
     if word == b"resubscribe".as_slice() {
         return Some(BCall::Resubscribe(RxId(last_number(rest)?)));
     }
+    by_handle(word, rest)
+}
+
+// The same, of the words that neither receive nor subscribe.
+#[tactic(auto, unfolding(crate::specs::BroadcastWords::handle_calls))]
+fn by_handle(word: &[u8], rest: Option<&[u8]>) -> Option<BCall<Value>>
+    ensures { result ≡ by_word handle_calls word.now (rest_of rest.entry) }
+{
     if word == b"clone-tx".as_slice() {
         return Some(BCall::CloneTx(TxId(last_number(rest)?)));
     }

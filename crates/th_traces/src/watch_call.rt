@@ -3,7 +3,7 @@ ghost use Rattle.std.specs.Prelude.{◌≡◌, false};
 ghost use Rattle.std.specs.Option.{option_map};
 ghost use Rattle.th_lines.specs.Fields.{Rest, by_word};
 ghost use Rattle.th_lines.specs.Reads.{Reads, rest_of};
-ghost use Rattle.th_traces.specs.WatchWords.{call_of, calls, gives_value, number_calls, value_given};
+ghost use Rattle.th_traces.specs.WatchWords.{call_of, calls, gives_value, handle_calls, number_calls, value_given};
 
 use crate::fields::{behind_letter, last_number, number_and_value};
 use std::alloc::Global;
@@ -136,6 +136,15 @@ fn by_number(word: &[u8], rest: Option<&[u8]>) -> Option<WCall<Value>>
     if word == b"mark-unchanged".as_slice() {
         return Some(WCall::MarkUnchanged(RxId(last_number(rest)?)));
     }
+    by_handle(word, rest)
+}
+
+// The same, of the words that are no look at the value.
+#[tactic(auto, unfolding(crate::specs::WatchWords::handle_calls))]
+#[inline(always)]
+fn by_handle(word: &[u8], rest: Option<&[u8]>) -> Option<WCall<Value>>
+    ensures { result ≡ by_word handle_calls word.now (rest_of rest.entry) }
+{
     if word == b"subscribe".as_slice() {
         return Some(WCall::Subscribe(TxId(last_number(rest)?)));
     }
