@@ -11,7 +11,8 @@ import subprocess
 import sys
 import tempfile
 
-ROOT = os.path.dirname(os.path.dirname(os.path.realpath(__file__)))
+from program import ROOT
+
 CRATES = os.path.join(ROOT, "crates")
 PROGRAMS = os.path.join(ROOT, "bench", "programs")
 TESTS = os.path.join(ROOT, "tests")
