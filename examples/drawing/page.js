@@ -45,6 +45,18 @@
     for (const group of events) group.tabIndex = entryOf(group) === Math.max(now, 1) ? 0 : -1;
   };
 
+  // The event of the drawing that is shown: there are two, one of them for narrow screens.
+  const shownEvent = () => events.find((group) => entryOf(group) === Math.max(now, 1) && group.getClientRects().length);
+
+  // Where the drawing scrolls in its own box, the event comes into view there.
+  const reveal = () => {
+    const group = shownEvent();
+    const box = group && group.closest(".drawing");
+    if (!box) return;
+    const top = group.getBoundingClientRect().top - box.getBoundingClientRect().top;
+    if (top < 0 || top > box.clientHeight - 60) box.scrollTop += top - box.clientHeight / 3;
+  };
+
   const show = (entry) => {
     now = Math.min(Math.max(entry, 0), last);
     const moment = moments[now];
@@ -52,11 +64,12 @@
     slider.setAttribute("aria-valuetext", now + " of " + last + ": " + moment.sentence);
     part("count").textContent = now + " of " + last;
     part("sentence").textContent = moment.sentence;
-    part("lines").textContent = moment.lines.join("\n");
+    part("lines").replaceChildren(...moment.lines.map((line) => element("span", "", line)));
     part("back").disabled = now === 0;
     part("on").disabled = now === last;
     showState(moment, moments[now - 1]);
     showEvents();
+    reveal();
   };
 
   const hideTip = () => {
@@ -74,12 +87,6 @@
     tip.style.top = (over > 0 ? over : box.bottom + 6) + window.scrollY + "px";
   };
 
-  // The events of the drawing that is shown, of which there may be another one for narrow screens.
-  const focusEvent = () => {
-    const shown = events.find((group) => entryOf(group) === Math.max(now, 1) && group.getClientRects().length);
-    if (shown) shown.focus();
-  };
-
   const fromHash = () => {
     const asked = Number(location.hash.slice(1));
     if (location.hash && Number.isInteger(asked)) show(asked);
@@ -95,7 +102,7 @@
     if (event.target === slider || !(event.key in steps)) return;
     event.preventDefault();
     show(steps[event.key]);
-    if (inDrawing) focusEvent();
+    if (inDrawing) shownEvent().focus();
   };
 
   for (const group of events) {

@@ -33,7 +33,7 @@ def cell_kind(topic_, at):
 def readers_at(topic_, at, names):
     """The receivers that stand at a position, or whose mark is at a version."""
     places = topic_.places if topic_.kind == "B" else topic_.marks
-    return [names[handle] or str(handle) for handle, place in sorted(places.items()) if place == at]
+    return [names[handle] or f"{topic_.receiver_side} {handle}" for handle, place in sorted(places.items()) if place == at]
 
 
 def edges(topic_):
@@ -95,12 +95,12 @@ def handle_row(lane, names):
 def drawings(story, sentences, names, across):
     """The drawing; or, where the width is left to the page, one for narrow screens and one for others."""
     def drawn(columns, mark):
-        return svg.svg(story, sentences, names, columns, with_style=False, mark=mark)
+        return svg.svg(story, sentences, names, columns, mark)
 
     if across:
         return f"<div class='drawing'>{drawn(across, 'missed')}</div>"
     return (f"<div class='drawing narrow'>{drawn(NARROW, 'missed-narrow')}</div>\n"
-            f"<div class='drawing wide'>{drawn(WIDE, 'missed')}</div>")
+            f"<div class='drawing wide'>{drawn(WIDE, 'missed-wide')}</div>")
 
 
 def entry_rows(trace, sentences):
@@ -125,6 +125,8 @@ def html(trace, story, sentences, names, across):
         style=svg.style() + read("page.css"),
         left_out="".join(f"<p class='left-out'>{escaped(line)}</p>" for line in svg.left_out(story)),
         what="positions" if story.kind == "B" else "versions",
+        pointer="Who stands below a position reads it next." if story.kind == "B" else
+        "Who stands below a version has seen up to there.",
         last=len(trace.entries),
         handles="\n".join(handle_row(lane, names) for lane in lanes),
         drawings=drawings(story, sentences, names, across),

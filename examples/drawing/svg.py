@@ -288,7 +288,7 @@ def draw_window(canvas, band, story, y):
         canvas.begin(entry)
         canvas.box(x + 3, y + STAIR * row + 2, to - x - 6, STAIR - 3, "window")
         if entry:
-            canvas.text(to - 1, y + STAIR * row + 8, str(entry), "count")
+            canvas.text(x + 1 - width_of(str(entry), COUNT), y + STAIR * row + 8, str(entry), "count")
         canvas.end()
     return STAIR * len(stands) + GAP
 
@@ -299,7 +299,7 @@ def draw_head(canvas, band, story, y):
     canvas.text(2, y + 25, "value", "name")
     for at, to in band.columns:
         middle = band.left(at) + COLUMN / 2
-        label = last_digits(at, COLUMN - 4) if at == to else "\u2026"
+        label = last_digits(at, COLUMN - 10) if at == to else "\u2026"
         canvas.text(middle, y + 11, label, "middle", title=str(at) if at == to else f"{at} to {to}")
         if at in story.values and at == to:
             value = ", ".join(value for _, value in story.values[at])
@@ -372,16 +372,20 @@ def legend(story):
             "A disc: seen up to here; a ring: unseen again.", "Small numbers count the entries of the trace."]
 
 
-def draw_all(canvas, story, names, across):
-    """Everything but the frame; the width and the height."""
-    columns = columns_of(story)
+def draw_title(canvas, story, columns):
     canvas.text(2, 11, title_of(story), "title")
-    y = 18
     what = "Positions" if story.kind == "B" else "Versions"
+    y = 18
     for note in [f"{what} {columns[0][0]} to {columns[-1][1]}", *left_out(story)]:
         canvas.text(2, y + 11, note)
         y += 15
-    y += 6
+    return y + 6
+
+
+def draw_all(canvas, story, names, across, with_title):
+    """Everything but the frame; the width and the height."""
+    columns = columns_of(story)
+    y = draw_title(canvas, story, columns) if with_title else 0
     for begin in range(0, len(columns), across):
         y = draw_band(canvas, Band(columns[begin:begin + across]), story, lanes_of(story)[:LANES], names, y)
     for line in legend(story):
@@ -390,17 +394,19 @@ def draw_all(canvas, story, names, across):
     return LEFT + COLUMN * min(across, max(len(columns), 4)), y - 14
 
 
-def svg(story, sentences, names, across, with_style=True, mark="missed"):
-    """The drawing. Where there are several in one page, each takes its own mark, and the page has the style once."""
+def svg(story, sentences, names, across, mark=None):
+    """The drawing. As a part of a page it has a mark of its own, and the page has its title and its style."""
     canvas = Canvas(sentences)
-    width, height = (size + 2 * MARGIN for size in draw_all(canvas, story, names, across))
+    width, height = (size + 2 * MARGIN for size in draw_all(canvas, story, names, across, with_title=not mark))
+    role, style_part = ("group", []) if mark else ("img", [f"<style>\n{style()}</style>"])
+    mark = mark or "missed"
     corner = f"{-MARGIN} {-MARGIN}"
     parts = "\n".join(canvas.parts).replace("url(#missed)", f"url(#{mark})")
     return "\n".join([
         f"<svg xmlns='http://www.w3.org/2000/svg' width='{width}' height='{height:g}' viewBox='{corner} {width} {height:g}' "
-        f"class='trace' role='{'img' if with_style else 'group'}'>",
+        f"class='trace' role='{role}'>",
         f"<title>{escaped(title_of(story))}</title>",
-        *([f"<style>\n{style()}</style>"] if with_style else []),
+        *style_part,
         f"<defs><pattern id='{mark}' width='6' height='6' patternUnits='userSpaceOnUse' patternTransform='rotate(45)'>"
         "<line x1='0' y1='0' x2='0' y2='6' class='hatch'/></pattern></defs>",
         f"<rect x='{-MARGIN}' y='{-MARGIN}' width='{width}' height='{height:g}' class='ground'/>",

@@ -127,9 +127,9 @@ def sentence(entry, at, topic, names):
     """What an entry tells; `at` is where its call stands, and the topic is as after it."""
     words = template(entry, topic.kind)
     side = "sender" if entry.by_sender else topic.receiver_side
-    who = names.of(side, entry.handle)
+    who = names.of(side, entry.handle) if names[entry.handle] else f"{side.capitalize()} {entry.handle}"
     if words is None:
-        return f"{who[0].upper()}{who[1:]}: {entry.call}, answered {entry.said} {entry.told}".rstrip() + "."
+        return f"{who}: {entry.call}, answered {entry.said} {entry.told}".rstrip() + "."
     made = entry.made
     missed = int(entry.told) if entry.said == "lagged" else 1
     told = words.format(
@@ -140,7 +140,7 @@ def sentence(entry, at, topic, names):
         made=names.of("sender" if entry.said == "new-tx" else topic.receiver_side, made) if made else "",
         place=topic.receivers.get(made, at) if made else "",
     )
-    return f"{who[0].upper()}{who[1:]} {told}."
+    return f"{who} {told}."
 
 
 # ---- the state
