@@ -21,9 +21,9 @@ WIDE, MONO = 0.64, 0.61
 # The colours are those of Okabe and Ito, which the colour-blind tell apart. None carries a meaning alone: what is sent is
 # filled, what is received is outlined, what is looked at is dashed, and what is missed is hatched.
 LIGHT = {"ground": "#ffffff", "ink": "#1f2328", "soft": "#57606a", "rule": "#8c959f", "lane": "#f4f6f8",
-         "sent": "#0072b2", "on_sent": "#ffffff", "got": "#00805d", "missed": "#d55e00", "window": "#56b4e9"}
+         "sent": "#0072b2", "on_sent": "#ffffff", "got": "#009e73", "missed": "#d55e00", "window": "#56b4e9"}
 DARK = {"ground": "#0d1117", "ink": "#e6edf3", "soft": "#9aa4af", "rule": "#6e7681", "lane": "#161b22",
-        "sent": "#56b4e9", "on_sent": "#0d1117", "got": "#1fbf92", "missed": "#e69f00", "window": "#0072b2"}
+        "sent": "#56b4e9", "on_sent": "#0d1117", "got": "#009e73", "missed": "#e69f00", "window": "#0072b2"}
 COLOURS = """
 .ground {{ fill: {ground} }}
 .trace text, .ink, .filled {{ fill: {ink} }}
@@ -56,6 +56,7 @@ SHAPES = """
 .window { stroke-width: .7 }
 .track { stroke-width: 1 }
 .ring { stroke-width: 1.5 }
+.touch { fill: none; pointer-events: all }
 """
 
 
@@ -235,6 +236,7 @@ def draw_words(canvas, x, note, y):
 def draw_note(canvas, band, note, y):
     x = band.left(note.at)
     canvas.begin(note.entry, is_event=True)
+    canvas.box(x + 1, y, band.right(note.to) - x - 2, height_of(note), "touch")
     if note.shape == "missed":
         draw_missed(canvas, band, note, y)
     else:
