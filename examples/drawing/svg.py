@@ -10,13 +10,13 @@ STAIRS = 14  # so many rows of the window in one band at most; else it is told i
 
 LEFT, COLUMN, MARGIN = 76, 68, 8
 TOKEN, LINE, GAP, STAIR = 18, 13, 6, 9
-TEXT, SMALL, COUNT = 11, 10, 9  # sizes of letters: values and titles, words, numbers of entries
+TITLE, TEXT, SMALL, COUNT = 13, 11, 10, 9  # sizes of letters: the title, values and names, words, numbers of entries
 
 # Widths of letters in DejaVu Sans, which is among the widest; whatever fits there fits in other fonts.
 WIDTHS = {letter: width for letters, width in (
     ("ijl' ", .32), ("I|.,:;!f()[]-", .4), ("rt", .42), ("cszJ", .55), ("ABCDEFGHKLNOPQRSTUVXYZw", .82), ("mW%@M", 1),
 ) for letter in letters}
-WIDE, MONO = 0.64, 0.61
+WIDE, MONO, BOLD = 0.64, 0.61, 1.12
 
 # The colours are those of Okabe and Ito, which the colour-blind tell apart. None carries a meaning alone: what is sent is
 # filled, what is received is outlined, what is looked at is dashed, and what is missed is hatched.
@@ -136,7 +136,7 @@ class Canvas:
         self.parts.append(f"<line x1='{x:g}' y1='{y:g}' x2='{to_x:g}' y2='{to_y:g}' class='{style}'/>")
 
     def box(self, x, y, width, height, style, more=""):
-        self.parts.append(f"<rect x='{x:g}' y='{y:g}' width='{width:g}' height='{height:g}' class='{style}'{more}/>")
+        self.parts.append(f"<rect x='{x:g}' y='{y:g}' width='{width}' height='{height}' class='{style}'{more}/>")
 
     def circle(self, x, y, style):
         self.parts.append(f"<circle cx='{x:g}' cy='{y:g}' r='4' class='{style}'/>")
@@ -311,16 +311,17 @@ def draw_head(canvas, band, story, y):
 
 
 def draw_lane(canvas, band, lane, name, y, is_odd):
-    """A lane with its notes in this band; where it ends."""
+    """A lane with its notes in this band; where it ends, or None where it has nothing here."""
     placed, depth = stacked(band, lane.notes)
-    if not placed and not lane.marks:
+    versions = [version for _, version, _ in lane.marks]
+    if not placed and not (versions and band.has(min(versions), max(versions))):
         return None
     height = 4 + (12 if lane.marks else 0) + max(depth, 26 if name else LINE) + 2
     if is_odd:
         canvas.box(0, y, band.width, height, "lane")
     canvas.line(0, y, band.width, y, "rule")
     title = f"{lane.side} {lane.number}"
-    canvas.text(2, y + 14, fitted(name or title, LEFT - 4, TEXT + 1), "name", title=name)
+    canvas.text(2, y + 14, fitted(name or title, (LEFT - 4) / BOLD, TEXT), "name", title=name)
     if name:
         canvas.text(2, y + 26, fitted(title, LEFT - 4, SMALL), "soft", title)
     y += 4
@@ -374,44 +375,51 @@ def legend(story):
             "A disc: seen up to here; a ring: unseen again.", "Small numbers count the entries of the trace."]
 
 
-def draw_title(canvas, story, columns):
-    canvas.text(2, 11, title_of(story), "title")
+def heading(story, columns):
+    """The lines above the first band, below the title."""
     what = "Positions" if story.kind == "B" else "Versions"
-    y = 18
-    for note in [f"{what} {columns[0][0]} to {columns[-1][1]}", *left_out(story)]:
-        canvas.text(2, y + 11, note)
-        y += 15
-    return y + 6
+    return [f"{what} {columns[0][0]} to {columns[-1][1]}", *left_out(story)]
+
+
+def widest(story, columns, across, with_title):
+    """The width that the bands take, and the lines above and below them."""
+    lines = legend(story) + (heading(story, columns) if with_title else [])
+    title = width_of(title_of(story), TITLE) * BOLD if with_title else 0
+    return max(LEFT + COLUMN * min(across, len(columns)), title, *(width_of(line, SMALL) for line in lines)) + 2
 
 
 def draw_all(canvas, story, names, across, with_title):
     """Everything but the frame; the width and the height."""
-    columns = columns_of(story)
-    y = draw_title(canvas, story, columns) if with_title else 0
+    columns, y = columns_of(story), 0
+    if with_title:
+        canvas.text(2, 11, title_of(story), "title")
+        for index, line in enumerate(heading(story, columns)):
+            canvas.text(2, 29 + 15 * index, line)
+        y = 24 + 15 * len(heading(story, columns))
     for begin in range(0, len(columns), across):
         y = draw_band(canvas, Band(columns[begin:begin + across]), story, lanes_of(story)[:LANES], names, y)
     for line in legend(story):
         canvas.text(2, y, line)
         y += 14
-    return LEFT + COLUMN * min(across, max(len(columns), 4)), y - 14
+    return widest(story, columns, across, with_title), y - 14
 
 
 def svg(story, sentences, names, across, mark=None):
     """The drawing. As a part of a page it has a mark of its own, and the page has its title and its style."""
     canvas = Canvas(sentences)
-    width, height = (size + 2 * MARGIN for size in draw_all(canvas, story, names, across, with_title=not mark))
+    width, height = (round(size) + 2 * MARGIN for size in draw_all(canvas, story, names, across, with_title=not mark))
     role, style_part = ("group", []) if mark else ("img", [f"<style>\n{style()}</style>"])
     mark = mark or "missed"
     corner = f"{-MARGIN} {-MARGIN}"
     parts = "\n".join(canvas.parts).replace("url(#missed)", f"url(#{mark})")
     return "\n".join([
-        f"<svg xmlns='http://www.w3.org/2000/svg' width='{width}' height='{height:g}' viewBox='{corner} {width} {height:g}' "
+        f"<svg xmlns='http://www.w3.org/2000/svg' width='{width}' height='{height}' viewBox='{corner} {width} {height}' "
         f"class='trace' role='{role}'>",
         f"<title>{escaped(title_of(story))}</title>",
         *style_part,
         f"<defs><pattern id='{mark}' width='6' height='6' patternUnits='userSpaceOnUse' patternTransform='rotate(45)'>"
         "<line x1='0' y1='0' x2='0' y2='6' class='hatch'/></pattern></defs>",
-        f"<rect x='{-MARGIN}' y='{-MARGIN}' width='{width}' height='{height:g}' class='ground'/>",
+        f"<rect x='{-MARGIN}' y='{-MARGIN}' width='{width}' height='{height}' class='ground'/>",
         parts,
         "</svg>",
         "",

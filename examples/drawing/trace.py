@@ -124,11 +124,12 @@ def read_picture(lines, trace):
 
 def read_entries(lines, trace):
     while not (line := lines.take()).startswith("END "):
-        entry = Entry(trace.total + 1, trace.kind, line)
-        entry.answer(lines.take())
         trace.total += 1
         if trace.total <= ENTRIES:
-            trace.entries.append(entry)
+            trace.entries.append(Entry(trace.total, trace.kind, line))
+            trace.entries[-1].answer(lines.take())
+        elif not (line.startswith("C ") and lines.take().startswith("R ")):
+            raise ValueError
     if number(line[4:]) != trace.total:
         raise ValueError
 

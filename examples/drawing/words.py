@@ -19,8 +19,8 @@ NOT_SENT = {
     "no-receivers": "but nobody is there to get it, and it is handed back",
     "exhausted": "but the last number is used up, and it is handed back",
 }
+SENT = {"sent": "at position {at}, to {receivers}", **NOT_SENT}
 ANSWERED = {
-    "sent": "at position {at}, to {receivers}",
     "new-tx": "makes {made}",
     "too-many": "asks for a new handle, and is told that there are too many",
     "no-handle": "is no live handle, and nothing happens",
@@ -111,7 +111,7 @@ def template(entry, kind):
     if call in ("drop-tx", "drop-rx"):
         return ANSWERED["done"] if said == "done" else None
     if kind == "B" and call == "send":
-        return "sends {value}, " + NOT_SENT.get(said, ANSWERED["sent"])
+        return "sends {value}, " + SENT[said] if said in SENT else None
     if kind == "B":
         return ASKED_TO_RECEIVE.get(said) if call in ("recv", "try-recv") else None
     if call == "send" and said in NOT_SENT:
