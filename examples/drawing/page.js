@@ -61,7 +61,7 @@
     now = Math.min(Math.max(entry, 0), last);
     const moment = moments[now];
     slider.value = now;
-    slider.setAttribute("aria-valuetext", now + " of " + last + ": " + moment.sentence);
+    slider.setAttribute("aria-valuetext", now + " of " + last);
     part("count").textContent = now + " of " + last;
     part("sentence").textContent = moment.sentence;
     part("lines").replaceChildren(...moment.lines.map((line) => element("span", "", line)));

@@ -26,49 +26,55 @@ def cell_kind(topic_, at):
         return "kept" if at == topic_.version else "replaced"
     if at >= topic_.low():
         return "kept"
-    is_awaited = any(place <= at for place in topic_.places.values())
-    return "missed" if is_awaited else "let go"
+    return "missed" if at >= min(topic_.places.values(), default=at + 1) else "let go"
 
 
-def readers_at(topic_, at, names):
-    """The receivers that stand at a position, or whose mark is at a version."""
-    places = topic_.places if topic_.kind == "B" else topic_.marks
-    return [names[handle] or f"{topic_.receiver_side} {handle}" for handle, place in sorted(places.items()) if place == at]
+def standing(topic_, lanes, names):
+    """Who of those that have a lane stands at a position, or has the mark at a version: by each of these, in words."""
+    here = {}
+    for lane in lanes:
+        at = topic_.receivers.get(lane.number)
+        if at is not None and (at or topic_.kind == "B"):
+            here.setdefault(at, []).append(names[lane.number] or f"{lane.side} {lane.number}")
+    return here
 
 
-def edges(topic_):
+def edges(topic_, here):
     """The positions or versions at which a run of like cells may begin or end, rising."""
     if topic_.kind == "W":
-        marks = [mark for mark in topic_.marks.values() if mark]
-        first = min([*marks, max(topic_.first, topic_.version - IDLE)])
-        return sorted({first, *marks, topic_.version, topic_.next})
-    places = [min(place, topic_.next) for place in topic_.places.values()]
+        first = min([*here, max(topic_.first, topic_.version - IDLE)])
+        return sorted({first, *here, topic_.version, topic_.next})
+    places = [min(place, topic_.next) for place in here]
     window = max(topic_.next - topic_.capacity, topic_.first)
-    first = min([window, *places])
-    return sorted({first, *places, window, topic_.low(), topic_.next, topic_.next + 1})
+    return sorted({*places, window, topic_.low(), topic_.next, topic_.next + 1})
 
 
-def cells(topic_, names):
-    """The strip of positions or versions: of each its label, its value, what has become of it, and who stands there."""
-    found = []
-    for begin, end in zip(edges(topic_), edges(topic_)[1:]):
-        own = begin + 1 if readers_at(topic_, begin, names) else begin
-        if end - own <= IDLE:
-            runs = [(at, at + 1) for at in range(begin, end)]
+def runs_of(topic_, here):
+    """The strip's cells, each a range of positions or versions: one alone, or many that are alike."""
+    ends = edges(topic_, here)
+    for begin, end in zip(ends, ends[1:]):
+        own = begin + 1 if begin in here else begin
+        yield from ((at, at + 1) for at in range(begin, own))
+        if end - own > IDLE:
+            yield own, end
         else:
-            runs = [(at, at + 1) for at in range(begin, own)] + [(own, end)]
-        for at, to in runs:
-            value = topic_.values.get(at, "") if to == at + 1 else "\u2026"
-            label = str(at) if to == at + 1 else f"{at} to {to - 1}"
-            found.append([label, value, cell_kind(topic_, at), readers_at(topic_, at, names)])
-    return found
+            yield from ((at, at + 1) for at in range(own, end))
+
+
+def cells(topic_, lanes, names):
+    """The strip of positions or versions: of each its label, its value, what has become of it, and who stands there."""
+    here = standing(topic_, lanes, names)
+    for at, end in runs_of(topic_, here):
+        is_one = end == at + 1
+        yield [str(at) if is_one else f"{at} to {end - 1}", topic_.values.get(at, "") if is_one else "\u2026",
+               cell_kind(topic_, at), here.get(at, [])]
 
 
 def moment(topic_, lanes, names, made):
     """What the page shows of the topic at one entry."""
     return {
         "facts": list(words.of_topic(topic_)),
-        "cells": cells(topic_, names),
+        "cells": list(cells(topic_, lanes, names)),
         "handles": [words.of_handle(topic_, lane.side, lane.number, lane.number in made) for lane in lanes],
     }
 

@@ -102,8 +102,10 @@ def watch_note(entry, at, topic):
     count, call, said, told = entry.count, entry.call, entry.said, entry.told
     if topic.publishes(entry):
         return Note(count, at + 1, entry.value, "sent", f"was {told}" if said == "was" else "")
+    if said == "modified" and call == "quiet":
+        return Note(count, at, entry.value, "sent", "quietly")
     if said == "modified":
-        return Note(count, at, entry.value, "sent", "quietly") if call == "quiet" else Note(count, at, entry.value, "looked", "equal")
+        return Note(count, at, entry.value, "looked", "equal")
     if said == "shown":
         news, _, shown = told.partition(" ")
         return Note(count, at, shown, "got" if call == "take" else "looked", news)
