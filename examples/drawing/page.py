@@ -18,15 +18,12 @@ def read(name):
 
 # ---- the state at each entry
 
-def cell_kind(topic_, at):
-    """What has become of the value at a position or a version."""
-    if at >= topic_.next:
-        return "next"
+def kind_teller(topic_):
+    """Tells what has become of the value at a position or a version."""
     if topic_.kind == "W":
-        return "kept" if at == topic_.version else "replaced"
-    if at >= topic_.low():
-        return "kept"
-    return "missed" if at >= min(topic_.places.values(), default=at + 1) else "let go"
+        return lambda at: "kept" if at == topic_.version else "replaced"
+    low, last = topic_.low(), topic_.last_place()
+    return lambda at: "next" if at >= topic_.next else "kept" if at >= low else "missed" if at >= last else "let go"
 
 
 def standing(topic_, lanes, names):
@@ -63,11 +60,11 @@ def runs_of(topic_, here):
 
 def cells(topic_, lanes, names):
     """The strip of positions or versions: of each its label, its value, what has become of it, and who stands there."""
-    here = standing(topic_, lanes, names)
+    here, kind_of = standing(topic_, lanes, names), kind_teller(topic_)
     for at, end in runs_of(topic_, here):
         is_one = end == at + 1
         yield [str(at) if is_one else f"{at} to {end - 1}", topic_.values.get(at, "") if is_one else "\u2026",
-               cell_kind(topic_, at), here.get(at, [])]
+               kind_of(at), here.get(at, [])]
 
 
 def moment(topic_, lanes, names, made):

@@ -120,10 +120,10 @@ def watch_note(entry, at, topic):
     return None
 
 
-def columns_of(story):
-    """The columns, each a range of positions: one position, or many in turn at which nothing happens."""
+def columns_of(story, lanes):
+    """The columns, each a range of positions: one position, or many in turn at which nothing happens in these lanes."""
     busy = {story.next - 1 if story.kind == "W" else story.next}
-    for lane in story.lanes.values():
+    for lane in lanes:
         for note in lane.notes:
             busy.update((note.at, note.to))
         busy.update(version for _, version, _ in lane.marks)

@@ -390,14 +390,15 @@ def widest(story, columns, across, with_title):
 
 def draw_all(canvas, story, names, across, with_title):
     """Everything but the frame; the width and the height."""
-    columns, y = columns_of(story), 0
+    lanes = lanes_of(story)[:LANES]
+    columns, y = columns_of(story, lanes), 0
     if with_title:
         canvas.text(2, 11, title_of(story), "title")
         for index, line in enumerate(heading(story, columns)):
             canvas.text(2, 29 + 15 * index, line)
         y = 24 + 15 * len(heading(story, columns))
     for begin in range(0, len(columns), across):
-        y = draw_band(canvas, Band(columns[begin:begin + across]), story, lanes_of(story)[:LANES], names, y)
+        y = draw_band(canvas, Band(columns[begin:begin + across]), story, lanes, names, y)
     for line in legend(story):
         canvas.text(2, y, line)
         y += 14

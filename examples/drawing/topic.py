@@ -22,7 +22,11 @@ class Broadcast:
 
     def low(self):
         """The least position that is kept, or the next one where none is."""
-        return min([self.next, *(max(self.next - self.capacity, place) for place in self.places.values())])
+        return min(self.next, max(self.next - self.capacity, self.last_place()))
+
+    def last_place(self):
+        """The place of the receiver that has read least, or the next position where there is none."""
+        return min(self.places.values(), default=self.next)
 
     def at(self, entry):
         """The position at which a call stands."""
