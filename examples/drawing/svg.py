@@ -223,6 +223,8 @@ def draw_box(canvas, x, note, y):
 def draw_words(canvas, x, note, y):
     inset = inset_of(note)
     for index, line in enumerate(lines_of(note)):
+        if not line:
+            continue
         has_room = index == 0 or inset + width_of(line, SMALL) < COLUMN
         canvas.text(x + (inset if has_room else 4), y + LINE * index + 10, line)
     if note.shape == "begin":
