@@ -33,7 +33,7 @@ MADE = {
         "subscribe-oldest": "makes {made}, which begins at the oldest kept value, at position {place}",
     },
     "W": {
-        "subscribe": "makes {made}, by which version {at} counts as seen",
+        "subscribe": "makes {made}, for which version {at} counts as seen",
         "clone-rx": "makes {made}, with the same mark",
     },
 }
