@@ -22,3 +22,8 @@ def is_sanitized():
     and takes about a hundred times as long for a line."""
     with open(program(), "rb") as file:
         return b"__asan_init" in file.read()
+
+
+def patience(seconds):
+    """For how many seconds to wait for what the proved program does in so many at the most."""
+    return 10 * seconds if is_sanitized() else seconds
