@@ -27,3 +27,11 @@ def is_sanitized():
 def patience(seconds):
     """For how many seconds to wait for what the proved program does in so many at the most."""
     return 10 * seconds if is_sanitized() else seconds
+
+
+def run(words, text, seconds=60, **how):
+    """A run of the program with these words over these bytes. Where it goes on for longer than that, the script ends."""
+    try:
+        return subprocess.run([program(), *words], input=text, capture_output=True, timeout=patience(seconds), **how)
+    except subprocess.TimeoutExpired:
+        sys.exit(f"topichub {' '.join(words)} has not ended after {patience(seconds)} seconds, with the input {text[:100]!r} ..")
