@@ -19,7 +19,7 @@ def program():
 @functools.cache
 def is_sanitized():
     """Whether the program is compiled with AddressSanitizer, as one that is not proved is. It has an allocator of its own then,
-    and takes about a hundred times as long for a line."""
+    and takes some two hundred times as long for a line."""
     with open(program(), "rb") as file:
         return b"__asan_init" in file.read()
 
