@@ -37,9 +37,11 @@ module _ {A : Type 0} where
   no_number read (Some digits) h = no_number-at read (number_of digits) h
 
   -- what stands behind a table makes no difference where it finds nothing
-  pub by_word-before : (first later : Table A) (word : Bytes) (rest : Rest) → by_word later word rest ≡ None → by_word (first ++ later) word rest ≡ by_word first word rest
+  pub by_word-before : (first later : Table A) (word : Bytes) (rest : Rest) → by_word later word rest ≡ None
+      → by_word (first ++ later) word rest ≡ by_word first word rest
   by_word-before [] later word rest h = h
-  by_word-before (entry ∷ first) later word rest h = ap (λ (o : Option A). cond (bytes_eq word entry.0) (entry.1 rest) o) (by_word-before first later word rest h)
+  by_word-before (entry ∷ first) later word rest h =
+      ap (λ (o : Option A). cond (bytes_eq word entry.0) (entry.1 rest) o) (by_word-before first later word rest h)
 
   -- an entry that hands a value back
   pub handing-finds : (P : List ℕ → A → Type 0) (word : Bytes) (back : Option Bytes) (read : Bytes → A) → ((v : Bytes) → back ≡ Some v → P word (read v)) → Finds P (word, handing back read)

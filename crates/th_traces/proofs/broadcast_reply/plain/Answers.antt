@@ -15,7 +15,9 @@ use Rattle.th_traces.proofs.broadcast_reply.plain.Goals as goal
 -- a word alone is no reply of a number
 alone : (word : List ℕ) → by_word plain_replies word None ≡ by_word bare_replies word None
 unfolding number_replies bare_replies
-alone word = by_word-behind number_replies bare_replies word None (inr (refl, refl) & inr (refl, refl) & inr (refl, refl) & inr (refl, refl) & inr (refl, refl) & tt)
+alone word =
+    by_word-behind number_replies bare_replies word None
+    (inr (refl, refl) & inr (refl, refl) & inr (refl, refl) & inr (refl, refl) & inr (refl, refl) & tt)
 
 -- nothing follows the others
 no_more : (word bytes : List ℕ) → by_word bare_replies word (Some bytes) ≡ None
@@ -26,7 +28,8 @@ followed : (word bytes : List ℕ) → by_word plain_replies word (Some bytes) �
 followed word bytes = by_word-before number_replies bare_replies word (Some bytes) (no_more word bytes)
 
 -- what follows is no number
-numberless : (word : List ℕ) (rest : Rest) → is_none rest ≡ false → number_last (λ n. n) rest ≡ None → by_word plain_replies word rest ≡ None
+numberless : (word : List ℕ) (rest : Rest) → is_none rest ≡ false → number_last (λ n. n) rest ≡ None
+    → by_word plain_replies word rest ≡ None
 unfolding number_replies
 numberless word None some none = absurd (false≢true (sym some))
 numberless word (Some bytes) some none =
@@ -43,14 +46,16 @@ numberless word (Some bytes) some none =
 
 -- this number follows
 numbered : (word : List ℕ) (rest : Rest) (n : ℕ) (reply : Option (BReply Bytes)) → number_last (λ n. n) rest ≡ Some n
-    → ((digits : List ℕ) → number_of digits ≡ Some n → reply ≡ by_word number_replies word (Some digits)) → reply ≡ by_word plain_replies word rest
+    → ((digits : List ℕ) → number_of digits ≡ Some n → reply ≡ by_word number_replies word (Some digits))
+    → reply ≡ by_word plain_replies word rest
 numbered word None n reply h read = absurd (none-some n h)
 numbered word (Some digits) n reply h read = read digits (sym (same_number (number_of digits)) ∙ h) ∙ sym (followed word digits)
 
 pub returns-then-is_none : goal.returns-then-is_none
 returns-then-is_none c =
     let none : rest_of c.args.rest ≡ None = search rules in
-    subst (λ (rest : Rest). c.bare.result ≡ by_word plain_replies c.args.word.now rest) (sym none) (c.bare.ensures ∙ sym (alone c.args.word.now))
+    subst (λ (rest : Rest). c.bare.result ≡ by_word plain_replies c.args.word.now rest) (sym none)
+    (c.bare.ensures ∙ sym (alone c.args.word.now))
 
 pub returns-in_err-last_number : goal.returns-in_err-last_number
 returns-in_err-last_number c =
