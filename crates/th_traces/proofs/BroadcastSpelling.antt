@@ -15,7 +15,7 @@ use Rattle.th_traces.specs.Spelled.{Bytes, call_line, line, reply_line}
 use Rattle.th_traces.specs.Tables.{behind, by_table}
 use Rattle.th_traces.specs.declared.head.Version.{Version}
 use Rattle.th_traces.specs.Broadcast.{call_fields, reply_fields}
-use Rattle.th_traces.specs.BroadcastWords.{HasFields, IsCall, IsReplyTo, call_of, calls, handle_calls, if_had, number_calls, plain_replies, replies, reply_of, send, value_given}
+use Rattle.th_traces.specs.BroadcastWords.{HasFields, IsCall, IsReplyTo, bare_replies, call_of, calls, handle_calls, if_had, number_calls, number_replies, replies, reply_of, send, value_given}
 use Rattle.th_traces.specs.Versions.{has_call}
 use Rattle.th_traces.proofs.Entries.{number_value-finds, number_value-again, handing-finds, handing-again, by_table-found, behind-found}
 
@@ -90,26 +90,26 @@ module _ (call : BCall Bytes) where
   SpellsReply bytes reply = IsReplyTo call reply × (bytes ≡ line (reply_fields reply))
 
   replies-find : (word : List ℕ) (rest : Rest) (reply : BReply Bytes) → by_word (replies (value_given call)) word rest ≡ Some reply → SpellsReply (joined word rest) reply
-  unfolding plain_replies
+  unfolding bare_replies number_replies
   replies-find = table-finds SpellsReply (replies (value_given call)) (
       value_last-finds SpellsReply (codes "value") Value (λ v h. (h, refl))
       & handing-finds SpellsReply (codes "no-receivers") (value_given call) NoReceivers (λ v h. (h, refl))
       & handing-finds SpellsReply (codes "exhausted") (value_given call) Exhausted (λ v h. (h, refl))
       & ended-finds SpellsReply (codes "no-handle") (NoHandle (value_given call)) (refl, refl)
       & number_last-finds SpellsReply (codes "sent") Sent (λ n h. (h, refl))
-      & ended-finds SpellsReply (codes "empty") Empty (tt, refl)
-      & ended-finds SpellsReply (codes "closed") Closed (tt, refl)
       & number_last-finds SpellsReply (codes "lagged") Lagged (λ n h. (h, refl))
       & number_last-finds SpellsReply (codes "new-rx") (λ n. NewRx (rx n)) (λ n h. (h, refl))
       & number_last-finds SpellsReply (codes "new-tx") (λ n. NewTx (tx n)) (λ n h. (h, refl))
       & number_last-finds SpellsReply (codes "count") Count (λ n h. (h, refl))
+      & ended-finds SpellsReply (codes "empty") Empty (tt, refl)
+      & ended-finds SpellsReply (codes "closed") Closed (tt, refl)
       & ended-finds SpellsReply (codes "done") Done (tt, refl)
       & ended-finds SpellsReply (codes "too-many") TooMany (tt, refl)
       & tt
       )
 
   reply-again : (reply : BReply Bytes) → IsReplyTo call reply → by_table (replies (value_given call)) (line (reply_fields reply)) ≡ Some reply
-  unfolding plain_replies
+  unfolding bare_replies number_replies
   reply-again (Sent n) h = number_last-again Sent n h
   reply-again (NoReceivers v) h = handing-again (value_given call) NoReceivers v h
   reply-again (Exhausted v) h = handing-again (value_given call) Exhausted v h

@@ -1,13 +1,19 @@
 -- What tables of words find, and that they find it again in its spelling.
-use Rattle.std.proofs.Common.{◌≡◌, ℕ, List, [], ◌∷◌, ◌++◌, refl, sym, ap, ◌∙◌, Option, Some, None, subst}
+use Rattle.std.proofs.Common.{◌≡◌, ℕ, List, [], ◌∷◌, ◌++◌, refl, sym, ap, ◌∙◌, Option, Some, None, subst, option_map, cond}
 use Rattle.std.specs.Fmt.{decimal}
+use Rattle.std.specs.Str.{bytes_eq}
 use Rattle.std.proofs.lemmas.Option.{none-some, same_Some}
 use Rattle.th_lines.specs.Commands.{IsValue}
-use Rattle.th_lines.specs.Fields.{Rest, cut, field_then, last, value_last, by_word}
+use Rattle.th_lines.specs.Fields.{Rest, cut, field_then, last, number_last, number_of, value_last, by_word}
 use Rattle.th_lines.proofs.Grammar.{joined, Finds, table-finds, field-found, last-found, number_then-found, number_then-again, value_last-found, value-again, cut-joins}
 use Rattle.th_lines.proofs.Tables.{◌&◌}
 use Rattle.th_traces.specs.Spelled.{Bytes}
 use Rattle.th_traces.specs.Tables.{IsNumber, Table, behind, by_table, handing, number_value_last}
+
+-- a number that is found stays as it is
+pub same_number : (found : Option ℕ) → option_map (λ n. n) found ≡ found
+same_number None = refl
+same_number (Some n) = refl
 
 module _ {A : Type 0} where
   -- an entry of a number and a value
@@ -20,6 +26,22 @@ module _ {A : Type 0} where
 
   pub number_value-again : (read : ℕ → Bytes → A) (n : ℕ) (v : Bytes) → IsNumber n → IsValue v → number_value_last read (Some (decimal n ++ 32 ∷ v)) ≡ Some (read n v)
   number_value-again read n v h k = number_then-again (λ (n : ℕ). value_last (read n)) n (Some v) h ∙ value-again (read n) v k
+
+  -- an entry of a number finds nothing where there is none
+  no_number-at : (read : ℕ → A) (found : Option ℕ) → option_map (λ n. n) found ≡ None → option_map read found ≡ None
+  no_number-at read None h = refl
+  no_number-at read (Some n) h = absurd (none-some n (sym h))
+
+  pub no_number : (read : ℕ → A) (rest : Rest) → number_last (λ n. n) rest ≡ None → number_last read rest ≡ None
+  no_number read None h = refl
+  no_number read (Some digits) h = no_number-at read (number_of digits) h
+
+  -- what stands behind a table makes no difference where it finds nothing
+  pub by_word-before : (first later : Table A) (word : Bytes) (rest : Rest) → by_word later word rest ≡ None
+      → by_word (first ++ later) word rest ≡ by_word first word rest
+  by_word-before [] later word rest h = h
+  by_word-before (entry ∷ first) later word rest h =
+      ap (λ (o : Option A). cond (bytes_eq word entry.0) (entry.1 rest) o) (by_word-before first later word rest h)
 
   -- an entry that hands a value back
   pub handing-finds : (P : List ℕ → A → Type 0) (word : Bytes) (back : Option Bytes) (read : Bytes → A) → ((v : Bytes) → back ≡ Some v → P word (read v)) → Finds P (word, handing back read)

@@ -1,5 +1,5 @@
 -- Calls and replies of a broadcast channel, as they are read (docs/FORMATS.md, "Traces").
-use Rattle.std.specs.Prelude.{◌≡◌, ℕ, Bool, true, false, List, [], ◌∷◌, codes, Option, Some, None, is_some, if◌then◌else◌}
+use Rattle.std.specs.Prelude.{◌≡◌, ℕ, Bool, true, false, List, [], ◌∷◌, ◌++◌, codes, Option, Some, None, is_some, if◌then◌else◌}
 use Rattle.th_model.specs.declared.handles.RxId.{RxId}
 use Rattle.th_model.specs.declared.handles.TxId.{TxId}
 use Rattle.th_model.specs.declared.broadcast.BCall.{BCall}
@@ -63,19 +63,28 @@ value_given call = None
 abbrev pub gives_value : BCall Bytes → Bool
 gives_value call = is_some (value_given call)
 
--- the replies that have no value
-unfoldable pub plain_replies : Table (BReply Bytes)
-plain_replies =
-    (codes "sent", number_last Sent)
-    ∷ (codes "empty", ended Empty)
+-- the replies that nothing follows
+unfoldable pub bare_replies : Table (BReply Bytes)
+bare_replies =
+    (codes "empty", ended Empty)
     ∷ (codes "closed", ended Closed)
+    ∷ (codes "done", ended Done)
+    ∷ (codes "too-many", ended TooMany)
+    ∷ []
+
+-- the replies of a number
+unfoldable pub number_replies : Table (BReply Bytes)
+number_replies =
+    (codes "sent", number_last Sent)
     ∷ (codes "lagged", number_last Lagged)
     ∷ (codes "new-rx", number_last (λ n. NewRx (rx n)))
     ∷ (codes "new-tx", number_last (λ n. NewTx (tx n)))
     ∷ (codes "count", number_last Count)
-    ∷ (codes "done", ended Done)
-    ∷ (codes "too-many", ended TooMany)
     ∷ []
+
+-- the replies that have no value
+abbrev pub plain_replies : Table (BReply Bytes)
+plain_replies = number_replies ++ bare_replies
 
 -- the replies to a call that gives this value, or none
 abbrev pub replies : Option Bytes → Table (BReply Bytes)

@@ -1,7 +1,7 @@
 //! Calls of a broadcast channel, read.
-ghost use Rattle.std.specs.Prelude.{◌≡◌};
+ghost use Rattle.std.specs.Prelude.{◌≡◌, ℕ, List, Some};
 ghost use Rattle.std.specs.Option.{option_map};
-ghost use Rattle.th_lines.specs.Fields.{by_word};
+ghost use Rattle.th_lines.specs.Fields.{by_word, number_of};
 ghost use Rattle.th_lines.specs.Reads.{Reads, rest_of};
 ghost use Rattle.th_traces.specs.BroadcastWords.{call_of, calls, gives_value, handle_calls, number_calls, value_given};
 ghost use Rattle.th_traces.specs.Versions.{has_call};
@@ -74,50 +74,59 @@ fn by_word(alloc: Global, word: &[u8], rest: Option<&[u8]>) -> Result<BCall<Valu
 }
 
 // The call of this word, where a handle's number alone is to follow it.
-#[tactic(auto, unfolding(crate::specs::BroadcastWords::number_calls))]
 fn by_number(word: &[u8], rest: Option<&[u8]>) -> Option<BCall<Value>>
     ensures { result ≡ by_word number_calls word.now (rest_of rest.entry) }
 {
+    with_number(word, last_number(rest)?)
+}
+
+// The same, once the number is read.
+#[tactic(auto, unfolding(crate::specs::BroadcastWords::number_calls))]
+fn with_number(word: &[u8], n: u64) -> Option<BCall<Value>>
+    ensures { (digits : List ℕ) → number_of digits ≡ Some n
+        → result ≡ by_word number_calls word.now (Some digits) }
+{
     if word == b"try-recv".as_slice() {
-        return Some(BCall::TryRecv(RxId(last_number(rest)?)));
+        return Some(BCall::TryRecv(RxId(n)));
     }
     if word == b"recv".as_slice() {
-        return Some(BCall::Recv(RxId(last_number(rest)?)));
+        return Some(BCall::Recv(RxId(n)));
     }
     if word == b"subscribe".as_slice() {
-        return Some(BCall::Subscribe(TxId(last_number(rest)?)));
+        return Some(BCall::Subscribe(TxId(n)));
     }
     if word == b"subscribe-oldest".as_slice() {
-        return Some(BCall::SubscribeOldest(TxId(last_number(rest)?)));
+        return Some(BCall::SubscribeOldest(TxId(n)));
     }
     if word == b"resubscribe".as_slice() {
-        return Some(BCall::Resubscribe(RxId(last_number(rest)?)));
+        return Some(BCall::Resubscribe(RxId(n)));
     }
-    by_handle(word, rest)
+    by_handle(word, n)
 }
 
 // The same, of the words that neither receive nor subscribe.
 #[tactic(auto, unfolding(crate::specs::BroadcastWords::handle_calls))]
-fn by_handle(word: &[u8], rest: Option<&[u8]>) -> Option<BCall<Value>>
-    ensures { result ≡ by_word handle_calls word.now (rest_of rest.entry) }
+fn by_handle(word: &[u8], n: u64) -> Option<BCall<Value>>
+    ensures { (digits : List ℕ) → number_of digits ≡ Some n
+        → result ≡ by_word handle_calls word.now (Some digits) }
 {
     if word == b"clone-tx".as_slice() {
-        return Some(BCall::CloneTx(TxId(last_number(rest)?)));
+        return Some(BCall::CloneTx(TxId(n)));
     }
     if word == b"drop-tx".as_slice() {
-        return Some(BCall::DropTx(TxId(last_number(rest)?)));
+        return Some(BCall::DropTx(TxId(n)));
     }
     if word == b"drop-rx".as_slice() {
-        return Some(BCall::DropRx(RxId(last_number(rest)?)));
+        return Some(BCall::DropRx(RxId(n)));
     }
     if word == b"queued".as_slice() {
-        return Some(BCall::Queued(TxId(last_number(rest)?)));
+        return Some(BCall::Queued(TxId(n)));
     }
     if word == b"left".as_slice() {
-        return Some(BCall::Left(RxId(last_number(rest)?)));
+        return Some(BCall::Left(RxId(n)));
     }
     if word == b"readers".as_slice() {
-        return Some(BCall::Readers(TxId(last_number(rest)?)));
+        return Some(BCall::Readers(TxId(n)));
     }
     None
 }

@@ -1,9 +1,9 @@
 //! Replies of a broadcast channel, read.
-ghost use Rattle.std.specs.Prelude.{◌≡◌};
+ghost use Rattle.std.specs.Prelude.{◌≡◌, ℕ, List, Some, None};
 ghost use Rattle.std.specs.Option.{option_map};
-ghost use Rattle.th_lines.specs.Fields.{by_word, ended};
+ghost use Rattle.th_lines.specs.Fields.{by_word, ended, number_of};
 ghost use Rattle.th_lines.specs.Reads.{Reads, rest_of};
-ghost use Rattle.th_traces.specs.BroadcastWords.{has_value, plain_replies, replies, reply_of};
+ghost use Rattle.th_traces.specs.BroadcastWords.{bare_replies, has_value, number_replies, plain_replies, replies, reply_of};
 
 use crate::broadcast_call::value_given;
 use crate::fields::{handed_back, last_number, last_value, share};
@@ -92,28 +92,44 @@ fn no_handle(given: Option<&Value>, rest: Option<&[u8]>) -> Result<BReply<Value>
 }
 
 // The reply of this word, if it is one that has no value.
-#[tactic(auto, unfolding(crate::specs::BroadcastWords::plain_replies))]
 pub(crate) fn plain(word: &[u8], rest: Option<&[u8]>) -> Option<BReply<Value>>
     ensures { result ≡ by_word plain_replies word.now (rest_of rest.entry) }
 {
+    if rest.is_none() {
+        return bare(word);
+    }
+    with_number(word, last_number(rest)?)
+}
+
+// The reply of this word, where this number is all that follows it.
+#[tactic(auto, unfolding(crate::specs::BroadcastWords::number_replies))]
+fn with_number(word: &[u8], n: u64) -> Option<BReply<Value>>
+    ensures { (digits : List ℕ) → number_of digits ≡ Some n
+        → result ≡ by_word number_replies word.now (Some digits) }
+{
     if word == b"sent".as_slice() {
-        return Some(BReply::Sent(last_number(rest)?));
+        return Some(BReply::Sent(n));
     }
     if word == b"lagged".as_slice() {
-        return Some(BReply::Lagged(last_number(rest)?));
+        return Some(BReply::Lagged(n));
     }
     if word == b"new-rx".as_slice() {
-        return Some(BReply::NewRx(RxId(last_number(rest)?)));
+        return Some(BReply::NewRx(RxId(n)));
     }
     if word == b"new-tx".as_slice() {
-        return Some(BReply::NewTx(TxId(last_number(rest)?)));
+        return Some(BReply::NewTx(TxId(n)));
     }
     if word == b"count".as_slice() {
-        return Some(BReply::Count(last_number(rest)?));
+        return Some(BReply::Count(n));
     }
-    if rest.is_some() {
-        return None;
-    }
+    None
+}
+
+// The reply of this word alone.
+#[tactic(auto, unfolding(crate::specs::BroadcastWords::bare_replies))]
+fn bare(word: &[u8]) -> Option<BReply<Value>>
+    ensures { result ≡ by_word bare_replies word.now None }
+{
     if word == b"empty".as_slice() {
         return Some(BReply::Empty);
     }

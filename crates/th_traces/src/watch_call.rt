@@ -1,7 +1,7 @@
 //! Calls of a watch channel, read.
-ghost use Rattle.std.specs.Prelude.{◌≡◌, false};
+ghost use Rattle.std.specs.Prelude.{◌≡◌, ℕ, List, Some, false};
 ghost use Rattle.std.specs.Option.{option_map};
-ghost use Rattle.th_lines.specs.Fields.{Rest, by_word};
+ghost use Rattle.th_lines.specs.Fields.{Rest, by_word, number_of};
 ghost use Rattle.th_lines.specs.Reads.{Reads, rest_of};
 ghost use Rattle.th_traces.specs.WatchWords.{call_of, calls, gives_value, handle_calls, number_calls, value_given};
 
@@ -110,61 +110,71 @@ fn by_any_word(alloc: Global, word: &[u8], rest: Option<&[u8]>) -> Result<WCall<
 }
 
 // The call of this word, where a handle's number alone is to follow it.
-#[tactic(auto, unfolding(crate::specs::WatchWords::number_calls))]
 #[inline(always)]
 fn by_number(word: &[u8], rest: Option<&[u8]>) -> Option<WCall<Value>>
     ensures { result ≡ by_word number_calls word.now (rest_of rest.entry) }
 {
+    with_number(word, last_number(rest)?)
+}
+
+// The same, once the number is read.
+#[tactic(auto, unfolding(crate::specs::WatchWords::number_calls))]
+#[inline(always)]
+fn with_number(word: &[u8], n: u64) -> Option<WCall<Value>>
+    ensures { (digits : List ℕ) → number_of digits ≡ Some n
+        → result ≡ by_word number_calls word.now (Some digits) }
+{
     if word == b"borrow".as_slice() {
-        return Some(WCall::Borrow(RxId(last_number(rest)?)));
+        return Some(WCall::Borrow(RxId(n)));
     }
     if word == b"take".as_slice() {
-        return Some(WCall::Take(RxId(last_number(rest)?)));
+        return Some(WCall::Take(RxId(n)));
     }
     if word == b"has-changed".as_slice() {
-        return Some(WCall::HasChanged(RxId(last_number(rest)?)));
+        return Some(WCall::HasChanged(RxId(n)));
     }
     if word == b"try-changed".as_slice() {
-        return Some(WCall::TryChanged(RxId(last_number(rest)?)));
+        return Some(WCall::TryChanged(RxId(n)));
     }
     if word == b"changed".as_slice() {
-        return Some(WCall::Changed(RxId(last_number(rest)?)));
+        return Some(WCall::Changed(RxId(n)));
     }
     if word == b"mark-changed".as_slice() {
-        return Some(WCall::MarkChanged(RxId(last_number(rest)?)));
+        return Some(WCall::MarkChanged(RxId(n)));
     }
     if word == b"mark-unchanged".as_slice() {
-        return Some(WCall::MarkUnchanged(RxId(last_number(rest)?)));
+        return Some(WCall::MarkUnchanged(RxId(n)));
     }
-    by_handle(word, rest)
+    by_handle(word, n)
 }
 
 // The same, of the words that are no look at the value.
 #[tactic(auto, unfolding(crate::specs::WatchWords::handle_calls))]
 #[inline(always)]
-fn by_handle(word: &[u8], rest: Option<&[u8]>) -> Option<WCall<Value>>
-    ensures { result ≡ by_word handle_calls word.now (rest_of rest.entry) }
+fn by_handle(word: &[u8], n: u64) -> Option<WCall<Value>>
+    ensures { (digits : List ℕ) → number_of digits ≡ Some n
+        → result ≡ by_word handle_calls word.now (Some digits) }
 {
     if word == b"subscribe".as_slice() {
-        return Some(WCall::Subscribe(TxId(last_number(rest)?)));
+        return Some(WCall::Subscribe(TxId(n)));
     }
     if word == b"clone-rx".as_slice() {
-        return Some(WCall::CloneRx(RxId(last_number(rest)?)));
+        return Some(WCall::CloneRx(RxId(n)));
     }
     if word == b"clone-tx".as_slice() {
-        return Some(WCall::CloneTx(TxId(last_number(rest)?)));
+        return Some(WCall::CloneTx(TxId(n)));
     }
     if word == b"drop-tx".as_slice() {
-        return Some(WCall::DropTx(TxId(last_number(rest)?)));
+        return Some(WCall::DropTx(TxId(n)));
     }
     if word == b"drop-rx".as_slice() {
-        return Some(WCall::DropRx(RxId(last_number(rest)?)));
+        return Some(WCall::DropRx(RxId(n)));
     }
     if word == b"is-closed".as_slice() {
-        return Some(WCall::IsClosed(TxId(last_number(rest)?)));
+        return Some(WCall::IsClosed(TxId(n)));
     }
     if word == b"readers".as_slice() {
-        return Some(WCall::Readers(TxId(last_number(rest)?)));
+        return Some(WCall::Readers(TxId(n)));
     }
     None
 }

@@ -8,7 +8,7 @@ use Rattle.th_model.specs.declared.verb.ReceiverVerb.TheVariants.{TryRecv, Recv,
 use Rattle.th_model.specs.declared.verb.SenderVerb.TheVariants.{Send, Replace}
 use Rattle.th_model.specs.declared.verb.Start.TheVariants.{Tail}
 use Rattle.th_lines.specs.Fields.{Rest, by_word, ended, field_then, name_then, or_field, value_last}
-use Rattle.th_lines.specs.Commands.{carries_value, beginning, command_of, editing, making, on, sending, tracing, words}
+use Rattle.th_lines.specs.Commands.{carries_value, beginning, command_of, editing, making, on, sending, tracing, mark_words, topic_words, value_words, words, words_alone, words_with_more}
 use Rattle.th_lines.specs.Reads.{Reads, rest_of}
 use Rattle.th_lines.proofs.Readers.{by_word-misses, nameless, parts, parts-found}
 use Rattle.th_lines.proofs.Tables.{◌&◌}
@@ -16,24 +16,19 @@ use Rattle.th_lines.proofs.read.read_command.Goals as goal
 
 -- no command has another first field than a name behind its word
 no_name : (word : List ℕ) (fields : List ℕ) → name_then parts (Some fields) ≡ None → by_word words word (Some fields) ≡ None
-unfolding words
+unfolding words words_alone words_with_more value_words mark_words topic_words
 no_name word fields none =
     let without = λ (next : List ℕ → Rest → Option Command). let e : name_then next (Some fields) ≡ None = nameless next (Some fields) none in e in
     by_word-misses words word (Some fields) (
-    inr (without (λ t. field_then (by_word (making t))))
-    & inr (without (λ t. ended (on Bind t)))
-    & inr (without (λ t. ended (on Unbind t)))
-    & inr (without (λ t. or_field (On t (Subscribe Tail)) (by_word (beginning t))))
-    & inr (without (λ t. ended (on Unsubscribe t)))
-    & inr (without (λ t. ended (on Resubscribe t)))
+    inr refl
+    & inr refl
+    & inr (without (λ t. field_then (by_word (making t))))
     & inr (without (λ t. value_last (sending Send t)))
+    & inr (without (λ t. value_last (sending Replace t)))
+    & inr (without (λ t. field_then (by_word (editing t))))
     & inr (without (λ t. ended (on (ByReceiver TryRecv) t)))
     & inr (without (λ t. ended (on (ByReceiver Recv) t)))
     & inr (without (λ t. ended (on (ByReceiver Left) t)))
-    & inr (without (λ t. ended (on (Ask Queued) t)))
-    & inr (without (λ t. ended (on (Ask Readers) t)))
-    & inr (without (λ t. value_last (sending Replace t)))
-    & inr (without (λ t. field_then (by_word (editing t))))
     & inr (without (λ t. ended (on (ByReceiver Borrow) t)))
     & inr (without (λ t. ended (on (ByReceiver Take) t)))
     & inr (without (λ t. ended (on (ByReceiver HasChanged) t)))
@@ -41,10 +36,15 @@ no_name word fields none =
     & inr (without (λ t. ended (on (ByReceiver Changed) t)))
     & inr (without (λ t. ended (on (ByReceiver MarkChanged) t)))
     & inr (without (λ t. ended (on (ByReceiver MarkUnchanged) t)))
+    & inr (without (λ t. ended (on Bind t)))
+    & inr (without (λ t. ended (on Unbind t)))
+    & inr (without (λ t. or_field (On t (Subscribe Tail)) (by_word (beginning t))))
+    & inr (without (λ t. ended (on Unsubscribe t)))
+    & inr (without (λ t. ended (on Resubscribe t)))
+    & inr (without (λ t. ended (on (Ask Queued) t)))
+    & inr (without (λ t. ended (on (Ask Readers) t)))
     & inr (without (λ t. ended (on End t)))
     & inr (without (λ t. ended (tracing t)))
-    & inr refl
-    & inr refl
     & tt
     )
 
