@@ -106,9 +106,9 @@ def pages():
 def complaints(path):
     """What `mandoc` and `man` complain of in a page, for each of them that is installed."""
     if shutil.which("mandoc"):
-        # Whether another page is there depends on the machine.
-        linted = subprocess.run(["mandoc", "-Tlint", path], stdout=subprocess.PIPE, text=True, timeout=PATIENCE).stdout
-        yield "mandoc", "".join(line for line in linted.splitlines(True) if "referenced manual not found" not in line)
+        # It looks for the pages that are referred to where it is run.
+        yield "mandoc", subprocess.run(["mandoc", "-Tlint", os.path.basename(path)], cwd=PAGES, stdout=subprocess.PIPE, text=True,
+                                       timeout=PATIENCE).stdout
     if shutil.which("man") and shutil.which("groff"):
         environment = dict(os.environ, LC_ALL="C.UTF-8", MANROFFSEQ="", MANWIDTH="80")
         words = ["man", "--warnings", "-E", "UTF-8", "-l", "-Tutf8", "-Z", path]
