@@ -14,13 +14,13 @@ LEFT_OUT = ("/usr/share/doc/", "/usr/share/man/", "/usr/share/locale/", "/usr/sh
 PATIENCE = 60
 FETCHING = 900  # seconds that debootstrap may take
 PATH = "/usr/local/sbin:/usr/local/bin:/usr/sbin:/usr/bin:/sbin:/bin"
+ENVIRONMENT = {"PATH": PATH, "LC_ALL": "C.UTF-8", "DEBIAN_FRONTEND": "noninteractive"}
 AS_ROOT = [] if os.geteuid() == 0 else ["unshare", "--map-root-user"]
 
 
 def run(*words, patience=PATIENCE, **how):
     """Runs a command as root, and returns its status, its output and its errors."""
-    return subprocess.run([*AS_ROOT, *words], capture_output=True, timeout=patience,
-                          env={"PATH": PATH, "LC_ALL": "C.UTF-8", "DEBIAN_FRONTEND": "noninteractive"}, **how)
+    return subprocess.run([*AS_ROOT, *words], capture_output=True, timeout=patience, env=ENVIRONMENT, **how)
 
 
 def missing():
@@ -34,7 +34,8 @@ def missing():
 
 
 def query(form, *packages):
-    return subprocess.run(["dpkg-query", *form, *packages], stdout=subprocess.PIPE, text=True, check=True, timeout=PATIENCE).stdout
+    return subprocess.run(["dpkg-query", *form, *packages], stdout=subprocess.PIPE, text=True, check=True, timeout=PATIENCE,
+                          env=ENVIRONMENT).stdout
 
 
 def with_dependencies(packages):
