@@ -70,7 +70,7 @@ take_program() {
 
 # Sets version, which the program alone knows; epoch, the second of the last commit; and architecture.
 # As long as CHANGELOG.md dates no such version, what is built comes before it: 0.1.0~20260131.1200. And a program that was
-# given is told by the version: 0.1.0+given.
+# given is told by the version: 0.1.0~given.
 take_facts() {
     version=$("$room/topichub" --version) || fail 'the program does not tell its version'
     version=${version#topichub }
@@ -81,7 +81,7 @@ take_facts() {
         fail 'there is no commit to take the date from: set SOURCE_DATE_EPOCH'
     grep -q "^## \[$version\] - [0-9]" "$root/CHANGELOG.md" ||
         version=$version~$(date -u -d "@$epoch" +%Y%m%d.%H%M)
-    [ -z "$given" ] || version=$version+given
+    [ -z "$given" ] || version=$version~given
     case $(od -An -j18 -N2 -tx1 "$room/topichub" | tr -d ' ') in
         3e00) architecture=amd64 ;;
         b700) architecture=arm64 ;;
