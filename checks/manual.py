@@ -8,7 +8,7 @@ import subprocess
 ROOT = os.path.dirname(os.path.dirname(os.path.abspath(__file__)))
 PAGES = os.path.join(ROOT, "packaging", "man")
 COMPLETIONS = os.path.join(ROOT, "packaging", "completions")
-PATIENCE = 60
+PATIENCE = 120
 SHELLS = ("bash", "zsh", "fish")
 
 # Offers what bash would at the end of the line $2, by the completion in the file $1.

@@ -11,7 +11,7 @@ import subprocess
 PACKAGES = ("libc6", "dash", "coreutils")
 # Not needed to run anything, and large.
 LEFT_OUT = ("/usr/share/doc/", "/usr/share/man/", "/usr/share/locale/", "/usr/share/info/")
-PATIENCE = 60
+PATIENCE = 120
 FETCHING = 900  # seconds that debootstrap may take
 PATH = "/usr/local/sbin:/usr/local/bin:/usr/sbin:/usr/bin:/sbin:/bin"
 ENVIRONMENT = {"PATH": PATH, "LC_ALL": "C.UTF-8", "DEBIAN_FRONTEND": "noninteractive"}
@@ -91,9 +91,10 @@ class Root:
             os.makedirs(os.path.dirname(to), exist_ok=True)
             shutil.copy2(it, to, follow_symlinks=False)
 
-    def fetch_debian(self, suite):
-        """Makes it of Debian's packages, from the network."""
-        return run("debootstrap", "--variant=minbase", suite, self.folder, patience=FETCHING)
+    def fetch_debian(self, suite, *packages):
+        """Makes it of Debian's packages, from the network: the least that there is, and those that are named."""
+        wanted = [f"--include={','.join(packages)}"] if packages else []
+        return run("debootstrap", "--variant=minbase", *wanted, suite, self.folder, patience=FETCHING)
 
     def dpkg(self, *words):
         """Runs dpkg on this root, and takes every file of a package, whatever the machine leaves out."""
