@@ -1,4 +1,5 @@
 # Completion of topichub's command line for bash.
+# shellcheck shell=bash
 
 _topichub() {
     local word=${COMP_WORDS[COMP_CWORD]} before=${COMP_WORDS[COMP_CWORD - 1]} mode='' words=''
