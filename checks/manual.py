@@ -65,6 +65,10 @@ class Help:
     def numbers(self):
         return set(re.findall(r"\d{2,}", self.text))
 
+    def example(self):
+        """The lines of a schedule with their replies."""
+        return set(re.findall(r"^  ([a-z]+ [A-Z]+ .* {2,}\S.*)$", self.text, re.M))
+
 
 # ---- man pages
 

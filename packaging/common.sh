@@ -114,16 +114,20 @@ stage() {
     stage_documents "$share/doc/topichub"
 }
 
-# stage_documents FOLDER: the documents, as their links want them to stand, and the examples that need no repository.
+# put_as_is FILE FOLDER: copies the file into the folder, to be run where it can be run here.
+put_as_is() {
+    if [ -x "$1" ]; then put 755 "$1" "$2"; else put 644 "$1" "$2"; fi
+}
+
+# stage_documents FOLDER: the documents, as their links want them to stand, and the examples. examples/check and
+# examples/beside are left out, since they run the repository's program.
 stage_documents() {
     put 644 "$root/README.md" "$1"
-    put 644 "$root"/docs/*.md "$1/docs"
-    for kind in schedule replies trace verdict svg; do
-        put 644 "$root/examples/"*".$kind" "$1/examples"
+    put 644 "$root"/docs/*.* "$1/docs"
+    for file in "$root"/examples/*.* "$root/examples/draw"; do
+        put_as_is "$file" "$1/examples"
     done
-    put 755 "$root/examples/draw" "$1/examples"
-    put 644 "$root"/examples/clients/*.printed "$root/examples/clients/hub.py" "$1/examples/clients"
-    for name in check shell publisher.py slow.py watcher.py; do
-        put 755 "$root/examples/clients/$name" "$1/examples/clients"
+    for file in "$root"/examples/clients/*; do
+        [ ! -f "$file" ] || put_as_is "$file" "$1/examples/clients"
     done
 }
