@@ -1,0 +1,28 @@
+# Completion of topichub's command line for bash.
+# shellcheck shell=bash
+
+_topichub() {
+    local word=${COMP_WORDS[COMP_CWORD]} before=${COMP_WORDS[COMP_CWORD - 1]} mode='' words=''
+    [ "$COMP_CWORD" -eq 1 ] || mode=${COMP_WORDS[1]}
+    COMPREPLY=()
+    case $mode:$word in
+        :-*) words='-h --help -V --version' ;;
+        :*) words='replay check serve help' ;;
+        replay:-* | check:-*) words='-h --help' ;;
+        help:*) [ "$COMP_CWORD" -ne 2 ] || words='replay check serve help' ;;
+        serve:*)
+            case $before:$word in
+                --sessions:* | =:*) ;; # a number from 1 to 64
+                *:-*) words='--sessions -h --help' ;;
+                *)
+                    compopt -o filenames 2>/dev/null
+                    mapfile -t COMPREPLY < <(compgen -d -- "$word")
+                    return
+                    ;;
+            esac
+            ;;
+    esac
+    mapfile -t COMPREPLY < <(compgen -W "$words" -- "$word")
+}
+
+complete -F _topichub topichub

@@ -1,0 +1,27 @@
+# Completion of topichub's command line for fish.
+
+# Whether the first word names one of these modes; without any, whether it is still to come.
+function __topichub_in
+    set -l words (commandline -opc)
+    if set -q argv[1]
+        set -q words[2]; and contains -- $words[2] $argv
+    else
+        not set -q words[2]
+    end
+end
+
+# Whether the next word is the name of a mode.
+function __topichub_at_mode
+    set -l words (commandline -opc)
+    not set -q words[2]; or test "$words[2..]" = help
+end
+
+complete -c topichub -f
+complete -c topichub -n __topichub_at_mode -a replay -d 'Print the replies to a schedule from standard input'
+complete -c topichub -n __topichub_at_mode -a check -d 'Say whether the trace from standard input is legal'
+complete -c topichub -n __topichub_at_mode -a serve -d 'Serve sessions on a Unix socket'
+complete -c topichub -n __topichub_at_mode -a help -d 'Print help'
+complete -c topichub -n '__topichub_in; or __topichub_in replay check serve' -s h -l help -d 'Print help'
+complete -c topichub -n __topichub_in -s V -l version -d 'Print the version'
+complete -c topichub -n '__topichub_in serve' -l sessions -x -d 'How many connections are served, 1 to 64'
+complete -c topichub -n '__topichub_in serve' -a '(__fish_complete_directories)'
