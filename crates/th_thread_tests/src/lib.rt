@@ -15,6 +15,8 @@ mod crowd;
 #[cfg(test)]
 mod delivery;
 #[cfg(test)]
+mod example;
+#[cfg(test)]
 mod glances;
 #[cfg(test)]
 mod histories;
