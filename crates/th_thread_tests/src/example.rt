@@ -1,111 +1,99 @@
-//! The example of the README, and its story with receipts of docs/LIBRARY.md: both pages quote it.
+//! The example of the README and of docs/LIBRARY.md, which quote it: a sender and a receiver in two threads.
 use std::alloc::Global;
-use std::process::Abort;
 use std::sync::Wait;
 use std::thread;
+use std::thread::Threads;
 use th_block::{BReceiver, BSender, RingBroadcast, broadcast};
 use th_log::{Audited, Diary, audit, close};
 use th_model::BReply::{Lagged, Value};
 use th_model::Capacity;
 use th_seats::Share;
 
-type News = RingBroadcast<u64>;
-
-// A channel that keeps four values, and its first sender. A segment of its log has at most 1,000
-// entries, and its key is 7.
-fn opened(rt: &impl Abort, alloc: Global) -> BSender<u64> {
-    let capacity = Capacity::new(4).ok().expect(rt, "a capacity");
-    broadcast(alloc, capacity, 1_000, 7)
-        .ok()
-        .expect(rt, "memory for a channel")
-}
-
-fn subscribed<R: Wait + Abort>(rt: &R, news: &mut BSender<u64>) -> BReceiver<u64> {
-    let (_receipt, receiver) = news.subscribe(rt).ok().expect(rt, "room in the log");
-    receiver.expect(rt, "fewer than 65,535 receivers")
-}
-
-fn send_all<R: Wait + Abort>(rt: &R, mut news: BSender<u64>) {
+// Sends a hundred values. `None` where a call was refused.
+fn send_all<R: Wait>(rt: &R, mut news: BSender<u64>) -> Option<()> {
     for value in 0..100 {
-        news.send(rt, value).ok().expect(rt, "room in the log");
+        news.send(rt, value).ok()?;
     }
-    news.spend(rt).ok().expect(rt, "a live sender");
+    news.spend(rt).ok()?;
+    Some(())
 }
 
 // How many values came, and how many were missed.
-fn receive_all<R: Wait + Abort>(rt: &R, mut news: BReceiver<u64>) -> (u64, u64) {
-    let (mut received, mut missed) = (0, 0);
+fn receive_all<R: Wait>(rt: &R, mut news: BReceiver<u64>) -> Option<(u64, u64)> {
+    let (mut received, mut missed) = (0u64, 0u64);
     for _ in rt.forever() {
         let Some(told) = news.next(rt) else {
-            break; // the channel is closed, and all that it kept was read
+            break; // no sender is left, and all that was kept has been read
         };
-        match told.ok().expect(rt, "room in the log").reply() {
-            Value(_) => received += 1,
-            Lagged(count) => missed += *count,
+        match told.ok()?.reply() {
+            Value(_) => received = received.wrapping_add(1),
+            Lagged(count) => missed = missed.wrapping_add(*count),
             _ => {}
         }
     }
-    (received, missed)
+    Some((received, missed))
+}
+
+// A channel that keeps four values; a segment of its log has at most 1,000 entries, and its key is 7.
+fn opened(alloc: Global) -> Option<BSender<u64>> {
+    broadcast(alloc, Capacity::new(4).ok()?, 1_000, 7).ok()
+}
+
+fn between_threads<R: Threads + Wait + Sync>(rt: &R, alloc: Global) -> Option<(u64, u64)> {
+    let mut news = opened(alloc)?;
+    let (_receipt, bob) = news.subscribe(rt).ok()?;
+    let bob = bob?;
+    let (sent, told) = thread::join(rt, || send_all(rt, news), || receive_all(rt, bob));
+    sent?;
+    told
 }
 
 #[test]
 fn what_came_and_what_was_missed_is_all_that_was_sent(rt: HostRuntime) {
-    let mut news = opened(&rt, rt.alloc());
-    let bob = subscribed(&rt, &mut news);
-    let ((), (received, missed)) = thread::join(
-        &rt,
-        || send_all(&rt, news),
-        || receive_all(&rt, bob),
-    );
-    assert_eq!(rt; received + missed, 100);
+    let all = between_threads(&rt, rt.alloc()).map(|(received, missed)| received + missed);
+    assert_eq!(rt; all, Some(100));
 }
 
-// Sends, notes each receipt, and gives its share back.
-fn send_noted<R: Wait + Abort>(
-    rt: &R,
-    alloc: Global,
-    mut news: BSender<u64>,
-) -> (Share, Diary<News>) {
+type Noted = (Share, Diary<RingBroadcast<u64>>);
+
+// Sends, notes each receipt, and gives the share back.
+fn send_noted<R: Wait>(rt: &R, alloc: Global, mut news: BSender<u64>) -> Option<Noted> {
     let mut diary = Diary::new(alloc);
     for value in 0..100 {
-        let told = news.send(rt, value).ok().expect(rt, "room in the log");
-        diary.note(told).ok().expect(rt, "memory for a receipt");
+        diary.note(news.send(rt, value).ok()?).ok()?;
     }
-    (news.spend(rt).ok().expect(rt, "a live sender"), diary)
+    Some((news.spend(rt).ok()?, diary))
 }
 
-fn receive_noted<R: Wait + Abort>(
-    rt: &R,
-    alloc: Global,
-    mut news: BReceiver<u64>,
-) -> (Share, Diary<News>) {
+fn receive_noted<R: Wait>(rt: &R, alloc: Global, mut news: BReceiver<u64>) -> Option<Noted> {
     let mut diary = Diary::new(alloc);
     for _ in rt.forever() {
         let Some(told) = news.next(rt) else {
             break;
         };
-        let told = told.ok().expect(rt, "room in the log");
-        diary.note(told).ok().expect(rt, "memory for a receipt");
+        diary.note(told.ok()?).ok()?;
     }
-    (news.spend(rt).ok().expect(rt, "a live receiver"), diary)
+    Some((news.spend(rt).ok()?, diary))
+}
+
+// Whether both were told what their receipts say, and nobody made an event beside them.
+fn is_accounted_for<R: Threads + Wait + Sync>(rt: &R, alloc: Global) -> Option<bool> {
+    let mut news = opened(alloc)?;
+    let owner = news.shared().ok()?;
+    let (_receipt, bob) = news.subscribe(rt).ok()?;
+    let bob = bob?;
+    let (alice, bob) = thread::join(
+        rt,
+        || send_noted(rt, alloc, news),
+        || receive_noted(rt, alloc, bob),
+    );
+    let ((alice, sent), (bob, told)) = (alice?, bob?);
+    let shares = Vec::from_array(alloc, [alice, bob]).ok()?;
+    let history = close(owner.finish().ok()?, shares).ok()?;
+    Some(audit(alloc, &history, &[sent, told]) == Ok(Audited))
 }
 
 #[test]
 fn both_diaries_stand_in_the_history(rt: HostRuntime) {
-    let mut news = opened(&rt, rt.alloc());
-    let owner = news.shared().ok().expect(&rt, "an owner");
-    let bob = subscribed(&rt, &mut news);
-    let ((alice, sent), (bob, told)) = thread::join(
-        &rt,
-        || send_noted(&rt, rt.alloc(), news),
-        || receive_noted(&rt, rt.alloc(), bob),
-    );
-    let log = owner.finish().ok().expect(&rt, "the last owner");
-    let shares = Vec::from_array(rt.alloc(), [alice, bob])
-        .ok()
-        .expect(&rt, "memory");
-    let history = close(log, shares)
-        .ok()
-        .expect(&rt, "shares that account for every event");
-    assert_eq!(rt; audit(rt.alloc(), &history, &[sent, told]), Ok(Audited));
+    assert_eq!(rt; is_accounted_for(&rt, rt.alloc()), Some(true));
 }
