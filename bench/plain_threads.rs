@@ -2,7 +2,7 @@
 //!
 //!     plain_threads RECEIVERS BATCHES timed
 //!
-//! It does what the program th_thread_bench does: one Mutex and one Condvar, which is notified only where somebody waits for
+//! It does what the program bench_threads does: one Mutex and one Condvar, which is notified only where somebody waits for
 //! a value; a window of counted values; a log of each call and its reply, of which room is kept for the end of each live
 //! handle; a receipt for each call; and handles that count their events.
 use std::collections::{HashMap, VecDeque};

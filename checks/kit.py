@@ -1,0 +1,23 @@
+"""The toolchain's command `rt` as a module, for what its words do not offer: proofs and edits side by side."""
+import importlib.machinery
+import importlib.util
+import os
+import shutil
+import sys
+
+sys.dont_write_bytecode = True
+USED = ("in_lanes", "need", "must_fail", "checked", "rtlib")
+
+
+def toolchain():
+    """The module, or None where this release has not what the scripts use of it."""
+    found = shutil.which("rt")
+    if not found:
+        sys.exit(f"{os.path.basename(sys.argv[0])}: the Rattle toolchain's command `rt` is not on the PATH")
+    loader = importlib.machinery.SourceFileLoader("rt_of_kit", os.path.realpath(found))
+    made = importlib.util.module_from_spec(importlib.util.spec_from_loader("rt_of_kit", loader))
+    try:
+        loader.exec_module(made)
+    except Exception:  # another release may be no Python at all
+        return None
+    return made if all(hasattr(made, it) for it in USED) and hasattr(made.rtlib.Crate, "build_rlib") else None
