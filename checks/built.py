@@ -1,4 +1,4 @@
-"""Other programs that the scripts build: in plain Rust, in Rust on Tokio, and the crates that are programs themselves."""
+"""Other programs that the scripts build: in plain Rust, and in Rust on Tokio."""
 import glob
 import os
 import shutil
@@ -8,7 +8,7 @@ import sys
 from program import ROOT
 
 OPTIMIZED = ("--edition", "2024", "-C", "opt-level=3", "-C", "codegen-units=1", "-C", "panic=abort")
-# For programs whose calls are timed beside those of a crate's program, which is for any x86-64 processor too.
+# For programs whose calls are timed beside those of bench/programs, which are for any x86-64 processor too.
 FOR_CALLS = ("--edition", "2021", "-O", "-C", "target-cpu=x86-64")
 REGISTRY = "/usr/share/cargo/registry"
 MANIFEST = """[package]
@@ -58,16 +58,3 @@ def on_tokio(source, features, folder):
     subprocess.run(["cargo", *registry, "build", "--offline", "--quiet", "--release"], cwd=folder, check=True,
                    env={**os.environ, "CARGO_TARGET_DIR": os.path.join(folder, "target")})
     return os.path.join(folder, "target", "release", name)
-
-
-def crate_program(name):
-    """The program of a crate, which is proved with those below it where they have changed, and built."""
-    need_tool("rt", f"proves and builds {name}")
-    crate = os.path.join(ROOT, "crates", name)
-    with open(os.path.join(crate, "args")) as file:
-        words = file.read().split()
-    run = subprocess.run(["rt", "run", "--", *words], cwd=crate, stdin=subprocess.DEVNULL, stdout=subprocess.PIPE,
-                         stderr=subprocess.STDOUT, text=True)
-    if run.returncode != 0:
-        sys.exit(f"{name} is not built:\n" + run.stdout[-2_000:])
-    return os.path.join(crate, "out", name)

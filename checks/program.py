@@ -2,21 +2,18 @@
 import functools
 import os
 import subprocess
+import sys
 
 ROOT = os.path.dirname(os.path.dirname(os.path.abspath(__file__)))
 
 
 @functools.cache
 def program():
-    """The path of the program that `run` would start, which is built where there is none. What is said meanwhile goes to
-    standard error, and a failure ends the script."""
-    given = os.environ.get("TOPICHUB")
-    if given:
-        return os.path.abspath(given)
+    """The path of the program that `run` would start, which compiles one where there is none. Where it cannot, the script ends."""
     asked = subprocess.run([os.path.join(ROOT, "run"), "--where"], stdin=subprocess.DEVNULL, stdout=subprocess.PIPE, text=True)
     if asked.returncode != 0:
-        raise SystemExit("there is no program to try: `run --where` ended with the status " + str(asked.returncode))
-    return asked.stdout.removesuffix("\n")
+        sys.exit("there is no program to try: `run --where` says why")
+    return os.path.abspath(asked.stdout.removesuffix("\n"))
 
 
 @functools.cache

@@ -40,3 +40,20 @@ def answered(schedule):
         reply = next(replies)
         rows = int(reply[3:]) if line.split(b" ")[1] == b"TRACE" and reply.startswith(b"OK ") else 0
         yield line, reply, b"".join(next(replies) + b"\n" for _ in range(rows))
+
+
+# ---- what other random schedules are made of
+
+def command(word, topic, value):
+    """The command of this word, with the topic's name behind the first field; where the word ends in `v`, the value stands
+    there."""
+    first, _, rest = word.partition(" ")
+    return f"{first} {topic}" + (f" {rest[:-1]}{value}" if rest else "")
+
+
+def some_value(chance, number):
+    return f"value {number} " + "." * int(24 * chance.random())
+
+
+def drawn(chance, weights, count):
+    return chance.choices(list(weights), list(weights.values()), k=count)
