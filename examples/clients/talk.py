@@ -1,8 +1,6 @@
 #!/usr/bin/env python3
-"""A session from the keyboard, or from a file: each line goes to the hub, and what it answers is printed.
-
-    examples/clients/talk.py PATH
-"""
+"""A session from the keyboard, or from a file: each line goes to the hub, and what it answers is printed."""
+import argparse
 import os
 import socket
 import sys
@@ -19,13 +17,14 @@ def send_lines(hub):
 
 
 def main():
-    if len(sys.argv) != 2 or sys.argv[1].startswith("-"):
-        sys.exit(__doc__.strip())
+    about = argparse.ArgumentParser(description=__doc__, epilog="exit status: 0 once the session has ended, 1 where nobody listens, 2 where the words are wrong")
+    about.add_argument("path", metavar="PATH", help="the socket of `topichub serve PATH`")
+    path = about.parse_args().path
     with socket.socket(socket.AF_UNIX, socket.SOCK_STREAM) as hub:
         try:
-            hub.connect(sys.argv[1])
+            hub.connect(path)
         except OSError as error:
-            sys.exit(f"talk: {sys.argv[1]}: {error.strerror}; does `serve` listen there, with a session left?")
+            sys.exit(f"talk: {path}: {error.strerror}; does `serve` listen there, with a session left?")
         threading.Thread(target=send_lines, args=[hub], daemon=True).start()
         while replies := hub.recv(65536):
             sys.stdout.buffer.write(replies)
