@@ -19,6 +19,19 @@ def program():
 @functools.cache
 def is_sanitized():
     """Whether the program is compiled with AddressSanitizer, as one that is not proved is. It has an allocator of its own then,
-    and takes about a hundred times as long for a line."""
+    and takes some two hundred times as long for a line."""
     with open(program(), "rb") as file:
         return b"__asan_init" in file.read()
+
+
+def patience(seconds):
+    """For how many seconds to wait for what the proved program does in so many at the most."""
+    return 10 * seconds if is_sanitized() else seconds
+
+
+def run(words, text, seconds=60, **how):
+    """A run of the program with these words over these bytes. Where it goes on for longer than that, the script ends."""
+    try:
+        return subprocess.run([program(), *words], input=text, capture_output=True, timeout=patience(seconds), **how)
+    except subprocess.TimeoutExpired:
+        sys.exit(f"topichub {' '.join(words)} has not ended after {patience(seconds)} seconds, with the input {text[:100]!r} ..")

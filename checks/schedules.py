@@ -1,8 +1,8 @@
 """Random schedules, and what the program answers to them."""
 import random
-import subprocess
+import sys
 
-from program import program
+from program import run
 
 ACTORS = [b"ann", b"bob", b"cid", b"dee"]
 OF_BOTH = ["BIND", "SUB", "UNBIND", "UNSUB", "PUB v", "PUB v", "PUB v", "READERS"]
@@ -34,7 +34,9 @@ def made(seed, lines):
 
 def answered(schedule):
     """Each line with its reply, and the trace of a TRACE."""
-    ran = subprocess.run([program(), "replay"], input=b"\n".join(schedule) + b"\n", stdout=subprocess.PIPE, check=True)
+    ran = run(["replay"], b"\n".join(schedule) + b"\n")
+    if ran.returncode != 0:
+        sys.exit(f"topichub replay ended with the status {ran.returncode}, and said {ran.stderr!r}")
     replies = iter(ran.stdout.split(b"\n")[:-1])
     for line in schedule:
         reply = next(replies)

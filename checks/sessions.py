@@ -1,10 +1,11 @@
-"""Servers and clients of `topichub serve`, for the scripts that try it."""
+"""Servers and clients of `topichub serve`, for the scripts that try it. All that they wait for is given in seconds of the proved
+program, and takes longer where the program is slow."""
 import signal
 import socket
 import subprocess
 import threading
 
-from program import program
+from program import patience, program
 
 
 class Server:
@@ -17,7 +18,7 @@ class Server:
                                         stdout=subprocess.PIPE, stderr=subprocess.PIPE, text=True, env=environment,
                                         preexec_fn=lambda: signal.signal(signal.SIGINT, signal.SIG_DFL))
         # What has not ended after so many seconds never will, and says no more.
-        self.timer = threading.Timer(seconds, self.process.kill)
+        self.timer = threading.Timer(patience(seconds), self.process.kill)
         self.timer.start()
         self.first = self.process.stdout.readline()
 
@@ -29,18 +30,18 @@ class Server:
         self.process.kill()
         self.process.communicate()
 
-    def end(self, patience=None):
+    def end(self, seconds=None):
         """The status, and what was printed and told as an error until then."""
-        printed, told = self.process.communicate(timeout=patience)
+        printed, told = self.process.communicate(timeout=None if seconds is None else patience(seconds))
         return self.process.returncode, self.first + printed, told
 
 
 class Client:
     """A session, by what it sends and reads, all of it bytes."""
 
-    def __init__(self, path, patience):
+    def __init__(self, path, seconds):
         self.socket = socket.socket(socket.AF_UNIX)
-        self.socket.settimeout(patience)
+        self.socket.settimeout(patience(seconds))
         try:
             self.socket.connect(path)
         except OSError:

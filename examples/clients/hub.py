@@ -53,8 +53,10 @@ class Hub:
 
 def session(doc):
     """A session with the server whose socket the command line names; `--help` prints the client's own text."""
-    words = argparse.ArgumentParser(description=doc, epilog="exit status: 0 where the session went to its end, else 1; 2 where the words "
-                                    "are wrong")
+    words = argparse.ArgumentParser(
+        description=doc,
+        epilog="exit status: 0 where the session went to its end, else 1; 2 where the words are wrong",
+    )
     words.add_argument("path", metavar="PATH", help="the socket, as in: topichub serve PATH --sessions 4")
     path = words.parse_args().path
     try:
