@@ -35,7 +35,7 @@ fn advice(code: Code) -> &'static str
 {
     match code {
         Code::BadLine => {
-            "ERR 10 bad-line: write ACTOR COMMAND, as in `bob SUB news`; topichub replay --help lists all\n"
+            "ERR 10 bad-line: a line is ACTOR COMMAND, as `bob SUB news`; topichub replay --help lists them all\n"
         }
         Code::NoTopic => {
             "ERR 11 no-topic: OPEN t B cap or OPEN t W value first; LIST tells which topics there are\n"
@@ -44,26 +44,26 @@ fn advice(code: Code) -> &'static str
             "ERR 12 exists: the topic is open, and stays so: go on with it, or OPEN one of another name\n"
         }
         Code::WrongKind => {
-            "ERR 13 wrong-kind: LIST tells its kind, B or W; topichub replay --help lists what each takes\n"
+            "ERR 13 wrong-kind: LIST tells the topic's kind, B or W, and topichub replay --help its commands\n"
         }
         Code::BadCapacity => { "ERR 14 bad-capacity: OPEN t B cap takes a cap from 1 to 65536\n" }
         Code::Held => {
-            "ERR 15 held: one at a time: go on with the one held, or spend it first, by UNSUB t or UNBIND t\n"
+            "ERR 15 held: the actor has one already: go on with it, or spend it first by UNSUB t or UNBIND t\n"
         }
         Code::NotHeld => {
-            "ERR 16 not-held: the same actor first needs SUB t to receive or look, BIND t to send\n"
+            "ERR 16 not-held: the actor needs its own: SUB t first to receive or look, BIND t first to send\n"
         }
         Code::NoReceivers => {
             "ERR 17 no-receivers: let an actor SUB t, then PUB again; on a W topic SWAP needs no receiver\n"
         }
         Code::Closed => {
-            "ERR 18 closed: END t spent the hub's sender: BIND t before it; who did so can still SUB t\n"
+            "ERR 18 closed: END t has spent the hub's sender: BIND t before END; who did can still SUB t\n"
         }
         Code::TooMany => {
-            "ERR 19 too-many: at most 1024 actors at once, QUIT makes room; at most 1024 topics, for good\n"
+            "ERR 19 too-many: at most 1024 actors at once, QUIT makes room; at most 1024 topics, none is removed\n"
         }
         Code::Exhausted => {
-            "ERR 20 exhausted: the topic takes no further value: OPEN another, with a smaller AT base\n"
+            "ERR 20 exhausted: the topic takes no further value: OPEN another one, with a smaller AT base\n"
         }
         Code::NoMemory => {
             "ERR 21 no-memory: nothing has changed: give the line again once memory is free\n"

@@ -2,7 +2,8 @@
 ghost use Rattle.std.specs.Prelude.{◌≡◌, IfOk, IsTrue, OnErr, false, take};
 ghost use Rattle.std.specs.Io.{WritesAtMost};
 ghost use Rattle.std.specs.Io.KnownBytes.{Keeps, WriteAppends};
-ghost use Rattle.th_program.specs.Advice.{Hears, IsSilent, unheard};
+ghost use Rattle.th_program.specs.Advice.{Hears, IsSilent, after, news, text_of, unheard};
+ghost use Rattle.th_program.specs.Run.{IsSaid, errors_of};
 
 use crate::advice::Heard;
 use crate::program::say;
@@ -59,9 +60,23 @@ impl<W, E: Write> Advising<W, E> {
         ensures heard { Hears E.contents self.old self.new replies.now }
     {
         for byte in replies {
-            if let Some(text) = self.heard.hear(*byte) {
-                say(&mut self.errors, text.as_bytes());
-            }
+            self.hear(*byte);
+        }
+    }
+
+    // The same of one byte.
+    fn hear(&mut self, byte: u8)
+        ensures output { self.new.output ≡ self.old.output }
+        ensures people { self.new.to_people ≡ self.old.to_people }
+        ensures heard { self.new.heard ≡ after self.old.heard byte }
+        ensures said { IsSaid
+            (errors_of E.contents self.old.errors)
+            (errors_of E.contents self.new.errors)
+            (text_of (news self.old.heard byte)) }
+        ensures still { self.new.errors.failures ≡ 0 → self.old.errors.failures ≡ 0 }
+    {
+        if let Some(text) = self.heard.hear(byte) {
+            say(&mut self.errors, text.as_bytes());
         }
     }
 }
