@@ -11,7 +11,8 @@ import subprocess
 import sys
 import tempfile
 
-ROOT = os.path.dirname(os.path.dirname(os.path.realpath(__file__)))
+from program import ROOT
+
 CRATES = os.path.join(ROOT, "crates")
 PROGRAMS = os.path.join(ROOT, "bench", "programs")
 TESTS = os.path.join(ROOT, "tests")
@@ -111,13 +112,30 @@ def build(name, folder):
     return program
 
 
+def build_test(suite, module, folder):
+    """Proves and builds a module of a suite, as a program of its tests, over what is proved of the libraries, and returns its path in
+    the folder."""
+    crate = f"test_{module}"
+    with tempfile.TemporaryDirectory(prefix="test-") as room:
+        copy_repository(room, keeps=True)
+        copy_suites(room, crate, [suite], module)
+        subprocess.run(["git", "init", "-q", room], check=True)
+        at = os.path.join(room, "crates", crate)
+        print(f"proving and building the tests of {suite}/{module}, which takes a few minutes", file=sys.stderr, flush=True)
+        how = {"stdin": subprocess.DEVNULL, "stdout": subprocess.PIPE, "stderr": subprocess.STDOUT, "text": True, "errors": "replace"}
+        ran = subprocess.run(["rt", "test"], cwd=at, **how)
+        if ran.returncode:
+            sys.exit(f"the tests of {suite}/{module} are not proved, or fail:\n{ran.stdout[-2_000:]}")
+        return shutil.copy(os.path.join(at, "out", f"{crate}_tests"), folder)
+
+
 def suites():
     """The suites of tests, by their folders' names."""
     return sorted(os.listdir(TESTS))
 
 
-def copy_suites(room, crate, names):
-    """Makes one crate of these suites in a copy of the repository, each a module of it."""
+def copy_suites(room, crate, names, module=None):
+    """Makes one crate of these suites in a copy of the repository, each a module of it; of one of its modules alone, if that is named."""
     source = os.path.join(room, "crates", crate, "src")
     os.makedirs(source)
     for name in names:
@@ -125,7 +143,11 @@ def copy_suites(room, crate, names):
         for at, _, files in os.walk(os.path.join(source, name)):
             for file in files:
                 point_inside(os.path.join(at, file), name)
-        os.replace(os.path.join(source, name, "lib.rt"), os.path.join(source, f"{name}.rt"))
+        top = os.path.join(source, f"{name}.rt")
+        os.replace(os.path.join(source, name, "lib.rt"), top)
+        if module:
+            with open(top, "w", encoding="utf-8") as file:
+                file.write(f"//! One module of the tests.\n\nmod {module};\n")
     with open(os.path.join(source, "lib.rt"), "w", encoding="utf-8") as top:
         top.write("//! All tests.\n#![tactic(auto)]\n\n" + "".join(f"#[cfg(test)]\nmod {name};\n" for name in names))
     uses = libraries()

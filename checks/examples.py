@@ -2,7 +2,7 @@
 import glob
 import os
 
-ROOT = os.path.dirname(os.path.dirname(os.path.abspath(__file__)))
+from program import ROOT
 
 
 def example(number, path):

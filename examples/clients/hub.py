@@ -1,5 +1,7 @@
 """A client of `topichub serve`, on Python's standard library alone."""
+import argparse
 import socket
+import sys
 import time
 
 
@@ -47,3 +49,15 @@ class Hub:
                 if str(refusal) != "ERR 11 no-topic":  # nobody has opened it yet
                     raise
             time.sleep(0.01)
+
+
+def session(doc):
+    """A session with the server whose socket the command line names; `--help` prints the client's own text."""
+    words = argparse.ArgumentParser(description=doc, epilog="exit status: 0 where the session went to its end, else 1; 2 where the words "
+                                    "are wrong")
+    words.add_argument("path", metavar="PATH", help="the socket, as in: topichub serve PATH --sessions 4")
+    path = words.parse_args().path
+    try:
+        return Hub(path)
+    except OSError as fault:
+        sys.exit(f"{path}: {fault.strerror}; does `serve` listen there, with a session left?")

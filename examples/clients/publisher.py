@@ -1,10 +1,8 @@
 #!/usr/bin/env python3
 """Publishes ten news that a slow subscriber is too late for, and two settings that the watcher has to confirm."""
-import sys
+from hub import session
 
-from hub import Hub
-
-hub = Hub(sys.argv[1])
+hub = session(__doc__)
 for line in ("OPEN news B 4", "OPEN settings W volume=3", "OPEN applied B 16",
              "BIND news", "BIND settings", "SUB applied"):
     hub.ask(line)

@@ -1,10 +1,8 @@
 #!/usr/bin/env python3
 """A slow subscriber: it looks only when ten news are there, and the window keeps four of them."""
-import sys
+from hub import session
 
-from hub import Hub
-
-hub = Hub(sys.argv[1])
+hub = session(__doc__)
 hub.until("SUB news", "OK")
 hub.until("LEFT news", "OK 10")  # it has other work to do meanwhile
 while True:

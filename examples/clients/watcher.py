@@ -1,10 +1,8 @@
 #!/usr/bin/env python3
 """Watches settings: gets the newest ones whenever it is told of a change, and says which it has applied."""
-import sys
+from hub import session
 
-from hub import Hub
-
-hub = Hub(sys.argv[1])
+hub = session(__doc__)
 hub.until("BIND applied", "OK")  # the last topic that is opened, so all are there
 hub.ask("SUB settings")
 print("at first:", hub.ask("GET settings"))

@@ -1,0 +1,69 @@
+"""Servers and clients of `topichub serve`, for the scripts that try it."""
+import signal
+import socket
+import subprocess
+import threading
+
+from program import program
+
+
+class Server:
+    """A server of so many sessions. `first` is the first line that it printed: it listens, or has ended without one."""
+
+    def __init__(self, path, sessions, seconds, environment=None):
+        self.path = path
+        # A shell has what it starts in the background ignore SIGINT, and so would all below it.
+        self.process = subprocess.Popen([program(), "serve", path, "--sessions", str(sessions)], stdin=subprocess.DEVNULL,
+                                        stdout=subprocess.PIPE, stderr=subprocess.PIPE, text=True, env=environment,
+                                        preexec_fn=lambda: signal.signal(signal.SIGINT, signal.SIG_DFL))
+        # What has not ended after so many seconds never will, and says no more.
+        self.timer = threading.Timer(seconds, self.process.kill)
+        self.timer.start()
+        self.first = self.process.stdout.readline()
+
+    def __enter__(self):
+        return self
+
+    def __exit__(self, *raised):
+        self.timer.cancel()
+        self.process.kill()
+        self.process.communicate()
+
+    def end(self, patience=None):
+        """The status, and what was printed and told as an error until then."""
+        printed, told = self.process.communicate(timeout=patience)
+        return self.process.returncode, self.first + printed, told
+
+
+class Client:
+    """A session, by what it sends and reads, all of it bytes."""
+
+    def __init__(self, path, patience):
+        self.socket = socket.socket(socket.AF_UNIX)
+        self.socket.settimeout(patience)
+        try:
+            self.socket.connect(path)
+        except OSError:
+            self.socket.close()
+            raise
+        self.replies = self.socket.makefile("rb")
+
+    def send(self, text):
+        self.socket.sendall(text)
+
+    def lines(self, count):
+        """The next lines, as one text."""
+        return b"".join(self.replies.readline() for _ in range(count))
+
+    def ask(self, line, count=1):
+        """The reply to a line, of so many lines."""
+        self.send(line + b"\n")
+        return self.lines(count)
+
+    def rest(self):
+        """What is left until the server closes the connection."""
+        return self.replies.read()
+
+    def close(self):
+        self.replies.close()
+        self.socket.close()
