@@ -1,3 +1,4 @@
 mod CommandLine
 mod Endings
+mod Hearing
 mod Writing

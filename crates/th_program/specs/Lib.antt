@@ -1,3 +1,4 @@
 pub mod Status
 pub mod Words
 pub mod Run
+pub mod Advice

@@ -137,6 +137,9 @@ Refusals:
   22 log-full           the topic's log is full; a TRACE makes room
   23 long-line          more than 4096 bytes
 
+Where standard error is a terminal, a line there says what to do about a
+refusal, the first time that its code is told.
+
 What puzzles at first:
   OPEN t W v answers OK 1: a watch topic keeps one value, and that is its
   capacity in force.

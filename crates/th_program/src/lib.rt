@@ -9,6 +9,8 @@
 //! ```
 #![tactic(auto)]
 
+mod advice;
+mod advising;
 mod end;
 mod help;
 mod modes;
@@ -16,6 +18,7 @@ mod program;
 mod streams;
 mod words;
 
+pub use advising::Advising;
 pub use end::{End, explanation, status};
 pub use modes::{Mode, ModeFault};
 pub use program::{greet, run, run_for, run_not_text, run_short};

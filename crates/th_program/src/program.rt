@@ -38,7 +38,7 @@ fn write_text<W: Write>(writer: &mut Counted<W>, text: &[u8]) -> bool
 }
 
 // Says the text as an error. Where that fails too, the exit status alone tells of it.
-fn say<E: Write>(errors: &mut Counted<E>, text: &[u8])
+pub(crate) fn say<E: Write>(errors: &mut Counted<E>, text: &[u8])
     ensures said { IsSaid
         (errors_of E.contents errors.old)
         (errors_of E.contents errors.new)

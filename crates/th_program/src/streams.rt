@@ -1,6 +1,7 @@
 //! A run of the program on the streams of its process.
 ghost use Rattle.std.specs.Prelude.{◌≡◌, IfOk, map, string_bytes};
 
+use crate::advising::Advising;
 use crate::end::status;
 use crate::program::{greet, run_for, run_not_text, run_short};
 use std::alloc::{AllocError, Global};
@@ -67,13 +68,18 @@ pub fn run_on_streams(rt: &HostRuntime, given: Result<&[String], WordsFault>) ->
     let stdin = rt.stdin();
     let at_terminal = stdin.is_terminal();
     let mut input = Counted::new(stdin);
-    let mut output = Counted::new(rt.stdout());
     let stderr = rt.stderr();
     let people = stderr.is_terminal();
+    let replays = match &words {
+        Ok(words) => is_replay(words.as_slice()),
+        Err(_) => false,
+    };
+    let replies = Advising::new(rt.stdout(), rt.stderr(), people && replays);
+    let mut output = Counted::new(replies);
     let mut errors = Counted::new(stderr);
     let end = match &words {
         Ok(words) => {
-            greet(&mut errors, at_terminal && is_replay(words.as_slice()));
+            greet(&mut errors, at_terminal && replays);
             run_for(
                 alloc,
                 words.as_slice(),
