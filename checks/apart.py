@@ -146,6 +146,8 @@ def copy_suites(room, crate, names, module=None):
         top = os.path.join(source, f"{name}.rt")
         os.replace(os.path.join(source, name, "lib.rt"), top)
         if module:
+            for other in set(os.listdir(os.path.join(source, name))) - {f"{module}.rt"}:
+                os.remove(os.path.join(source, name, other))
             with open(top, "w", encoding="utf-8") as file:
                 file.write(f"//! One module of the tests.\n\nmod {module};\n")
     with open(os.path.join(source, "lib.rt"), "w", encoding="utf-8") as top:
