@@ -112,13 +112,13 @@ def build(name, folder):
     return program
 
 
-def build_test(suite, module, folder):
-    """Proves and builds a module of a suite, as a program of its tests, over what is proved of the libraries, and returns its path in
-    the folder."""
+def build_test(suite, module, uses, folder):
+    """Proves and builds a module of a suite, as a program of its tests, over what is proved of the libraries that it uses, and returns
+    its path in the folder."""
     crate = f"test_{module}"
     with tempfile.TemporaryDirectory(prefix="test-") as room:
         copy_repository(room, keeps=True)
-        copy_suites(room, crate, [suite], module)
+        copy_suites(room, crate, [suite], module, uses)
         subprocess.run(["git", "init", "-q", room], check=True)
         at = os.path.join(room, "crates", crate)
         print(f"proving and building the tests of {suite}/{module}, which takes a few minutes", file=sys.stderr, flush=True)
@@ -134,8 +134,9 @@ def suites():
     return sorted(os.listdir(TESTS))
 
 
-def copy_suites(room, crate, names, module=None):
-    """Makes one crate of these suites in a copy of the repository, each a module of it; of one of its modules alone, if that is named."""
+def copy_suites(room, crate, names, module=None, uses=None):
+    """Makes one crate of these suites in a copy of the repository, each a module of it; of one of its modules alone, if that is named.
+    It uses these libraries, or all."""
     source = os.path.join(room, "crates", crate, "src")
     os.makedirs(source)
     for name in names:
@@ -152,11 +153,15 @@ def copy_suites(room, crate, names, module=None):
                 file.write(f"//! One module of the tests.\n\nmod {module};\n")
     with open(os.path.join(source, "lib.rt"), "w", encoding="utf-8") as top:
         top.write("//! All tests.\n#![tactic(auto)]\n\n" + "".join(f"#[cfg(test)]\nmod {name};\n" for name in names))
-    uses = libraries()
-    needs = dict.fromkeys([*uses, *sum(uses.values(), [])])
-    is_program = lambda it: os.path.isfile(os.path.join(CRATES, it, "src", "main.rt"))
     with open(os.path.join(room, "crates.txt"), "a", encoding="utf-8") as file:
-        file.write(f"{crate}: {' '.join(it for it in needs if not is_program(it))}\n")
+        file.write(f"{crate}: {' '.join(uses or every_library())}\n")
+
+
+def every_library():
+    """The libraries of the repository, and those of the toolchain that they use."""
+    uses = libraries()
+    is_program = lambda it: os.path.isfile(os.path.join(CRATES, it, "src", "main.rt"))
+    return [it for it in dict.fromkeys([*uses, *sum(uses.values(), [])]) if not is_program(it)]
 
 
 def point_inside(path, name):
