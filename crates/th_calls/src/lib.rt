@@ -3,11 +3,16 @@
 #![tactic(auto)]
 
 pub mod bcast;
+pub mod block;
+pub mod check;
 pub mod glance;
 pub mod lines;
 pub mod log;
 pub mod model;
+pub mod registry;
 pub mod ring;
 pub mod seats;
+pub mod session;
 pub mod shelf;
+pub mod traces;
 pub mod watch;
