@@ -1,0 +1,178 @@
+//! Calls of th_block, at numbers. What they answer is handed on, so that nothing is let go here.
+use std::alloc::Global;
+use std::sync::Wait;
+use th_block::{
+    BReceiver, BSender, Channel, Receives, Resub, RingBroadcast, Shared, Side, WReader, WSender,
+    broadcast, broadcast_at, watch,
+};
+use th_glance::Glance;
+use th_log::{Logged, MakeFault, Receipt, Refused, Segment};
+use th_model::{BCall, Capacity, Edit, Short, TxId, WCall, WReply};
+use th_seats::Share;
+use th_watch::Watch;
+
+type News = RingBroadcast<u64>;
+
+type Light = Watch<u64>;
+
+/// What an event of the broadcast channel is answered.
+pub type BTold = Result<Receipt<News>, Refused<BCall<u64>>>;
+
+/// What an event of the broadcast channel is answered that may make a handle.
+pub type BMade<H> = Result<(Receipt<News>, Option<H>), Refused<BCall<u64>>>;
+
+/// What an event of the watch channel is answered.
+pub type WTold = Result<Receipt<Light>, Refused<WCall<u64>>>;
+
+/// What an event of the watch channel is answered that may make a handle.
+pub type WMade<H> = Result<(Receipt<Light>, Option<H>), Refused<WCall<u64>>>;
+
+pub fn make(
+    alloc: Global,
+    capacity: Capacity,
+) -> (
+    Result<BSender<u64>, MakeFault>,
+    Result<BSender<u64>, MakeFault>,
+    Result<WSender<u64>, MakeFault>,
+) {
+    (
+        broadcast(alloc, capacity, 7, 1),
+        broadcast_at(alloc, capacity, 7, 7, 1),
+        watch(alloc, 7, 7, 1),
+    )
+}
+
+pub fn tell(call: &WCall<u64>, reply: &WReply<u64>) -> (Option<u64>, bool, bool, WCall<u64>) {
+    (
+        Light::made(reply),
+        Light::ends(reply),
+        Light::is_news(call, reply),
+        <Receives as Side<Light>>::last(7),
+    )
+}
+
+pub fn by_sender(rt: &impl Wait, tx: &mut BSender<u64>) -> [BTold; 3] {
+    [tx.send(rt, 7), tx.queued(rt), tx.readers(rt)]
+}
+
+pub fn enter_by_sender(
+    rt: &impl Wait,
+    tx: &mut BSender<u64>,
+) -> ([BMade<BReceiver<u64>>; 2], BMade<BSender<u64>>) {
+    ([tx.subscribe(rt), tx.subscribe_oldest(rt)], tx.clone_tx(rt))
+}
+
+pub fn by_receiver(rt: &impl Wait, rx: &mut BReceiver<u64>) -> ([BTold; 3], Option<BTold>) {
+    ([rx.try_recv(rt), rx.recv(rt), rx.left(rt)], rx.next(rt))
+}
+
+pub fn enter_by_receiver(rt: &impl Wait, rx: &mut BReceiver<u64>) -> BMade<BReceiver<u64>> {
+    rx.resubscribe(rt)
+}
+
+pub fn replace(
+    rt: &impl Wait,
+    shared: &Shared<News>,
+    old: BReceiver<u64>,
+) -> Result<(Receipt<News>, Resub<u64>), (BReceiver<u64>, Refused<BCall<u64>>)> {
+    shared.pair_resub(rt, old)
+}
+
+pub fn by_writer(rt: &impl Wait, tx: &mut WSender<u64>, edit: Edit<u64>) -> [WTold; 5] {
+    [
+        tx.send(rt, 7),
+        tx.replace(rt, 8),
+        tx.edit(rt, edit),
+        tx.is_closed(rt),
+        tx.readers(rt),
+    ]
+}
+
+pub fn enter_by_writer(
+    rt: &impl Wait,
+    tx: &mut WSender<u64>,
+) -> (WMade<WReader<u64>>, WMade<WSender<u64>>) {
+    (tx.subscribe(rt), tx.clone_tx(rt))
+}
+
+pub fn by_reader(rt: &impl Wait, rx: &mut WReader<u64>) -> [WTold; 5] {
+    [
+        rx.borrow(rt),
+        rx.take(rt),
+        rx.has_changed(rt),
+        rx.mark_changed(rt),
+        rx.mark_unchanged(rt),
+    ]
+}
+
+pub fn wait_by_reader(
+    rt: &impl Wait,
+    rx: &mut WReader<u64>,
+) -> ([WTold; 2], Option<WTold>, WMade<WReader<u64>>) {
+    (
+        [rx.try_changed(rt), rx.changed(rt)],
+        rx.next(rt),
+        rx.clone_rx(rt),
+    )
+}
+
+pub fn look(
+    rt: &impl Wait,
+    tx: &mut WSender<u64>,
+    call: &WCall<u64>,
+) -> (Glance, [bool; 2], [u64; 3]) {
+    (
+        tx.glance(),
+        [tx.learn(7), tx.would_wait(rt, call)],
+        [tx.number(), tx.key(), tx.seen()],
+    )
+}
+
+pub fn call_quietly(rt: &impl Wait, tx: &mut WSender<u64>) -> WTold {
+    let call = WCall::Send(TxId(tx.number()), 7);
+    tx.call_quietly(rt, call)
+}
+
+pub fn call_while_ready(
+    rt: &impl Wait,
+    alloc: Global,
+    tx: &mut WSender<u64>,
+) -> Vec<Receipt<Light>> {
+    let call = WCall::Readers(TxId(tx.number()));
+    let mut receipts = Vec::new(alloc);
+    tx.call_while_ready(rt, &call, 7, &mut receipts);
+    receipts
+}
+
+pub fn spend(
+    rt: &impl Wait,
+    tx: WSender<u64>,
+) -> Result<Share, (WSender<u64>, Refused<WCall<u64>>)> {
+    tx.spend(rt)
+}
+
+pub fn spend_told(
+    rt: &impl Wait,
+    tx: WSender<u64>,
+) -> Result<(Share, Receipt<Light>), (WSender<u64>, Refused<WCall<u64>>)> {
+    tx.spend_told(rt)
+}
+
+pub fn release(tx: WSender<u64>) -> (Result<Shared<Light>, Short<()>>, Share) {
+    (tx.shared(), tx.release())
+}
+
+pub fn keep(
+    rt: &impl Wait,
+    shared: &Shared<Light>,
+) -> (
+    Result<Shared<Light>, Short<()>>,
+    Result<Segment<Light>, Short<()>>,
+) {
+    shared.wake(rt);
+    (shared.another(), shared.cut(rt))
+}
+
+pub fn finish(shared: Shared<Light>) -> Result<Logged<Light>, Shared<Light>> {
+    shared.finish()
+}

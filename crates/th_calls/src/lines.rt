@@ -1,0 +1,104 @@
+//! Calls of th_lines. Its readers and writers are files.
+use std::alloc::{AllocError, Global};
+use std::fs::File;
+use th_lines::fields::{cut, number, number_and_rest, value};
+use th_lines::{
+    Counted, Intake, Lines, Reply, ValueWord, WriteBuffer, laws, name_and_rest, print_line,
+    print_reply, read_command, read_step,
+};
+use th_model::Value;
+
+pub fn law() {
+    laws::one_spelling();
+    laws::one_spelling_of_steps();
+    laws::one_spelling_of_numbers();
+    laws::line_rules();
+}
+
+pub fn count(device: File) -> File {
+    Counted::new(device).into_device()
+}
+
+pub fn look_at_counts(counted: &Counted<File>) -> (u64, u64) {
+    let _ = counted.device();
+    (counted.calls(), counted.failures())
+}
+
+pub fn read(reader: &mut Counted<File>, bytes: &mut [u8]) {
+    let _ = reader.read_some(bytes);
+}
+
+pub fn write(writer: &mut Counted<File>, bytes: &[u8]) {
+    if !bytes.is_empty() {
+        let _ = writer.write_some(bytes, true);
+    }
+    let _ = writer.flush(true);
+}
+
+pub fn fields(alloc: Global, bytes: &[u8]) {
+    let _ = cut(bytes);
+    let _ = number(bytes);
+    let _ = number_and_rest(bytes);
+    let _ = name_and_rest(bytes);
+    let _ = value(alloc, bytes);
+}
+
+pub fn commands(alloc: Global, line: &[u8]) {
+    let _ = read_command(alloc, line);
+    let _ = read_step(alloc, line);
+}
+
+pub fn take_in(alloc: Global, intake: &mut Intake, reader: &mut Counted<File>) -> (usize, bool) {
+    let _ = Intake::new(alloc);
+    if !intake.next_line() {
+        let _ = intake.fill(reader);
+    }
+    let _ = intake.line(true);
+    (intake.repeats(7), intake.is_empty())
+}
+
+pub fn end_intake(intake: &mut Intake) {
+    if !intake.next_line() {
+        let _ = intake.last_line();
+    }
+}
+
+pub fn print(reply: &Reply, number: usize, out: &mut Vec<u8>) {
+    let _ = print_reply(reply, out);
+    if number < reply.line_count() {
+        let _ = print_line(reply, number, out);
+    }
+}
+
+/// No lines.
+#[derive(Drop)]
+pub struct Nothing;
+
+impl Lines for Nothing {
+    ghost use Rattle.std.specs.Prelude.{[]};
+
+    ghost to_come = { λ _. [] };
+
+    fn print_next(&mut self, _out: &mut Vec<u8>) -> Result<bool, AllocError> {
+        Ok(false)
+    }
+}
+
+pub fn print_next(lines: &mut Nothing, out: &mut Vec<u8>) {
+    let _ = lines.print_next(out);
+}
+
+pub fn wait(buffer: &mut WriteBuffer, writer: &mut Counted<File>, reply: &Reply, value: &Value) {
+    let _ = buffer.append(writer, reply);
+    let _ = buffer.append_value(writer, ValueWord::Was, value);
+}
+
+pub fn wait_for_lines(buffer: &mut WriteBuffer, writer: &mut Counted<File>) {
+    let _ = buffer.append_lines(writer, &mut Nothing);
+}
+
+pub fn write_out(alloc: Global, buffer: &mut WriteBuffer, writer: &mut Counted<File>) -> bool {
+    let _ = WriteBuffer::new(alloc);
+    let _ = buffer.flush(writer);
+    buffer.has_room()
+}

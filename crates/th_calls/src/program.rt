@@ -1,0 +1,44 @@
+//! Calls of th_program. Its readers and writers are files.
+use std::alloc::Global;
+use std::fs::File;
+use std::process::ExitCode;
+use th_lines::Counted;
+use th_program::{
+    Advising, End, explanation, given_words, greet, mode, run, run_for, run_not_text,
+    run_on_streams, run_short, status, texts,
+};
+
+pub fn say(errors: &mut Counted<File>) {
+    let _ = run_short(errors);
+    let _ = run_not_text(errors);
+    greet(errors, true);
+}
+
+pub fn advise(output: File, errors: File) -> Advising<File, File> {
+    Advising::new(output, errors, true)
+}
+
+pub fn run_with(
+    alloc: Global,
+    words: &[&str],
+    input: &mut Counted<File>,
+    output: &mut Counted<File>,
+    errors: &mut Counted<File>,
+) {
+    let _ = run(alloc, words, input, output, errors);
+    let _ = run_for(alloc, words, input, output, errors, true);
+}
+
+pub fn read_words(rt: &HostRuntime, alloc: Global, words: &[&str], given: &[String]) {
+    let _ = mode(alloc, words);
+    let _ = given_words(rt);
+    let _ = texts(alloc, given);
+}
+
+pub fn run_main(rt: &HostRuntime, given: &[String]) -> ExitCode {
+    run_on_streams(rt, Ok(given))
+}
+
+pub fn tell(end: &End) -> (u8, Option<&'static str>) {
+    (status(end), explanation(end))
+}

@@ -1,0 +1,164 @@
+//! Calls of th_registry, at a desk of one thread. What they answer is handed on, so that nothing is let go here.
+use indexmap::IndexMap;
+use std::alloc::Global;
+use th_log::{MakeFault, Receipt, Segment};
+use th_model::{
+    BCall, Kind, Listing, Making, Name, NameRef, Question, ReceiverVerb, RxId, SenderVerb, Short,
+    Start, TxId, Value, WCall,
+};
+use th_registry::calls::{
+    answers, broadcast_asked, broadcast_by_receiver, broadcast_by_sender, receives, sends, starts,
+    watch_asked, watch_by_receiver, watch_by_sender,
+};
+use th_registry::channel::{LocalChannel, TopicReceipt, TopicSegment};
+use th_registry::recorded::Recorded;
+use th_registry::topics::list;
+use th_registry::{
+    BadLimit, ChannelReply, Desk, Found, LocalDesk, Made, NoEvent, Refusal, TopicId, Unspent, laws,
+};
+use th_watch::Watch;
+
+pub fn law() {
+    laws::queries_are_seen();
+    laws::handles_live_until_spent();
+    laws::histories_are_legal();
+}
+
+pub fn call_by_sender(
+    one: SenderVerb,
+    other: SenderVerb,
+    question: Question,
+    tx: TxId,
+) -> ([Option<BCall<Value>>; 2], [Option<WCall<Value>>; 2]) {
+    (
+        [broadcast_by_sender(one, tx), broadcast_asked(question, tx)],
+        [watch_by_sender(other, tx), watch_asked(question, tx)],
+    )
+}
+
+pub fn call_by_receiver(
+    verb: ReceiverVerb,
+    rx: RxId,
+) -> (Option<BCall<Value>>, Option<WCall<Value>>) {
+    (broadcast_by_receiver(verb, rx), watch_by_receiver(verb, rx))
+}
+
+pub fn has_call(
+    kind: Kind,
+    verb: &SenderVerb,
+    question: Question,
+    read: ReceiverVerb,
+) -> [bool; 4] {
+    [
+        starts(kind, Start::Tail),
+        sends(kind, verb),
+        answers(kind, question),
+        receives(kind, read),
+    ]
+}
+
+pub fn record(
+    log: &mut Recorded<Watch<u64>>,
+    call: WCall<u64>,
+) -> Option<Result<Receipt<Watch<u64>>, NoEvent>> {
+    if !log.object().ready(&call) {
+        return None;
+    }
+    Some(log.record(call))
+}
+
+pub fn cut(log: &mut Recorded<Watch<u64>>) -> Result<Segment<Watch<u64>>, Short<()>> {
+    log.cut()
+}
+
+pub fn make(
+    alloc: Global,
+    light: Watch<u64>,
+) -> (
+    Result<Recorded<Watch<u64>>, MakeFault>,
+    LocalDesk,
+    Result<LocalDesk, BadLimit>,
+) {
+    (
+        Recorded::new(alloc, light, 7, 1),
+        LocalDesk::new(alloc),
+        LocalDesk::with_limit(alloc, 7),
+    )
+}
+
+pub fn look(
+    channel: &LocalChannel,
+    topics: &IndexMap<Name, LocalChannel>,
+) -> (Kind, Result<Listing, Short<()>>) {
+    (channel.kind(), list(topics))
+}
+
+pub fn open(
+    desk: &mut LocalDesk,
+    name: &NameRef<'_>,
+    other: NameRef<'_>,
+    making: Making,
+) -> (
+    Option<Found>,
+    Result<Listing, Short<()>>,
+    Result<u64, Refusal>,
+) {
+    (desk.find(name), desk.list(), desk.open_topic(other, making))
+}
+
+pub fn enter(
+    desk: &mut LocalDesk,
+    topic: TopicId,
+    rx: &mut RxId,
+) -> (
+    Result<Made<TxId>, NoEvent>,
+    [Result<Made<RxId>, NoEvent>; 2],
+) {
+    (
+        desk.bind(topic),
+        [
+            desk.subscribe(topic, Start::Oldest, &mut None),
+            desk.resubscribe(topic, rx),
+        ],
+    )
+}
+
+pub fn act(
+    desk: &mut LocalDesk,
+    topic: TopicId,
+    tx: &mut TxId,
+    rx: &mut RxId,
+    verb: SenderVerb,
+) -> [Result<TopicReceipt, NoEvent>; 3] {
+    [
+        desk.by_sender(topic, tx, verb),
+        desk.ask(topic, &mut None, Question::Readers),
+        desk.by_receiver(topic, rx, ReceiverVerb::Recv),
+    ]
+}
+
+pub fn leave(
+    desk: &mut LocalDesk,
+    topic: TopicId,
+    tx: TxId,
+    rx: RxId,
+) -> (
+    Result<ChannelReply, Unspent<TxId>>,
+    Result<ChannelReply, Unspent<RxId>>,
+    Result<ChannelReply, NoEvent>,
+) {
+    (
+        desk.spend_sender(topic, tx),
+        desk.spend_receiver(topic, rx),
+        desk.end(topic),
+    )
+}
+
+pub fn keep(
+    desk: &mut LocalDesk,
+    topic: TopicId,
+    rx: &mut RxId,
+) -> (Result<TopicSegment, NoEvent>, usize) {
+    desk.wake();
+    (desk.cut(topic), desk.ready(topic, rx, 7))
+}

@@ -1,0 +1,85 @@
+//! Calls of th_session, at a desk of one thread. Its reader and writer are files.
+use std::alloc::Global;
+use std::fs::File;
+use std::time::Clock;
+use th_lines::{Command, Counted, WriteBuffer};
+use th_registry::channel::{TopicReceipt, TopicSegment};
+use th_registry::{LocalDesk, TopicId};
+use th_session::{
+    Answer, Gate, Keeping, OpenGate, Session, SessionFault, laws, local, run_session,
+};
+
+pub fn law() {
+    laws::runs_are_seen();
+    laws::refusals_have_one_order();
+}
+
+pub fn act(
+    session: &mut Session<LocalDesk>,
+    desk: &mut LocalDesk,
+    one: Command<'_>,
+    other: Command<'_>,
+) -> [Answer; 2] {
+    session.spend_all(desk);
+    [session.step(desk, one), local::step(session, desk, other)]
+}
+
+pub fn answer(
+    alloc: Global,
+    session: &mut Session<LocalDesk>,
+    desk: &mut LocalDesk,
+    line: &[u8],
+    out: &mut WriteBuffer,
+    writer: &mut Counted<File>,
+) {
+    let _ = session.answer(alloc, desk, line, out, writer);
+}
+
+pub fn put_answer(
+    session: &Session<LocalDesk>,
+    answer: Answer,
+    out: &mut WriteBuffer,
+    writer: &mut Counted<File>,
+) {
+    let _ = session.put_answer(answer, out, writer);
+}
+
+pub fn look(session: &Session<LocalDesk>) -> usize {
+    let _ = session.last_receipt();
+    let _ = session.last_segment();
+    session.receipts().len().max(session.segments().len())
+}
+
+pub fn make(alloc: Global) -> Session<LocalDesk> {
+    Session::new(alloc)
+}
+
+pub fn take_apart(
+    session: Session<LocalDesk>,
+) -> (Vec<(TopicId, TopicReceipt)>, Vec<(TopicId, TopicSegment)>) {
+    session.parts()
+}
+
+pub fn ask_gate(gate: &OpenGate) -> bool {
+    gate.answered(1, 7);
+    gate.may(1, 8)
+}
+
+pub fn run<C: Clock>(
+    rt: &C,
+    alloc: Global,
+    reader: &mut Counted<File>,
+    writer: &mut Counted<File>,
+    desk: &mut LocalDesk,
+) -> (Session<LocalDesk>, Option<SessionFault>) {
+    run_session(
+        rt,
+        alloc,
+        reader,
+        writer,
+        desk,
+        &OpenGate,
+        1,
+        Keeping::Nothing,
+    )
+}
