@@ -127,7 +127,9 @@ stage_documents() {
     for file in "$root"/examples/*.* "$root/examples/draw"; do
         put_as_is "$file" "$1/examples"
     done
-    for file in "$root"/examples/clients/*; do
-        [ ! -f "$file" ] || put_as_is "$file" "$1/examples/clients"
+    for kind in clients drawing; do
+        for file in "$root/examples/$kind"/*; do
+            [ ! -f "$file" ] || put_as_is "$file" "$1/examples/$kind"
+        done
     done
 }
