@@ -1,4 +1,4 @@
-"""What stands apart from the crates that `rt ci` proves: the suites of tests, and the programs that bench/ times.
+"""What stands apart from the crates that `rt ci` proves: the suites of tests and their programs, and the programs that bench/ times.
 
 `rt ci` proves each crate that crates.txt lists, and refuses any other .rt file of the repository. So the files of what stands apart
 end in `.in`, and become crates in a copy of the repository: a suite a module of the one crate of all tests, a program a crate of
@@ -112,31 +112,26 @@ def build(name, folder):
     return program
 
 
-def build_test(suite, module, uses, folder):
-    """Proves and builds a module of a suite, as a program of its tests, over what is proved of the libraries that it uses, and returns
-    its path in the folder."""
-    crate = f"test_{module}"
-    with tempfile.TemporaryDirectory(prefix="test-") as room:
-        copy_repository(room, keeps=True)
-        copy_suites(room, crate, [suite], module, uses)
-        subprocess.run(["git", "init", "-q", room], check=True)
-        at = os.path.join(room, "crates", crate)
-        print(f"proving and building the tests of {suite}/{module}, which takes a few minutes", file=sys.stderr, flush=True)
-        how = {"stdin": subprocess.DEVNULL, "stdout": subprocess.PIPE, "stderr": subprocess.STDOUT, "text": True, "errors": "replace"}
-        ran = subprocess.run(["rt", "test"], cwd=at, **how)
-        if ran.returncode:
-            sys.exit(f"the tests of {suite}/{module} are not proved, or fail:\n{ran.stdout[-2_000:]}")
-        return shutil.copy(os.path.join(at, "out", f"{crate}_tests"), folder)
-
-
 def suites():
     """The suites of tests, by their folders' names."""
-    return sorted(os.listdir(TESTS))
+    return sorted(name for name in os.listdir(TESTS) if os.path.isfile(os.path.join(TESTS, name, "lib.rt" + ENDING)))
 
 
-def copy_suites(room, crate, names, module=None, uses=None):
-    """Makes one crate of these suites in a copy of the repository, each a module of it; of one of its modules alone, if that is named.
-    It uses these libraries, or all."""
+def copy_test_program(room, name, modules):
+    """Makes a crate of tests/programs/NAME in a copy of the repository, with these modules out of suites, and returns its folder."""
+    crate = os.path.join(room, "crates", name)
+    copy_folder(os.path.join(TESTS, "programs", name), os.path.join(crate, "src"))
+    for module in modules:
+        shutil.copy(os.path.join(TESTS, module + ".rt" + ENDING), os.path.join(crate, "src", os.path.basename(module) + ".rt"))
+    uses = os.path.join(crate, "src", "uses")
+    with open(uses, encoding="utf-8") as file, open(os.path.join(room, "crates.txt"), "a", encoding="utf-8") as lines:
+        lines.write(f"{name}: {file.read()}")
+    os.remove(uses)
+    return crate
+
+
+def copy_suites(room, crate, names):
+    """Makes one crate of these suites in a copy of the repository, each a module of it."""
     source = os.path.join(room, "crates", crate, "src")
     os.makedirs(source)
     for name in names:
@@ -144,17 +139,11 @@ def copy_suites(room, crate, names, module=None, uses=None):
         for at, _, files in os.walk(os.path.join(source, name)):
             for file in files:
                 point_inside(os.path.join(at, file), name)
-        top = os.path.join(source, f"{name}.rt")
-        os.replace(os.path.join(source, name, "lib.rt"), top)
-        if module:
-            for other in set(os.listdir(os.path.join(source, name))) - {f"{module}.rt"}:
-                os.remove(os.path.join(source, name, other))
-            with open(top, "w", encoding="utf-8") as file:
-                file.write(f"//! One module of the tests.\n\nmod {module};\n")
+        os.replace(os.path.join(source, name, "lib.rt"), os.path.join(source, f"{name}.rt"))
     with open(os.path.join(source, "lib.rt"), "w", encoding="utf-8") as top:
         top.write("//! All tests.\n#![tactic(auto)]\n\n" + "".join(f"#[cfg(test)]\nmod {name};\n" for name in names))
     with open(os.path.join(room, "crates.txt"), "a", encoding="utf-8") as file:
-        file.write(f"{crate}: {' '.join(uses or every_library())}\n")
+        file.write(f"{crate}: {' '.join(every_library())}\n")
 
 
 def every_library():
