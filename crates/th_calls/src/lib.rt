@@ -1,5 +1,6 @@
-//! Each public function of the library crates is called here once, at concrete types. It is proved, so what each function
-//! requires can be met. Nothing here runs: the tests run the functions. A module is named for the crate that it calls.
+//! Each public function of the library crates is called here once, at concrete types; those of th_shared and th_server in
+//! th_serve_calls. It is proved, so what each function requires can be met. Nothing here runs: the tests run the functions. A
+//! module is named for the crate that it calls.
 #![tactic(auto)]
 
 pub mod bcast;
@@ -14,9 +15,7 @@ pub mod registry;
 pub mod replay;
 pub mod ring;
 pub mod seats;
-pub mod server;
 pub mod session;
-pub mod shared;
 pub mod shelf;
 pub mod traces;
 pub mod watch;
