@@ -3,8 +3,7 @@
 //!
 //! A broadcast topic keeps its newest values in a `VecDeque`, each with the number of receivers that have still to read
 //! it. A watch topic keeps its newest value and its version. Each topic keeps a log of its calls and their replies, and
-//! each actor what it holds on each topic and a receipt of each reply; the schedules of the bench have no `TRACE`, so
-//! nothing prints them here.
+//! each actor what it holds on each topic; the schedules of the bench have no `TRACE`, so nothing prints the log here.
 
 #[path = "plain/commands.rs"]
 mod commands;
@@ -30,7 +29,7 @@ use std::io::{self, BufWriter, Read, Write};
 use std::process::ExitCode;
 use std::rc::Rc;
 
-/// The bytes of a value stand in memory once, for the channel, the log, the receipts and the reply.
+/// The bytes of a value stand in memory once, for the channel, the log and the reply.
 pub type Value = Rc<[u8]>;
 
 /// How many bytes of replies wait at the most before they are written.
@@ -130,7 +129,7 @@ impl Topics {
             name: name.into(),
             kind: channel.kind(),
         });
-        self.list.push(Topic::open(number as u64, channel));
+        self.list.push(Topic::open(channel));
         Ok(Reply::Opened(told))
     }
 

@@ -90,7 +90,7 @@ impl Topics {
             kind: channel.kind(),
         });
         let room = Room {
-            topic: Topic::open(number as u64, channel),
+            topic: Topic::open(channel),
             awaited: None,
         };
         self.list.push(Box::leak(Box::new(Shared {

@@ -1,6 +1,6 @@
 //! Lines are cut from what is read.
 
-use std::io::{self, Read};
+use std::io::{self, BufRead, Read};
 use std::mem;
 use std::ops::Range;
 
@@ -15,6 +15,13 @@ pub struct Lines<R> {
     held: Range<usize>,
     /// The line that the held bytes go on with was too long already, and its beginning is let go.
     is_long: bool,
+}
+
+/// Where the first LF stands, found a machine word at a time.
+fn line_feed(bytes: &[u8]) -> Option<usize> {
+    let mut rest = bytes;
+    let passed = rest.skip_until(b'\n').ok()?;
+    (passed > 0 && bytes[passed - 1] == b'\n').then(|| passed - 1)
 }
 
 /// A line as it was cut, or `None` where it was too long.
@@ -33,7 +40,7 @@ impl<R: Read> Lines<R> {
     /// The next line of those whose end was read.
     pub fn next(&mut self) -> Option<Line<'_>> {
         let held = &self.buffer[self.held.clone()];
-        let line = &held[..held.iter().position(|&b| b == b'\n')?];
+        let line = &held[..line_feed(held)?];
         self.held.start += line.len() + 1;
         let is_long = mem::take(&mut self.is_long) || line.len() > LINE_LIMIT;
         Some((!is_long).then(|| line.strip_suffix(b"\r").unwrap_or(line)))

@@ -1,4 +1,4 @@
-//! What was asked of a topic and what it answered, in order; and what each actor was told.
+//! What was asked of a topic and what it answered, in order.
 
 // The schedules of the bench have no `TRACE`, so nothing reads a log.
 #![allow(dead_code)]
@@ -69,14 +69,6 @@ struct Entry {
     told: Told,
 }
 
-/// What an actor was told of one event of its own.
-pub struct Receipt {
-    key: u64,
-    place: u64,
-    call: Call,
-    told: Told,
-}
-
 /// A handle with the number of its events.
 pub struct Handle {
     pub number: u32,
@@ -85,15 +77,13 @@ pub struct Handle {
 
 /// The events of a topic.
 pub struct Log {
-    key: u64,
     entries: Vec<Entry>,
     next: u32,
 }
 
 impl Log {
-    pub fn new(key: u64) -> Log {
+    pub fn new() -> Log {
         Log {
-            key,
             entries: Vec::new(),
             next: 1,
         }
@@ -118,7 +108,7 @@ impl Log {
         self.entries.len() as u64 + 1 + live > ENTRIES_LIMIT
     }
 
-    /// An event that its actor gets no receipt of.
+    /// The last event of a handle.
     pub fn spend(&mut self, handle: Handle, asked: Asked) -> &Told {
         let call = Call {
             by: handle.number,
@@ -132,7 +122,6 @@ impl Log {
     pub fn event(
         &mut self,
         handle: &mut Handle,
-        diary: &mut Vec<Receipt>,
         asked: Asked,
         value: Option<Value>,
         told: Told,
@@ -143,12 +132,6 @@ impl Log {
             asked,
             value,
         };
-        diary.push(Receipt {
-            key: self.key,
-            place: self.entries.len() as u64,
-            call: call.clone(),
-            told: told.clone(),
-        });
         self.enter(call, told)
     }
 

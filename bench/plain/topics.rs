@@ -2,7 +2,7 @@
 
 use crate::Value;
 use crate::commands::{Any, Change, Look, Making, Receive, Verb};
-use crate::log::{Asked, Handle, Log, Receipt, Told};
+use crate::log::{Asked, Handle, Log, Told};
 use crate::replies::{Outcome, Refusal, Reply};
 use std::collections::VecDeque;
 use std::mem;
@@ -78,8 +78,8 @@ impl Topic {
         (far, self.senders.live() == 0)
     }
 
-    pub fn open(key: u64, channel: Channel) -> Topic {
-        let mut log = Log::new(key);
+    pub fn open(channel: Channel) -> Topic {
+        let mut log = Log::new();
         Topic {
             senders: Senders {
                 hub: Some(log.handle()),
@@ -295,12 +295,11 @@ pub struct Receiver {
     place: u64,
 }
 
-/// What an actor holds on a topic, and what it was told there.
+/// What an actor holds on a topic.
 #[derive(Default)]
 pub struct Seat {
     sender: Option<Handle>,
     receiver: Option<Receiver>,
-    diary: Vec<Receipt>,
 }
 
 /// Carries out what is asked of a topic by an actor that holds so much on it.
@@ -333,7 +332,6 @@ pub fn on_topic<'a>(topic: &'a mut Topic, seat: &mut Seat, verb: Verb<'_>) -> Ou
             let (asked, told) = watch.write(change, value.clone());
             Ok(Reply::Told(topic.log.event(
                 sender,
-                &mut seat.diary,
                 asked,
                 Some(value),
                 told,
@@ -373,16 +371,11 @@ fn on_receive<'a>(topic: &'a mut Topic, seat: &mut Seat, receive: Receive) -> Ou
         broadcast.leave(old);
         let new = topic.log.handle();
         let mut old = mem::replace(&mut receiver.handle, new);
-        topic
-            .log
-            .event(&mut old, &mut seat.diary, asked, None, told);
+        topic.log.event(&mut old, asked, None, told);
         return Ok(Reply::Told(topic.log.spend(old, Asked::DropReceiver)));
     }
     let handle = &mut receiver.handle;
-    let diary = &mut seat.diary;
-    Ok(Reply::Told(
-        topic.log.event(handle, diary, asked, None, told),
-    ))
+    Ok(Reply::Told(topic.log.event(handle, asked, None, told)))
 }
 
 fn on_look<'a>(topic: &'a mut Topic, seat: &mut Seat, look: Look) -> Outcome<'a> {
@@ -400,10 +393,7 @@ fn on_look<'a>(topic: &'a mut Topic, seat: &mut Seat, look: Look) -> Outcome<'a>
     topic.room(0)?;
     let (asked, told) = watch.look(&mut receiver.place, is_closed, look);
     let handle = &mut receiver.handle;
-    let diary = &mut seat.diary;
-    Ok(Reply::Told(
-        topic.log.event(handle, diary, asked, None, told),
-    ))
+    Ok(Reply::Told(topic.log.event(handle, asked, None, told)))
 }
 
 /// A new receiver, made through any sender.
@@ -423,10 +413,7 @@ fn subscribe<'a>(topic: &'a mut Topic, seat: &mut Seat, asked: Asked) -> Outcome
     seat.receiver = Some(Receiver { handle, place });
     topic.receivers += 1;
     let sender = topic.senders.any(&mut seat.sender)?;
-    let diary = &mut seat.diary;
-    Ok(Reply::Told(
-        topic.log.event(sender, diary, asked, None, told),
-    ))
+    Ok(Reply::Told(topic.log.event(sender, asked, None, told)))
 }
 
 /// How many there are, asked through any sender.
@@ -434,10 +421,8 @@ fn count<'a>(topic: &'a mut Topic, seat: &mut Seat, asked: Asked, count: u64) ->
     topic.senders.any(&mut seat.sender)?;
     topic.room(0)?;
     let sender = topic.senders.any(&mut seat.sender)?;
-    let diary = &mut seat.diary;
     Ok(Reply::Told(topic.log.event(
         sender,
-        diary,
         asked,
         None,
         Told::Count(count),
@@ -457,11 +442,9 @@ fn publish<'a>(topic: &'a mut Topic, seat: &mut Seat, value: &[u8]) -> Outcome<'
             Told::Done
         }
     };
-    let diary = &mut seat.diary;
     let log = &mut topic.log;
     Ok(Reply::Told(log.event(
         sender,
-        diary,
         Asked::Send,
         Some(value),
         told,
@@ -479,15 +462,8 @@ fn on_any<'a>(topic: &'a mut Topic, seat: &mut Seat, any: Any<'_>) -> Outcome<'a
             seat.sender = Some(sender);
             topic.senders.bound += 1;
             let hub = topic.senders.hub.as_mut().ok_or(Refusal::Closed)?;
-            let diary = &mut seat.diary;
             let log = &mut topic.log;
-            Ok(Reply::Told(log.event(
-                hub,
-                diary,
-                Asked::CloneSender,
-                None,
-                told,
-            )))
+            Ok(Reply::Told(log.event(hub, Asked::CloneSender, None, told)))
         }
         Any::Unbind => {
             let sender = seat.sender.take().ok_or(Refusal::NotHeld)?;

@@ -1,6 +1,5 @@
--- What the channel says of what its shelf found, and which sender comes next where all are gone through.
-use Rattle.std.specs.Prelude.{ℕ, nat_lt, List, Option, Some, None}
-use Rattle.std.specs.List.{filter}
+-- What the channel says of what its shelf found.
+use Rattle.std.specs.Prelude.{ℕ, List, None}
 use Rattle.th_model.specs.declared.broadcast.BReply.{BReply}
 use Rattle.th_model.specs.declared.broadcast.BReply.TheVariants as replies
 use Rattle.th_model.specs.BroadcastMachine.{end_reply}
@@ -13,8 +12,3 @@ reply_to senders Nobody = replies.NoHandle None
 reply_to senders Nothing = end_reply senders
 reply_to senders (Missed n) = replies.Lagged n
 reply_to senders (Value v) = replies.Value v
-
--- the numbers above this one, or all
-abbrev pub above : Option ℕ → List ℕ → List ℕ
-above None numbers = numbers
-above (Some number) numbers = filter (λ k. nat_lt number k) numbers

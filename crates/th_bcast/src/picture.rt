@@ -1,20 +1,17 @@
 //! A channel's picture: it is taken of a channel, a channel is made from it, and each part of it is
 //! read from the channel.
-ghost use Rattle.std.specs.Prelude.{◌≡◌, length, slice_get, IfOk, IfErr};
+ghost use Rattle.std.specs.Prelude.{◌≡◌, length, IfOk, IfErr};
 ghost use Rattle.th_model.specs.Handles.{is_sender};
 ghost use Rattle.th_model.specs.Limits.{ClonesAreEqual};
-ghost use Rattle.std.specs.Option.{option_copied, option_map};
+ghost use Rattle.std.specs.Option.{option_copied};
 ghost use Rattle.th_model.specs.Places.{place_of};
 ghost use Rattle.th_model.specs.Window.{value_at};
 ghost use Rattle.th_model.specs.BroadcastPicture.{IsSound};
-ghost use Rattle.th_shelf.specs.Receiving as receivers;
-ghost use Rattle.th_bcast.specs.Telling as senders;
 
 use crate::broadcast::Broadcast;
 use crate::parts::PictureParts;
 use std::alloc::Global;
 use std::marker::PhantomData;
-use std::ops::Bound;
 use th_model::{RxId, Short, TxId, copy_numbers};
 use th_shelf::{Shelf, copy_window};
 
@@ -104,14 +101,6 @@ impl<T: Clone, S: Shelf<T> + Drop> Broadcast<T, S> {
         self.shelf.place(rx)
     }
 
-    /// The receiver with the lowest number above `after`, or of all, and its place.
-    pub fn next_receiver(&self, after: Option<RxId>) -> Option<(RxId, u64)>
-        ensures { option_map (λ r. (r.0.0, r.1)) result
-            ≡ slice_get (receivers.above (option_map (λ rx. rx.0) after) self.now.window.places) 0 }
-    {
-        self.shelf.next_reader(after)
-    }
-
     /// The number of live senders.
     pub fn sender_count(&self) -> u64
         ensures { result ≡ length self.now.senders }
@@ -124,21 +113,6 @@ impl<T: Clone, S: Shelf<T> + Drop> Broadcast<T, S> {
         ensures { result ≡ is_sender self.now.senders tx.0 }
     {
         self.senders.contains(&tx.0)
-    }
-
-    /// The sender with the lowest number above `after`, or of all. Logarithmic in live senders.
-    pub fn next_sender(&self, after: Option<TxId>) -> Option<TxId>
-        ensures { option_map (λ tx. tx.0) result
-            ≡ slice_get (senders.above (option_map (λ tx. tx.0) after) self.now.senders) 0 }
-    {
-        let start = match after {
-            Some(tx) => Bound::Excluded(tx.0),
-            None => Bound::Unbounded,
-        };
-        match self.senders.range((start, Bound::Unbounded)).next() {
-            Some(tx) => Some(TxId(*tx)),
-            None => None,
-        }
     }
 
     /// The number that the next handle gets.

@@ -1,15 +1,22 @@
--- A handle that was live when it made another is live still.
-use Rattle.std.proofs.Common.{◌≡◌, ◌∙◌, ℕ, Option, Some, ap, subst}
+-- A receiver that was live when it made another is live still.
+use Rattle.std.proofs.Common.{◌≡◌, ◌∙◌, ℕ, Bool, true, is_some, Option, Some, ap, subst, sym}
+use Rattle.th_log.specs.CallLaws.{IsLast, StaysBeside}
 use Rattle.th_log.specs.History.{Machine}
 use Rattle.th_log.specs.Outcome.{Told}
 use Rattle.th_block.specs.Locked.{IsSeated, Spends}
-use Rattle.th_block.specs.Pairs.{MakesThenSpends}
 use Rattle.th_block.specs.declared.seat.Seat.{Seat}
 
-pub spendable : {E S C R : Type 0} (m : Machine E S C R) (is_sound : S → Type 0) (made_by : R → Option ℕ) (make last : C) (p q : S) (r : R) (n : ℕ) → MakesThenSpends m is_sound made_by make last → is_sound p → m.answer p make ≡ (r, q) → made_by r ≡ Some n → Spends m q last
-spendable m is_sound made_by make last p q r n spends sound step made =
-    subst (λ x. Spends m x.1 last) step (spends p n sound (ap (λ x. made_by x.0) step ∙ made))
+module _ {E S C R : Type 0} (m : Machine E S C R) (done : R) (is_live : S → Bool) (last call : C) (is : call ≡ last) (ends : IsLast m done is_live last) where
+  -- its last call does not wait
+  pub ready : (p : S) → m.ready p call ≡ true
+  ready p = subst (λ (c : C). m.ready p c ≡ true) (sym is) (ends.ready p)
 
--- the number of a seat beside a receipt
-pub number_of : {C R : Type 0} (made_by : R → Option ℕ) (r : Told C R) (o : Option Seat) (s : Seat) → o ≡ Some s → IsSeated made_by r o → made_by r.reply ≡ Some s.number
-number_of made_by r o s is seated = (subst (λ (x : Option Seat). IsSeated made_by r x) is seated).0
+  -- and spends it, behind the call by which there is this seat
+  pub spendable : (made : R → Option ℕ) (make : C) (maker : Option C) (p q : S) (r : Told C R) (o : Option Seat) (seat : Seat)
+      → maker ≡ Some make → StaysBeside m made is_live maker → m.answer p make ≡ (r.reply, q) → o ≡ Some seat → IsSeated made r o
+      → Spends m q call
+  spendable made make maker p q r o seat makes stays step there seated =
+      let number : made r.reply ≡ Some seat.number = (subst (λ (x : Option Seat). IsSeated made r x) there seated).0 in
+      let told : is_some (made (m.answer p make).0) ≡ true = ap (λ (x : R × S). is_some (made x.0)) step ∙ ap is_some number in
+      let live : is_live (m.answer p make).1 ≡ true = subst (λ (c : Option C). StaysBeside m made is_live c) makes stays p told in
+      subst (λ (c : C). Spends m q c) (sym is) (ends.spends q (subst (λ (x : R × S). is_live x.1 ≡ true) step live))

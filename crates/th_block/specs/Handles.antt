@@ -4,6 +4,8 @@ use mathlib.Core.List.{IsPrefix}
 use Rattle.th_seats.specs.Tally.{Part}
 use Rattle.th_glance.specs.Lists.{glance_of, last_count, IsCounted}
 use Rattle.th_glance.specs.Seats.{Known as Sighted}
+use Rattle.th_model.specs.declared.handles.TxId.{TxId}
+use Rattle.th_model.specs.declared.handles.RxId.{RxId}
 use Rattle.th_log.specs.Outcome.{Told, counted}
 use Rattle.th_log.specs.declared.receipt.Refused.{Refused}
 use Rattle.th_log.specs.declared.receipt.Refused.TheVariants.{Foreign, Short, LogFull}
@@ -17,6 +19,13 @@ pub record Known : Type 0 where
 pub record Holder : Type 0 where
   pub number : ℕ
   pub known : Known
+
+-- its number, as a sender's and as a receiver's
+abbrev pub tx : Holder → TxId
+tx h = record { 0 = h.number }
+
+abbrev pub rx : Holder → RxId
+rx h = record { 0 = h.number }
 
 -- how far a handle has seen the history: the count of its eye's last glance
 abbrev pub seen_of : Known → ℕ

@@ -1,19 +1,10 @@
 -- What became of a handle in whose place another was asked for.
 use Rattle.std.specs.Prelude.{◌≡◌, ℕ, Option, None, Some}
-use Rattle.th_log.specs.History.{Machine}
 use Rattle.th_log.specs.Outcome.{Told, counted}
 use Rattle.th_seats.specs.Tally.{Part}
 use Rattle.th_block.specs.Handles.{Holder, Answered, Beside}
-use Rattle.th_block.specs.Locked.{Spends}
 use Rattle.th_block.specs.declared.replaced.Replaced.{Replaced}
 use Rattle.th_block.specs.declared.replaced.Replaced.TheVariants.{New, Kept}
-
--- where `make` made a handle, `last` would spend one
-abbrev pub MakesThenSpends : {E S C R : Type 0} → Machine E S C R → (S → Type 0)
-    → (R → Option ℕ) → (make last : C) → Type 0
-MakesThenSpends {E} {S} m is_sound made_by make last =
-    (p : S) (n : ℕ) → is_sound p → made_by (m.answer p make).0 ≡ Some n
-    → Spends m (m.answer p make).1 last
 
 -- a share with one event more, or two where a handle was made
 abbrev pub counted_twice : {X : Type 0} → Option X → Part → Part

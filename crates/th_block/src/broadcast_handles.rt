@@ -2,20 +2,19 @@
 ghost use Rattle.std.specs.Prelude.{◌≡◌, ◌↔◌, IfErr, IfOk, OnOk};
 ghost use Rattle.th_log.specs.History.{IsLimit};
 ghost use Rattle.th_model.specs.Limits.{ClonesAreEqual};
-ghost use Rattle.th_block.specs.Handles.{Calls, CallsFor, IsFirst, IsNext, Tells, call_of};
-ghost use Rattle.th_block.specs.Numbers.{rx, tx};
+ghost use Rattle.th_log.specs.Replies.{broadcast_ends, broadcast_made_rx, broadcast_made_tx, made_by};
+ghost use Rattle.th_block.specs.Handles.{Calls, CallsFor, IsFirst, IsNext, Tells, call_of, rx, tx};
 ghost use Rattle.th_block.specs.Pairs.{IsReplaced};
-ghost use Rattle.th_block.specs.Replies.{ends, made_by};
 
-use crate::channel::{Channel, Receives, Sends, Side};
 use crate::handle::{Handle, is_limit, open};
 use crate::replaced::Replaced;
 use crate::shared::Shared;
+use crate::side::{Receives, Sends};
 use std::alloc::Global;
 use std::sync::Wait;
 use th_bcast::Broadcast;
 use th_log::{MakeFault, Receipt, Refused};
-use th_model::{BCall, BReply, Capacity, RxId, TxId};
+use th_model::{BCall, Capacity, RxId, TxId};
 use th_ring::RingShelf;
 
 /// The channel under the lock, over the ring.
@@ -29,55 +28,6 @@ pub type BReceiver<T> = Handle<RingBroadcast<T>, Receives>;
 
 /// What became of a receiver that asked to begin anew.
 pub type Resub<T> = Replaced<RingBroadcast<T>, Receives>;
-
-impl<T: Clone + Drop> Channel for Broadcast<T, RingShelf<T>> {
-    ghost use Rattle.th_block.specs.Replies.{ends, made_by};
-
-    ghost made_by = { made_by };
-
-    ghost ends = { ends };
-
-    fn made(reply: &BReply<T>) -> Option<u64> {
-        match reply {
-            BReply::NewRx(rx) => Some(rx.0),
-            BReply::NewTx(tx) => Some(tx.0),
-            _ => None,
-        }
-    }
-
-    fn ends(reply: &BReply<T>) -> bool {
-        matches!(reply, BReply::Closed | BReply::NoHandle(_))
-    }
-
-    // A receiver waits for a value.
-    fn is_news(_call: &BCall<T>, reply: &BReply<T>) -> bool {
-        matches!(reply, BReply::Sent(_))
-    }
-}
-
-impl<T: Clone + Drop> Side<Broadcast<T, RingShelf<T>>> for Sends {
-    ghost use Rattle.th_block.specs.Numbers.{by_sender, last_of_sender};
-
-    ghost caller = { by_sender };
-
-    ghost last = { last_of_sender };
-
-    fn last(number: u64) -> BCall<T> {
-        BCall::DropTx(TxId(number))
-    }
-}
-
-impl<T: Clone + Drop> Side<Broadcast<T, RingShelf<T>>> for Receives {
-    ghost use Rattle.th_block.specs.Numbers.{by_receiver, last_of_receiver};
-
-    ghost caller = { by_receiver };
-
-    ghost last = { last_of_receiver };
-
-    fn last(number: u64) -> BCall<T> {
-        BCall::DropRx(RxId(number))
-    }
-}
 
 /// A channel whose first value stands at `base`, and its first sender; it has no receiver yet. All slots of the ring
 /// are made here.
@@ -133,7 +83,7 @@ impl<T: Clone + Drop> Handle<Broadcast<T, RingShelf<T>>, Sends> {
         requires { ClonesAreEqual T.is_clone }
         ensures { Calls self.old self.new (BCall.Send (tx self.old) value) result }
     {
-        let number = self.number();
+        let number = self.number;
         self.call(rt, BCall::Send(TxId(number), value))
     }
 
@@ -143,9 +93,10 @@ impl<T: Clone + Drop> Handle<Broadcast<T, RingShelf<T>>, Sends> {
         rt: &R,
     ) -> Result<(Receipt<RingBroadcast<T>>, Option<BReceiver<T>>), Refused<BCall<T>>>
         requires { ClonesAreEqual T.is_clone }
-        ensures { CallsFor made_by self.old self.new (BCall.Subscribe (tx self.old)) result }
+        ensures { CallsFor (made_by broadcast_made_tx broadcast_made_rx) self.old self.new
+            (BCall.Subscribe (tx self.old)) result }
     {
-        let number = self.number();
+        let number = self.number;
         self.making(rt, BCall::Subscribe(TxId(number)))
     }
 
@@ -155,22 +106,11 @@ impl<T: Clone + Drop> Handle<Broadcast<T, RingShelf<T>>, Sends> {
         rt: &R,
     ) -> Result<(Receipt<RingBroadcast<T>>, Option<BReceiver<T>>), Refused<BCall<T>>>
         requires { ClonesAreEqual T.is_clone }
-        ensures { CallsFor made_by self.old self.new (BCall.SubscribeOldest (tx self.old)) result }
+        ensures { CallsFor (made_by broadcast_made_tx broadcast_made_rx) self.old self.new
+            (BCall.SubscribeOldest (tx self.old)) result }
     {
-        let number = self.number();
+        let number = self.number;
         self.making(rt, BCall::SubscribeOldest(TxId(number)))
-    }
-
-    /// A new sender.
-    pub fn clone_tx<R: Wait>(
-        &mut self,
-        rt: &R,
-    ) -> Result<(Receipt<RingBroadcast<T>>, Option<BSender<T>>), Refused<BCall<T>>>
-        requires { ClonesAreEqual T.is_clone }
-        ensures { CallsFor made_by self.old self.new (BCall.CloneTx (tx self.old)) result }
-    {
-        let number = self.number();
-        self.making(rt, BCall::CloneTx(TxId(number)))
     }
 
     /// How many values are kept.
@@ -181,7 +121,7 @@ impl<T: Clone + Drop> Handle<Broadcast<T, RingShelf<T>>, Sends> {
         requires { ClonesAreEqual T.is_clone }
         ensures { Calls self.old self.new (BCall.Queued (tx self.old)) result }
     {
-        let number = self.number();
+        let number = self.number;
         self.call(rt, BCall::Queued(TxId(number)))
     }
 
@@ -193,7 +133,7 @@ impl<T: Clone + Drop> Handle<Broadcast<T, RingShelf<T>>, Sends> {
         requires { ClonesAreEqual T.is_clone }
         ensures { Calls self.old self.new (BCall.Readers (tx self.old)) result }
     {
-        let number = self.number();
+        let number = self.number;
         self.call(rt, BCall::Readers(TxId(number)))
     }
 }
@@ -207,7 +147,7 @@ impl<T: Clone + Drop> Handle<Broadcast<T, RingShelf<T>>, Receives> {
         requires { ClonesAreEqual T.is_clone }
         ensures { Calls self.old self.new (BCall.TryRecv (rx self.old)) result }
     {
-        let number = self.number();
+        let number = self.number;
         self.call(rt, BCall::TryRecv(RxId(number)))
     }
 
@@ -216,7 +156,7 @@ impl<T: Clone + Drop> Handle<Broadcast<T, RingShelf<T>>, Receives> {
         requires { ClonesAreEqual T.is_clone }
         ensures { Calls self.old self.new (BCall.Recv (rx self.old)) result }
     {
-        let number = self.number();
+        let number = self.number;
         self.call(rt, BCall::Recv(RxId(number)))
     }
 
@@ -228,9 +168,9 @@ impl<T: Clone + Drop> Handle<Broadcast<T, RingShelf<T>>, Receives> {
         rt: &R,
     ) -> Option<Result<Receipt<RingBroadcast<T>>, Refused<BCall<T>>>>
         requires { ClonesAreEqual T.is_clone }
-        ensures { IsNext ends self.old self.new (BCall.Recv (rx self.old)) result }
+        ensures { IsNext broadcast_ends self.old self.new (BCall.Recv (rx self.old)) result }
     {
-        let number = self.number();
+        let number = self.number;
         self.next_call(rt, BCall::Recv(RxId(number)))
     }
 
@@ -240,9 +180,10 @@ impl<T: Clone + Drop> Handle<Broadcast<T, RingShelf<T>>, Receives> {
         rt: &R,
     ) -> Result<(Receipt<RingBroadcast<T>>, Option<BReceiver<T>>), Refused<BCall<T>>>
         requires { ClonesAreEqual T.is_clone }
-        ensures { CallsFor made_by self.old self.new (BCall.Resubscribe (rx self.old)) result }
+        ensures { CallsFor (made_by broadcast_made_tx broadcast_made_rx) self.old self.new
+            (BCall.Resubscribe (rx self.old)) result }
     {
-        let number = self.number();
+        let number = self.number;
         self.making(rt, BCall::Resubscribe(RxId(number)))
     }
 
@@ -251,7 +192,7 @@ impl<T: Clone + Drop> Handle<Broadcast<T, RingShelf<T>>, Receives> {
         requires { ClonesAreEqual T.is_clone }
         ensures { Calls self.old self.new (BCall.Left (rx self.old)) result }
     {
-        let number = self.number();
+        let number = self.number;
         self.call(rt, BCall::Left(RxId(number)))
     }
 }
@@ -269,11 +210,12 @@ impl<T: Clone + Drop> Shared<Broadcast<T, RingShelf<T>>> {
     ) -> Result<(Receipt<RingBroadcast<T>>, Resub<T>), (BReceiver<T>, Refused<BCall<T>>)>
         requires { ClonesAreEqual T.is_clone }
         ensures tells { IfOk result (λ r. Tells old.known (BCall.Resubscribe (rx old)) r.0) }
-        ensures replaced { IfOk result (λ r. IsReplaced made_by old r.0 r.1) }
+        ensures replaced { IfOk result (λ r.
+            IsReplaced (made_by broadcast_made_tx broadcast_made_rx) old r.0 r.1) }
         ensures back { IfErr result (λ e.
             (e.0 ≡ old) × (call_of e.1 ≡ BCall.Resubscribe (rx old))) }
     {
-        let number = old.number();
+        let number = old.number;
         self.replace(rt, old, BCall::Resubscribe(RxId(number)))
     }
 }

@@ -1,25 +1,26 @@
 //! A caller's handle at a shared channel. One body serves senders and receivers of both channels.
-ghost use Rattle.std.specs.Prelude.{◌≡◌, ◌≤◌, ◌↔◌, [], length, true, false, IfErr, IfOk, IsTrue, MatchResult, OnOk, Some};
+ghost use Rattle.std.specs.Prelude.{◌≡◌, ◌≤◌, ◌↔◌, [], length, true, false, IfErr, IfOk, IsTrue, MatchOption, MatchResult, OnOk, None, Some};
 ghost use Rattle.th_glance.specs.Lists.{last_of};
 ghost use Rattle.th_log.specs.History.{IsLimit};
 ghost use Rattle.th_log.specs.Outcome.{counted};
-ghost use Rattle.th_block.specs.Handles.{Calls, CallsFor, Glances, IsBack, IsFirst, IsMade, IsNext, Tells, seen_of, unused};
-ghost use Rattle.th_block.specs.Locked.{Entered, Fits, IsSeated};
+ghost use Rattle.th_log.specs.Replies.{made_by};
+ghost use Rattle.th_block.specs.Handles.{Calls, CallsFor, Glances, IsBack, IsFirst, IsMade, IsNext, Tells, seen_of, tx, unused};
+ghost use Rattle.th_block.specs.Locked.{Entered, Fits, IsSeated, Spends};
 ghost use Rattle.th_block.specs.Rows.{CallsInRow};
 
 use crate::account::Account;
-use crate::channel::{Channel, Side};
 use crate::held::Held;
 use crate::posted::Posted;
 use crate::ready::{all_ready, see_all};
 use crate::seat::Seat;
 use crate::shared::Shared;
+use crate::side::{Receives, Sends, Side};
 use std::alloc::Global;
 use std::marker::{Model, PhantomData};
 use std::sync::Wait;
 use th_glance::{Eye, Glance};
-use th_log::{Logged, MOST_ENTRIES, MakeFault, Object, Receipt, Refused};
-use th_model::Short;
+use th_log::{Kind, Logged, MOST_ENTRIES, MakeFault, Object, Receipt, Refused, made};
+use th_model::{Short, Start, TxId};
 use th_seats::Share;
 
 /// A handle of a channel `O` on its side `S`: one number, and the share that counts its events.
@@ -73,7 +74,7 @@ pub(crate) fn is_limit(limit: u64) -> bool
 }
 
 // The first handle of a channel, which has no other. It is a sender.
-pub(crate) fn open<O: Channel, S: Side<O>>(
+pub(crate) fn open<O: Kind, S>(
     alloc: Global,
     object: O,
     limit: u64,
@@ -100,20 +101,20 @@ pub(crate) fn open<O: Channel, S: Side<O>>(
 }
 
 // The seat of the handle that a reply tells of, with a share of its own, on the locked log.
-fn seated<O: Channel>(held: &mut Held<O>, receipt: &Receipt<O>) -> Option<Seat>
+fn seated<O: Kind>(held: &mut Held<O>, receipt: &Receipt<O>) -> Option<Seat>
     requires { receipt.now.key ≡ held.old.tally.key }
-    ensures seat { IsSeated O.made_by receipt.now result }
+    ensures seat { IsSeated (made_by O.made_tx O.made_rx) receipt.now result }
     ensures piece { held.new.piece ≡ held.old.piece }
     ensures key { held.new.tally.key ≡ held.old.tally.key }
     ensures total { held.new.tally.total ≡ held.old.tally.total }
 {
-    let number = O::made(receipt.reply())?;
+    let number = made::<O>(receipt.reply())?;
     let share = held.split();
     Some(Seat { number, share })
 }
 
 // One event of a call that may make a handle, on the locked log.
-pub(crate) fn seated_event<O: Channel>(
+pub(crate) fn seated_event<O: Kind>(
     held: &mut Held<O>,
     account: &mut Account,
     call: O::Call,
@@ -121,7 +122,8 @@ pub(crate) fn seated_event<O: Channel>(
     requires lawful { O.lawful }
     requires ready { O.machine.ready held.old.piece.last call ≡ true }
     ensures told { MatchResult result
-        (λ r. Entered account.old account.new call r.0 × IsSeated O.made_by r.0 r.1)
+        (λ r. Entered account.old account.new call r.0
+        × IsSeated (made_by O.made_tx O.made_rx) r.0 r.1)
         (IsBack account.old account.new call) }
     ensures step { IfOk result (λ r.
         O.machine.answer held.old.piece.last call ≡ (r.0.reply, held.new.piece.last)) }
@@ -137,23 +139,23 @@ pub(crate) fn seated_event<O: Channel>(
 }
 
 // The handle that takes a seat, once its eye has seen the event by which it was made.
-pub(crate) fn sit<O: Channel, S: Side<O>, R: Wait>(
+pub(crate) fn sit<O: Kind, S, R: Wait>(
     rt: &R,
     shared: Shared<O>,
     eye: Eye,
     seat: Seat,
     receipt: &Receipt<O>,
 ) -> Handle<O, S>
-    requires number { O.made_by receipt.now.reply ≡ Some seat.number }
+    requires number { made_by O.made_tx O.made_rx receipt.now.reply ≡ Some seat.number }
     requires share { seat.share ≡ unused receipt.now.key }
-    ensures { IsMade (O.made_by receipt.now.reply) eye receipt.now result }
+    ensures { IsMade (made_by O.made_tx O.made_rx receipt.now.reply) eye receipt.now result }
 {
     let mut fresh = Account::new(seat.share, eye);
     fresh.catch_up(rt, receipt.place());
     Handle::made(shared, seat.number, fresh)
 }
 
-impl<O: Channel, S: Side<O>> Handle<O, S> {
+impl<O: Kind, S> Handle<O, S> {
     /// The number under which the channel knows the handle: it stands in the handle's calls.
     pub fn number(&self) -> u64
         ensures { result ≡ self.now.number }
@@ -229,6 +231,87 @@ impl<O: Channel, S: Side<O>> Handle<O, S> {
         }
     }
 
+    /// Whether a call would wait now, for news or for nothing any more. It makes no event, and takes the lock for a moment:
+    /// what it says may be past when it is read, so that no clause says what it means.
+    pub fn would_wait<R: Wait>(&self, rt: &R, call: &O::Call) -> bool {
+        let held = self.shared.room.held.lock(rt);
+        !held.is_ready(call)
+    }
+
+    // One event that may be the last of a loop, by a call that waits.
+    pub(crate) fn next_call<R: Wait>(
+        &mut self,
+        rt: &R,
+        call: O::Call,
+    ) -> Option<Result<Receipt<O>, Refused<O::Call>>>
+        requires { O.lawful }
+        ensures { IsNext O.ends self.old self.new call result }
+    {
+        match self.call(rt, call) {
+            Ok(receipt) => {
+                if O::ends(receipt.reply()) {
+                    return None;
+                }
+                Some(Ok(receipt))
+            }
+            Err(refused) => Some(Err(refused)),
+        }
+    }
+
+    // One event of a call that may make a handle, of either side. It comes beside the receipt.
+    pub(crate) fn making<R: Wait, N>(
+        &mut self,
+        rt: &R,
+        call: O::Call,
+    ) -> Result<(Receipt<O>, Option<Handle<O, N>>), Refused<O::Call>>
+        requires { O.lawful }
+        ensures { CallsFor (made_by O.made_tx O.made_rx) self.old self.new call result }
+    {
+        let Handle {
+            shared,
+            account,
+            ..
+        } = self;
+        let Ok(theirs) = shared.another() else {
+            return Err(Refused::Short(call));
+        };
+        let Ok(eye) = account.another_eye() else {
+            return Err(Refused::Short(call));
+        };
+        let room = &*shared.room;
+        let locked = room.held.lock(rt);
+        let mut held = room.news.wait_while(rt, locked, |held| held.waits(&call));
+        let answer = seated_event(&mut *held, account, call);
+        drop(held);
+        match answer {
+            Ok((receipt, seat)) => {
+                account.catch_up(rt, receipt.place());
+                match seat {
+                    Some(seat) => {
+                        let new = sit(rt, theirs, eye, seat, &receipt);
+                        Ok((receipt, Some(new)))
+                    }
+                    None => Ok((receipt, None)),
+                }
+            }
+            Err(refused) => Err(refused),
+        }
+    }
+
+    /// An owner of the channel, without a number. It takes no memory, and is refused only past 2^63 owners.
+    pub fn shared(&self) -> Result<Shared<O>, Short<()>> {
+        self.shared.another()
+    }
+
+    /// Gives the share back without an event. The number stays live and unused; it takes no lock.
+    pub fn release(self) -> Share
+        ensures { result ≡ self.known.share }
+    {
+        self.account.into_share()
+    }
+}
+
+impl<O: Kind, S: Side<O>> Handle<O, S> {
     /// One event of this very handle that wakes nobody, for whoever makes many calls at once: `Shared::wake` then wakes
     /// once. The calls by their names wake for themselves. It waits until the call is ready.
     #[inline(always)]
@@ -292,73 +375,6 @@ impl<O: Channel, S: Side<O>> Handle<O, S> {
         see_all(rt, account, total);
     }
 
-    /// Whether a call would wait now, for news or for nothing any more. It makes no event, and takes the lock for a moment:
-    /// what it says may be past when it is read, so that no clause says what it means.
-    pub fn would_wait<R: Wait>(&self, rt: &R, call: &O::Call) -> bool {
-        let held = self.shared.room.held.lock(rt);
-        !held.is_ready(call)
-    }
-
-    // One event that may be the last of a loop, by a call that waits.
-    pub(crate) fn next_call<R: Wait>(
-        &mut self,
-        rt: &R,
-        call: O::Call,
-    ) -> Option<Result<Receipt<O>, Refused<O::Call>>>
-        requires { O.lawful }
-        ensures { IsNext O.ends self.old self.new call result }
-    {
-        match self.call(rt, call) {
-            Ok(receipt) => {
-                if O::ends(receipt.reply()) {
-                    return None;
-                }
-                Some(Ok(receipt))
-            }
-            Err(refused) => Some(Err(refused)),
-        }
-    }
-
-    // One event of a call that may make a handle, of either side. It comes beside the receipt.
-    pub(crate) fn making<R: Wait, N: Side<O>>(
-        &mut self,
-        rt: &R,
-        call: O::Call,
-    ) -> Result<(Receipt<O>, Option<Handle<O, N>>), Refused<O::Call>>
-        requires { O.lawful }
-        ensures { CallsFor O.made_by self.old self.new call result }
-    {
-        let Handle {
-            shared,
-            account,
-            ..
-        } = self;
-        let Ok(theirs) = shared.another() else {
-            return Err(Refused::Short(call));
-        };
-        let Ok(eye) = account.another_eye() else {
-            return Err(Refused::Short(call));
-        };
-        let room = &*shared.room;
-        let locked = room.held.lock(rt);
-        let mut held = room.news.wait_while(rt, locked, |held| held.waits(&call));
-        let answer = seated_event(&mut *held, account, call);
-        drop(held);
-        match answer {
-            Ok((receipt, seat)) => {
-                account.catch_up(rt, receipt.place());
-                match seat {
-                    Some(seat) => {
-                        let new = sit(rt, theirs, eye, seat, &receipt);
-                        Ok((receipt, Some(new)))
-                    }
-                    None => Ok((receipt, None)),
-                }
-            }
-            Err(refused) => Err(refused),
-        }
-    }
-
     /// Spends the handle: its last event, by which its number is no longer live. The share comes back, and the receipt
     /// is given up. It waits for nothing but the lock, and takes no memory, nor room in the log but what was kept for
     /// it. It is refused only as `Foreign`: where the number is not live, or the share or what the handle has seen is
@@ -383,6 +399,7 @@ impl<O: Channel, S: Side<O>> Handle<O, S> {
         requires { O.lawful }
         ensures share { IfOk result (λ r. r.0 ≡ counted self.known.share) }
         ensures tells { IfOk result (λ r. Tells self.known (S.last self.number) r.1) }
+        ensures done { IfOk result (λ r. r.1.reply ≡ O.done) }
         ensures foreign { IfErr result (λ e.
             (e.0 ≡ self) × (e.1 ≡ Refused.Foreign (S.last self.number))) }
     {
@@ -397,30 +414,52 @@ impl<O: Channel, S: Side<O>> Handle<O, S> {
             Err(refused) => Err((Handle::made(shared, number, account), refused)),
         }
     }
+}
 
-    /// An owner of the channel, without a number. It takes no memory, and is refused only past 2^63 owners.
-    pub fn shared(&self) -> Result<Shared<O>, Short<()>> {
-        self.shared.another()
+impl<O: Kind> Handle<O, Sends> {
+    /// A new sender.
+    pub fn clone_tx<R: Wait>(
+        &mut self,
+        rt: &R,
+    ) -> Result<(Receipt<O>, Option<Handle<O, Sends>>), Refused<O::Call>>
+        requires { O.lawful }
+        ensures { CallsFor (made_by O.made_tx O.made_rx) self.old self.new
+            (O.cloning (tx self.old)) result }
+    {
+        let number = self.number;
+        self.making(rt, O::cloning(TxId(number)))
     }
 
-    /// Gives the share back without an event. The number stays live and unused; it takes no lock.
-    pub fn release(self) -> Share
-        ensures { result ≡ self.known.share }
+    /// A new receiver that begins so, or `None` where the channel has none that does.
+    pub fn subscribe_from<R: Wait>(
+        &mut self,
+        rt: &R,
+        start: Start,
+    ) -> Option<Result<(Receipt<O>, Option<Handle<O, Receives>>), Refused<O::Call>>>
+        requires { O.lawful }
+        ensures { MatchOption result
+            ((O.subscribing start (tx self.old) ≡ None) × (self.new ≡ self.old))
+            (λ r. (call : O.Call) × (O.subscribing start (tx self.old) ≡ Some call)
+            × CallsFor (made_by O.made_tx O.made_rx) self.old self.new call r) }
     {
-        self.account.into_share()
+        let call = O::subscribing(start, TxId(self.number()))?;
+        Some(self.making(rt, call))
     }
 }
 
 // The last event of a handle, under the lock.
-fn last_call<O: Channel, R: Wait>(
+fn last_call<O: Kind, R: Wait>(
     rt: &R,
     shared: &Shared<O>,
     account: &mut Account,
     call: O::Call,
 ) -> Result<Receipt<O>, Refused<O::Call>>
-    requires { O.lawful }
+    requires lawful { O.lawful }
+    requires done { (p : O.State) → Spends O.machine p call
+        → (O.machine.answer p call).0 ≡ O.done }
     ensures told { MatchResult result (Entered account.old account.new call)
         (IsBack account.old account.new call) }
+    ensures done { IfOk result (λ r. r.reply ≡ O.done) }
     ensures foreign { IfErr result (λ e. e ≡ Refused.Foreign call) }
 {
     let room = &*shared.room;

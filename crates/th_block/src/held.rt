@@ -6,10 +6,9 @@ ghost use Rattle.th_block.specs.Handles.{IsBack, unused};
 ghost use Rattle.th_block.specs.Locked.{Entered, Fits, RefusesEvent, Spends};
 
 use crate::account::Account;
-use crate::channel::Channel;
 use crate::posted::Posted;
 use std::marker::Model;
-use th_log::{Logged, Object, Receipt, Refused, Segment};
+use th_log::{Kind, Logged, Object, Receipt, Refused, Segment};
 use th_model::Short;
 use th_seats::Share;
 
@@ -35,7 +34,7 @@ impl<O: Object> Model for Held<O> {
     ghost view = { λ h. h.posted.log };
 }
 
-impl<O: Channel> Held<O> {
+impl<O: Kind> Held<O> {
     /// A log for which nobody waits yet.
     pub(crate) fn new(posted: Posted<O>) -> Held<O>
         ensures { result ≡ posted.log }
@@ -176,13 +175,6 @@ impl<O: Channel> Held<O> {
         ensures { result ≡ self.now.tally.total }
     {
         self.posted.log().total()
-    }
-
-    /// What is seen of the channel is sound, as of every log.
-    pub(crate) fn is_sound(&self)
-        ensures { O.is_sound self.now.piece.last }
-    {
-        let _live = self.posted.log().object().live();
     }
 
     /// Hands out the entries so far, and begins the next segment. No event is made.

@@ -81,7 +81,6 @@
 
 mod account;
 pub mod broadcast_handles;
-pub mod channel;
 pub mod handle;
 mod held;
 mod posted;
@@ -90,11 +89,12 @@ mod replace;
 pub mod replaced;
 mod seat;
 pub mod shared;
+pub mod side;
 pub mod watch_handles;
 
 pub use broadcast_handles::{BReceiver, BSender, Resub, RingBroadcast, broadcast, broadcast_at};
-pub use channel::{Channel, Receives, Sends, Side};
 pub use handle::Handle;
 pub use replaced::Replaced;
 pub use shared::Shared;
+pub use side::{Receives, Sends, Side};
 pub use watch_handles::{WReader, WSender, watch};

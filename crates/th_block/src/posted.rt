@@ -8,7 +8,7 @@ ghost use Rattle.th_block.specs.Locked.{Stores};
 use std::alloc::Global;
 use std::marker::Model;
 use th_glance::{Eye, Pen};
-use th_log::{Logged, Object, Receipt, Refused, Segment};
+use th_log::{Kind, Logged, Object, Receipt, Refused, Segment};
 use th_model::Short;
 use th_seats::Share;
 
@@ -32,7 +32,7 @@ impl<O: Object> Model for Posted<O> {
     ghost invariant = { λ p. IsPosted O.machine (record { log = p.log; pen = p.pen }) };
 }
 
-impl<O: Object> Posted<O> {
+impl<O: Kind> Posted<O> {
     /// The log of a channel that has had no event and has a sender, with its pen and its first eye.
     pub(crate) fn open(alloc: Global, log: Logged<O>) -> Result<(Posted<O>, Eye), Short<()>>
         requires new { log.tally.total ≡ 0 }

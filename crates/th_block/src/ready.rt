@@ -4,13 +4,12 @@ ghost use Rattle.th_block.specs.Handles.{Looked, seen_of};
 ghost use Rattle.th_block.specs.Rows.{AddsReady, EnteredInRow};
 
 use crate::account::Account;
-use crate::channel::Channel;
 use crate::held::Held;
 use std::sync::Wait;
-use th_log::Receipt;
+use th_log::{Kind, Receipt};
 
 // One event of this call, if it has its answer now and there is room for its receipt: whether it was made.
-fn one_ready<O: Channel>(
+fn one_ready<O: Kind>(
     held: &mut Held<O>,
     account: &mut Account,
     call: &O::Call,
@@ -39,7 +38,7 @@ fn one_ready<O: Channel>(
 
 /// Events of this call as long as it has its answer, at most so many, and at most as there is room for their receipts.
 /// It ends too where the log refuses one. Answers how many events the channel has then.
-pub(crate) fn all_ready<O: Channel>(
+pub(crate) fn all_ready<O: Kind>(
     held: &mut Held<O>,
     account: &mut Account,
     call: &O::Call,

@@ -1,22 +1,24 @@
 //! A new handle in the place of an old one, by two events under one lock.
-ghost use Rattle.std.specs.Prelude.{◌≡◌, true, IfOk, IfErr};
+ghost use Rattle.std.specs.Prelude.{◌≡◌, true, IfOk, IfErr, Some};
 ghost use Rattle.th_log.specs.Outcome.{counted};
-ghost use Rattle.th_block.specs.Handles.{IsBack, Tells, call_of};
+ghost use Rattle.th_log.specs.Replies.{made_by};
+ghost use Rattle.th_block.specs.Handles.{IsBack, Tells, call_of, rx};
 ghost use Rattle.th_block.specs.Locked.{Fits, IsSeated, Spends};
-ghost use Rattle.th_block.specs.Pairs.{IsReplaced, MakesThenSpends, counted_twice};
+ghost use Rattle.th_block.specs.Pairs.{IsReplaced, counted_twice};
 
 use crate::account::Account;
-use crate::channel::{Channel, Side};
 use crate::handle::{Handle, seated_event, sit};
 use crate::held::Held;
 use crate::replaced::Replaced;
 use crate::seat::Seat;
 use crate::shared::Shared;
+use crate::side::Receives;
 use std::sync::Wait;
-use th_log::{Receipt, Refused};
+use th_log::{Kind, Receipt, Refused};
+use th_model::RxId;
 
 // The last event of a handle that is live, on the locked log.
-fn surely_last<O: Channel>(held: &mut Held<O>, account: &mut Account, last: O::Call)
+fn surely_last<O: Kind>(held: &mut Held<O>, account: &mut Account, last: O::Call)
     requires lawful { O.lawful }
     requires ready { O.machine.ready held.old.piece.last last ≡ true }
     requires fits { Fits account.old held.old.tally }
@@ -29,29 +31,27 @@ fn surely_last<O: Channel>(held: &mut Held<O>, account: &mut Account, last: O::C
     };
 }
 
-// Both events, on the locked log: `make`, and `last` where it made a handle.
-fn make_and_last<O: Channel>(
+// Both events of this receiver, on the locked log: `make`, and its last one where that made a handle.
+fn make_and_last<O: Kind>(
     held: &mut Held<O>,
     account: &mut Account,
+    rx: RxId,
     make: O::Call,
-    last: O::Call,
 ) -> Result<(Receipt<O>, Option<Seat>), Refused<O::Call>>
     requires lawful { O.lawful }
-    requires make { O.machine.ready held.old.piece.last make ≡ true }
-    requires last { (p : O.State) → O.machine.ready p last ≡ true }
-    requires spends { MakesThenSpends O.machine O.is_sound O.made_by make last }
+    requires ready { O.machine.ready held.old.piece.last make ≡ true }
+    requires make { O.resubscribing rx ≡ Some make }
     ensures tells { IfOk result (λ r. Tells account.old make r.0) }
-    ensures seat { IfOk result (λ r. IsSeated O.made_by r.0 r.1) }
+    ensures seat { IfOk result (λ r. IsSeated (made_by O.made_tx O.made_rx) r.0 r.1) }
     ensures share { IfOk result (λ r. account.new.share ≡ counted_twice r.1 account.old.share) }
     ensures eye { account.new.eye ≡ account.old.eye }
     ensures back { IfErr result (λ e. IsBack account.old account.new make e) }
 {
-    held.is_sound();
     match seated_event(held, account, make) {
         Ok((receipt, seat)) => match seat {
             None => Ok((receipt, None)),
             Some(seat) => {
-                surely_last(held, account, last);
+                surely_last(held, account, O::last_of_receiver(rx));
                 Ok((receipt, Some(seat)))
             }
         },
@@ -59,19 +59,23 @@ fn make_and_last<O: Channel>(
     }
 }
 
-impl<O: Channel> Shared<O> {
-    // A new handle in the place of an old one.
-    pub(crate) fn replace<R: Wait, S: Side<O>>(
+impl<O: Kind> Shared<O> {
+    /// A new receiver in the place of an old one by this call, which makes another: by two events under one lock. The old
+    /// one is spent, so that its share comes back. Where none is made the old one stays. Its share counts each of these
+    /// events. This is to be an owner of the receiver's own channel: one of a channel with another key is told `Foreign`,
+    /// and on one that was given the same key the call may wait for ever, since the receiver's eye is on its own channel's
+    /// word.
+    pub fn replace<R: Wait>(
         &self,
         rt: &R,
-        old: Handle<O, S>,
+        old: Handle<O, Receives>,
         make: O::Call,
-    ) -> Result<(Receipt<O>, Replaced<O, S>), (Handle<O, S>, Refused<O::Call>)>
+    ) -> Result<(Receipt<O>, Replaced<O, Receives>), (Handle<O, Receives>, Refused<O::Call>)>
         requires lawful { O.lawful }
-        requires last { (p : O.State) → O.machine.ready p (S.last old.number) ≡ true }
-        requires spends { MakesThenSpends O.machine O.is_sound O.made_by make (S.last old.number) }
+        requires make { O.resubscribing (rx old) ≡ Some make }
         ensures tells { IfOk result (λ r. Tells old.known make r.0) }
-        ensures replaced { IfOk result (λ r. IsReplaced O.made_by old r.0 r.1) }
+        ensures replaced { IfOk result (λ r.
+            IsReplaced (made_by O.made_tx O.made_rx) old r.0 r.1) }
         ensures back { IfErr result (λ e. (e.0 ≡ old) × (call_of e.1 ≡ make)) }
     {
         let Handle {
@@ -89,7 +93,7 @@ impl<O: Channel> Shared<O> {
         let room = &*self.room;
         let locked = room.held.lock(rt);
         let mut held = room.news.wait_while(rt, locked, |held| held.waits(&make));
-        let answer = make_and_last(&mut *held, &mut account, make, S::last(number));
+        let answer = make_and_last(&mut *held, &mut account, RxId(number), make);
         drop(held);
         match answer {
             Ok((receipt, seat)) => match seat {

@@ -2,12 +2,11 @@
 ghost use Rattle.std.specs.Prelude.{IfOk};
 ghost use Rattle.th_log.specs.History.{IsLegal};
 
-use crate::channel::Channel;
 use crate::held::Held;
 use crate::posted::Posted;
 use std::alloc::{AllocError, Global};
 use std::sync::{Arc, Condvar, Mutex, Wait};
-use th_log::{Logged, Object, Segment};
+use th_log::{Kind, Logged, Object, Segment};
 use th_model::Short;
 
 /// The lock, and where callers wait.
@@ -34,7 +33,7 @@ pub struct Shared<O: Object> {
     pub(crate) room: Arc<Room<O>>,
 }
 
-impl<O: Channel> Shared<O> {
+impl<O: Kind> Shared<O> {
     // The first owner of a channel.
     pub(crate) fn new(alloc: Global, posted: Posted<O>) -> Result<Shared<O>, AllocError> {
         let room = Room {

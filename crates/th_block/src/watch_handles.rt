@@ -3,16 +3,15 @@ ghost use Rattle.std.specs.Prelude.{◌≡◌, ◌↔◌, IfErr, IfOk, OnOk};
 ghost use Rattle.th_log.specs.History.{IsLimit};
 ghost use Rattle.th_model.specs.Limits.{ClonesAreEqual};
 ghost use Rattle.th_model.specs.WatchMachine.{IsExact};
-ghost use Rattle.th_block.specs.Handles.{Calls, CallsFor, IsFirst, IsNext};
-ghost use Rattle.th_block.specs.Numbers.{rx, tx};
-ghost use Rattle.th_block.specs.Replies.{ends_watch, made_by_watch};
+ghost use Rattle.th_log.specs.Replies.{made_by, watch_ends, watch_made_rx, watch_made_tx};
+ghost use Rattle.th_block.specs.Handles.{Calls, CallsFor, IsFirst, IsNext, rx, tx};
 
-use crate::channel::{Channel, Receives, Sends, Side};
 use crate::handle::{Handle, is_limit, open};
+use crate::side::{Receives, Sends};
 use std::alloc::Global;
 use std::sync::Wait;
 use th_log::{MakeFault, Receipt, Refused};
-use th_model::{Edit, RxId, TxId, WCall, WReply};
+use th_model::{Edit, RxId, TxId, WCall};
 use th_watch::Watch;
 
 /// A sender.
@@ -20,60 +19,6 @@ pub type WSender<T> = Handle<Watch<T>, Sends>;
 
 /// A reader.
 pub type WReader<T> = Handle<Watch<T>, Receives>;
-
-impl<T: Clone + PartialEq + Drop> Channel for Watch<T> {
-    ghost use Rattle.th_block.specs.Replies.{ends_watch, made_by_watch};
-
-    ghost made_by = { made_by_watch };
-
-    ghost ends = { ends_watch };
-
-    fn made(reply: &WReply<T>) -> Option<u64> {
-        match reply {
-            WReply::NewRx(rx) => Some(rx.0),
-            WReply::NewTx(tx) => Some(tx.0),
-            _ => None,
-        }
-    }
-
-    fn ends(reply: &WReply<T>) -> bool {
-        matches!(reply, WReply::Closed | WReply::NoHandle(_))
-    }
-
-    // A reader waits for a publication. What it marks unseen itself it does not wait for.
-    fn is_news(call: &WCall<T>, reply: &WReply<T>) -> bool {
-        match call {
-            WCall::Send(_, _) => matches!(reply, WReply::Done),
-            WCall::Replace(_, _) => matches!(reply, WReply::Was(_)),
-            WCall::EditBy(_, _) => matches!(reply, WReply::Modified(true)),
-            _ => false,
-        }
-    }
-}
-
-impl<T: Clone + PartialEq + Drop> Side<Watch<T>> for Sends {
-    ghost use Rattle.th_block.specs.Numbers.{by_writer, last_of_writer};
-
-    ghost caller = { by_writer };
-
-    ghost last = { last_of_writer };
-
-    fn last(number: u64) -> WCall<T> {
-        WCall::DropTx(TxId(number))
-    }
-}
-
-impl<T: Clone + PartialEq + Drop> Side<Watch<T>> for Receives {
-    ghost use Rattle.th_block.specs.Numbers.{by_reader, last_of_reader};
-
-    ghost caller = { by_reader };
-
-    ghost last = { last_of_reader };
-
-    fn last(number: u64) -> WCall<T> {
-        WCall::DropRx(RxId(number))
-    }
-}
 
 /// A channel with this value, and its first sender; it has no reader yet. A refused value is dropped.
 ///
@@ -113,7 +58,7 @@ impl<T: Clone + PartialEq + Drop> Handle<Watch<T>, Sends> {
         requires exact { IsExact T.eq }
         ensures { Calls self.old self.new (WCall.Send (tx self.old) value) result }
     {
-        let number = self.number();
+        let number = self.number;
         self.call(rt, WCall::Send(TxId(number), value))
     }
 
@@ -127,7 +72,7 @@ impl<T: Clone + PartialEq + Drop> Handle<Watch<T>, Sends> {
         requires exact { IsExact T.eq }
         ensures { Calls self.old self.new (WCall.Replace (tx self.old) value) result }
     {
-        let number = self.number();
+        let number = self.number;
         self.call(rt, WCall::Replace(TxId(number), value))
     }
 
@@ -141,7 +86,7 @@ impl<T: Clone + PartialEq + Drop> Handle<Watch<T>, Sends> {
         requires exact { IsExact T.eq }
         ensures { Calls self.old self.new (WCall.EditBy (tx self.old) change) result }
     {
-        let number = self.number();
+        let number = self.number;
         self.call(rt, WCall::EditBy(TxId(number), change))
     }
 
@@ -152,23 +97,11 @@ impl<T: Clone + PartialEq + Drop> Handle<Watch<T>, Sends> {
     ) -> Result<(Receipt<Watch<T>>, Option<WReader<T>>), Refused<WCall<T>>>
         requires clones { ClonesAreEqual T.is_clone }
         requires exact { IsExact T.eq }
-        ensures { CallsFor made_by_watch self.old self.new (WCall.Subscribe (tx self.old)) result }
+        ensures { CallsFor (made_by watch_made_tx watch_made_rx) self.old self.new
+            (WCall.Subscribe (tx self.old)) result }
     {
-        let number = self.number();
+        let number = self.number;
         self.making(rt, WCall::Subscribe(TxId(number)))
-    }
-
-    /// A new sender.
-    pub fn clone_tx<R: Wait>(
-        &mut self,
-        rt: &R,
-    ) -> Result<(Receipt<Watch<T>>, Option<WSender<T>>), Refused<WCall<T>>>
-        requires clones { ClonesAreEqual T.is_clone }
-        requires exact { IsExact T.eq }
-        ensures { CallsFor made_by_watch self.old self.new (WCall.CloneTx (tx self.old)) result }
-    {
-        let number = self.number();
-        self.making(rt, WCall::CloneTx(TxId(number)))
     }
 
     /// Whether no reader is left.
@@ -177,7 +110,7 @@ impl<T: Clone + PartialEq + Drop> Handle<Watch<T>, Sends> {
         requires exact { IsExact T.eq }
         ensures { Calls self.old self.new (WCall.IsClosed (tx self.old)) result }
     {
-        let number = self.number();
+        let number = self.number;
         self.call(rt, WCall::IsClosed(TxId(number)))
     }
 
@@ -187,7 +120,7 @@ impl<T: Clone + PartialEq + Drop> Handle<Watch<T>, Sends> {
         requires exact { IsExact T.eq }
         ensures { Calls self.old self.new (WCall.Readers (tx self.old)) result }
     {
-        let number = self.number();
+        let number = self.number;
         self.call(rt, WCall::Readers(TxId(number)))
     }
 }
@@ -199,7 +132,7 @@ impl<T: Clone + PartialEq + Drop> Handle<Watch<T>, Receives> {
         requires exact { IsExact T.eq }
         ensures { Calls self.old self.new (WCall.Borrow (rx self.old)) result }
     {
-        let number = self.number();
+        let number = self.number;
         self.call(rt, WCall::Borrow(RxId(number)))
     }
 
@@ -209,7 +142,7 @@ impl<T: Clone + PartialEq + Drop> Handle<Watch<T>, Receives> {
         requires exact { IsExact T.eq }
         ensures { Calls self.old self.new (WCall.Take (rx self.old)) result }
     {
-        let number = self.number();
+        let number = self.number;
         self.call(rt, WCall::Take(RxId(number)))
     }
 
@@ -219,7 +152,7 @@ impl<T: Clone + PartialEq + Drop> Handle<Watch<T>, Receives> {
         requires exact { IsExact T.eq }
         ensures { Calls self.old self.new (WCall.HasChanged (rx self.old)) result }
     {
-        let number = self.number();
+        let number = self.number;
         self.call(rt, WCall::HasChanged(RxId(number)))
     }
 
@@ -229,7 +162,7 @@ impl<T: Clone + PartialEq + Drop> Handle<Watch<T>, Receives> {
         requires exact { IsExact T.eq }
         ensures { Calls self.old self.new (WCall.TryChanged (rx self.old)) result }
     {
-        let number = self.number();
+        let number = self.number;
         self.call(rt, WCall::TryChanged(RxId(number)))
     }
 
@@ -239,7 +172,7 @@ impl<T: Clone + PartialEq + Drop> Handle<Watch<T>, Receives> {
         requires exact { IsExact T.eq }
         ensures { Calls self.old self.new (WCall.Changed (rx self.old)) result }
     {
-        let number = self.number();
+        let number = self.number;
         self.call(rt, WCall::Changed(RxId(number)))
     }
 
@@ -249,9 +182,9 @@ impl<T: Clone + PartialEq + Drop> Handle<Watch<T>, Receives> {
     pub fn next<R: Wait>(&mut self, rt: &R) -> Option<Result<Receipt<Watch<T>>, Refused<WCall<T>>>>
         requires clones { ClonesAreEqual T.is_clone }
         requires exact { IsExact T.eq }
-        ensures { IsNext ends_watch self.old self.new (WCall.Changed (rx self.old)) result }
+        ensures { IsNext watch_ends self.old self.new (WCall.Changed (rx self.old)) result }
     {
-        let number = self.number();
+        let number = self.number;
         self.next_call(rt, WCall::Changed(RxId(number)))
     }
 
@@ -261,7 +194,7 @@ impl<T: Clone + PartialEq + Drop> Handle<Watch<T>, Receives> {
         requires exact { IsExact T.eq }
         ensures { Calls self.old self.new (WCall.MarkChanged (rx self.old)) result }
     {
-        let number = self.number();
+        let number = self.number;
         self.call(rt, WCall::MarkChanged(RxId(number)))
     }
 
@@ -274,7 +207,7 @@ impl<T: Clone + PartialEq + Drop> Handle<Watch<T>, Receives> {
         requires exact { IsExact T.eq }
         ensures { Calls self.old self.new (WCall.MarkUnchanged (rx self.old)) result }
     {
-        let number = self.number();
+        let number = self.number;
         self.call(rt, WCall::MarkUnchanged(RxId(number)))
     }
 
@@ -285,9 +218,10 @@ impl<T: Clone + PartialEq + Drop> Handle<Watch<T>, Receives> {
     ) -> Result<(Receipt<Watch<T>>, Option<WReader<T>>), Refused<WCall<T>>>
         requires clones { ClonesAreEqual T.is_clone }
         requires exact { IsExact T.eq }
-        ensures { CallsFor made_by_watch self.old self.new (WCall.CloneRx (rx self.old)) result }
+        ensures { CallsFor (made_by watch_made_tx watch_made_rx) self.old self.new
+            (WCall.CloneRx (rx self.old)) result }
     {
-        let number = self.number();
+        let number = self.number;
         self.making(rt, WCall::CloneRx(RxId(number)))
     }
 }

@@ -30,9 +30,7 @@ fn show<T: Clone, S: Shelf<T> + Drop>(alloc: Global, news: &Broadcast<T, S>)
 fn look<T: Clone, S: Shelf<T> + Drop>(news: &Broadcast<T, S>, tx: TxId, rx: RxId) {
     let _ = news.value(7);
     let _ = news.place(rx);
-    let _ = news.next_receiver(Some(rx));
     let _ = news.has_sender(tx);
-    let _ = news.next_sender(Some(tx));
     let _ = news.capacity();
     let _ = news.tail();
     let _ = news.low();

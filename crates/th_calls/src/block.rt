@@ -2,12 +2,12 @@
 use std::alloc::Global;
 use std::sync::Wait;
 use th_block::{
-    BReceiver, BSender, Channel, Receives, Resub, RingBroadcast, Shared, Side, WReader, WSender,
+    BReceiver, BSender, Receives, Resub, RingBroadcast, Sends, Shared, Side, WReader, WSender,
     broadcast, broadcast_at, watch,
 };
 use th_glance::Glance;
 use th_log::{Logged, MakeFault, Receipt, Refused, Segment};
-use th_model::{BCall, Capacity, Edit, Short, TxId, WCall, WReply};
+use th_model::{BCall, Capacity, Edit, RxId, Short, Start, TxId, WCall};
 use th_seats::Share;
 use th_watch::Watch;
 
@@ -42,11 +42,9 @@ pub fn make(
     )
 }
 
-pub fn tell(call: &WCall<u64>, reply: &WReply<u64>) -> (Option<u64>, bool, bool, WCall<u64>) {
+pub fn end() -> (WCall<u64>, WCall<u64>) {
     (
-        Light::made(reply),
-        Light::ends(reply),
-        Light::is_news(call, reply),
+        <Sends as Side<Light>>::last(7),
         <Receives as Side<Light>>::last(7),
     )
 }
@@ -60,6 +58,10 @@ pub fn enter_by_sender(
     tx: &mut BSender<u64>,
 ) -> ([BMade<BReceiver<u64>>; 2], BMade<BSender<u64>>) {
     ([tx.subscribe(rt), tx.subscribe_oldest(rt)], tx.clone_tx(rt))
+}
+
+pub fn enter_from(rt: &impl Wait, tx: &mut BSender<u64>) -> Option<BMade<BReceiver<u64>>> {
+    tx.subscribe_from(rt, Start::Oldest)
 }
 
 pub fn by_receiver(rt: &impl Wait, rx: &mut BReceiver<u64>) -> ([BTold; 3], Option<BTold>) {
@@ -76,6 +78,15 @@ pub fn replace(
     old: BReceiver<u64>,
 ) -> Result<(Receipt<News>, Resub<u64>), (BReceiver<u64>, Refused<BCall<u64>>)> {
     shared.pair_resub(rt, old)
+}
+
+pub fn replace_by(
+    rt: &impl Wait,
+    shared: &Shared<News>,
+    old: BReceiver<u64>,
+) -> Result<(Receipt<News>, Resub<u64>), (BReceiver<u64>, Refused<BCall<u64>>)> {
+    let call = BCall::Resubscribe(RxId(old.number()));
+    shared.replace(rt, old, call)
 }
 
 pub fn by_writer(rt: &impl Wait, tx: &mut WSender<u64>, edit: Edit<u64>) -> [WTold; 5] {

@@ -2,17 +2,12 @@
 use std::alloc::Global;
 use std::fs::File;
 use th_bcast::Broadcast;
-use th_check::broadcast_course::BroadcastCourse;
 use th_check::point::Spot;
-use th_check::watch_course::WatchCourse;
-use th_check::{
-    broadcast_course, check, check_bounded, check_explained, laws, point, watch_course,
-};
+use th_check::{check, check_bounded, check_explained, laws, point};
 use th_lines::Counted;
 use th_log::Segment;
 use th_model::Value;
 use th_ring::RingShelf;
-use th_traces::Version;
 use th_watch::Watch;
 
 pub fn law(news: &Segment<Broadcast<Value, RingShelf<Value>>>, light: &Segment<Watch<Value>>) {
@@ -20,17 +15,6 @@ pub fn law(news: &Segment<Broadcast<Value, RingShelf<Value>>>, light: &Segment<W
     laws::legal_texts();
     laws::printed_broadcast_traces_are_legal(news);
     laws::printed_watch_traces_are_legal(light);
-}
-
-pub fn take_lines(
-    alloc: Global,
-    version: Version,
-    news: &mut BroadcastCourse,
-    light: &mut WatchCourse,
-    line: &[u8],
-) {
-    let _ = broadcast_course::take_line(alloc, version, news, line);
-    let _ = watch_course::take_line(alloc, light, line);
 }
 
 pub fn take_line(alloc: Global, spot: &mut Spot, line: &[u8]) {

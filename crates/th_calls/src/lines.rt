@@ -3,8 +3,8 @@ use std::alloc::{AllocError, Global};
 use std::fs::File;
 use th_lines::fields::{cut, number, number_and_rest, value};
 use th_lines::{
-    Counted, Intake, Lines, Reply, ValueWord, WriteBuffer, laws, name_and_rest, print_line,
-    print_reply, read_command, read_step,
+    Counted, Feeder, Intake, Lines, Reply, TakesLines, ValueWord, WriteBuffer, laws, name_and_rest,
+    read_command,
 };
 use th_model::Value;
 
@@ -45,7 +45,6 @@ pub fn fields(alloc: Global, bytes: &[u8]) {
 
 pub fn commands(alloc: Global, line: &[u8]) {
     let _ = read_command(alloc, line);
-    let _ = read_step(alloc, line);
 }
 
 pub fn take_in(alloc: Global, intake: &mut Intake, reader: &mut Counted<File>) -> (usize, bool) {
@@ -63,11 +62,48 @@ pub fn end_intake(intake: &mut Intake) {
     }
 }
 
-pub fn print(reply: &Reply, number: usize, out: &mut Vec<u8>) {
-    let _ = print_reply(reply, out);
-    if number < reply.line_count() {
-        let _ = print_line(reply, number, out);
+/// Takes each line, and keeps nothing of it.
+#[derive(Drop)]
+pub struct Taken;
+
+impl TakesLines<(), ()> for Taken {
+    type Stop = ();
+
+    ghost took = { λ _ _ _. Unit {0} };
+
+    ghost halts = { λ _ _ _ _. Unit {0} };
+
+    ghost is_settled = { λ _. Unit {0} };
+
+    fn settle(&mut self, _desk: &mut (), _writer: &mut (), _taken: u64) -> Result<(), ()> {
+        Ok(())
     }
+
+    fn take(
+        &mut self,
+        _alloc: Global,
+        _desk: &mut (),
+        _writer: &mut (),
+        _taken: u64,
+        _line: Option<&[u8]>,
+        _intake: &Intake,
+    ) -> Result<(), ()> {
+        Ok(())
+    }
+}
+
+pub fn take_one(alloc: Global, taken: &mut Taken, intake: &Intake) {
+    let _ = taken.settle(&mut (), &mut (), 0);
+    let _ = taken.take(alloc, &mut (), &mut (), 0, intake.line(false), intake);
+}
+
+pub fn feed(alloc: Global, reader: &mut Counted<File>) -> u64 {
+    let Ok(mut feeder) = Feeder::new(alloc, 7) else {
+        return 0;
+    };
+    let _ = feeder.feed(&mut Taken, alloc, &mut (), &mut (), reader, 7);
+    let _ = feeder.line();
+    feeder.taken()
 }
 
 /// No lines.

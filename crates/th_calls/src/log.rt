@@ -1,8 +1,8 @@
 //! Calls of th_log. They are written for any object, and made at a watch channel of numbers at the end: at an object that is
 //! known each call would have its whole contract.
 use std::alloc::Global;
-use th_log::{Compared, Diary, Logged, Object, Receipt, Segment, audit, close};
-use th_model::{WCall, WReply};
+use th_log::{Compared, Diary, Kind, Logged, Object, Receipt, Segment, audit, close, made};
+use th_model::{Question, ReceiverVerb, RxId, SenderVerb, Start, TxId, WCall, WReply};
 use th_seats::Share;
 use th_watch::{PictureParts, Watch};
 
@@ -22,7 +22,7 @@ fn look<O: Object>(logged: &Logged<O>) {
     let _ = logged.len();
 }
 
-fn apply<O: Object>(logged: &mut Logged<O>, share: &mut Share, call: O::Call)
+fn apply<O: Kind>(logged: &mut Logged<O>, share: &mut Share, call: O::Call)
     requires { O.lawful }
 {
     if logged.ready(&call) {
@@ -91,11 +91,33 @@ fn ask<O: Object>(object: &O, call: &O::Call)
     let _ = object.closed();
 }
 
-fn change<O: Object>(object: &mut O, one: O::Call, other: O::Call)
+fn change<O: Kind>(object: &mut O, one: O::Call, other: O::Call)
     requires { O.lawful }
 {
     let _ = object.apply(one);
     let _ = object.event(other);
+}
+
+fn look_up<K: Kind>(verb: SenderVerb<K::Value>, tx: TxId, rx: RxId) {
+    let _ = K::by_sender(verb, tx);
+    let _ = K::asked(Question::Readers, tx);
+    let _ = K::by_receiver(ReceiverVerb::Left, rx);
+    let _ = K::subscribing(Start::Tail, tx);
+    let _ = K::resubscribing(rx);
+    let _ = K::cloning(tx);
+    let _ = K::last_of_sender(tx);
+    let _ = K::last_of_receiver(rx);
+}
+
+fn tell<K: Kind>(channel: &K, call: &K::Call, reply: &K::Reply, tx: TxId, rx: RxId) {
+    let _ = channel.has_sender(tx);
+    let _ = channel.has_receiver(rx);
+    let _ = channel.waits(call);
+    let _ = K::made_tx(reply);
+    let _ = K::made_rx(reply);
+    let _ = K::ends(reply);
+    let _ = K::is_news(call, reply);
+    let _ = made::<K>(reply);
 }
 
 fn show<O: Object>(alloc: Global, object: &O)
@@ -114,7 +136,7 @@ fn compare<O: Compared>(call: &O::Call, reply: &O::Reply, state: &O::State)
 }
 
 // The calls of an object and of its log.
-fn call_all<O: Compared>(
+fn call_all<O: Compared + Kind>(
     alloc: Global,
     object: &mut O,
     logged: &mut Logged<O>,
@@ -164,6 +186,17 @@ pub fn call_with_numbers(
     state: &PictureParts<u64>,
 ) {
     call_all(alloc, light, logged, share, calls, reply, state);
+}
+
+pub fn tell_of_numbers(
+    light: &Watch<u64>,
+    call: &WCall<u64>,
+    reply: &WReply<u64>,
+    tx: TxId,
+    rx: RxId,
+) {
+    tell(light, call, reply, tx, rx);
+    look_up::<Watch<u64>>(SenderVerb::Send(7), tx, rx);
 }
 
 pub fn call_pieces_of_numbers(

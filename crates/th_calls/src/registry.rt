@@ -3,18 +3,15 @@ use indexmap::IndexMap;
 use std::alloc::Global;
 use th_log::{MakeFault, Receipt, Segment};
 use th_model::{
-    BCall, Kind, Listing, Making, Name, NameRef, Question, ReceiverVerb, RxId, SenderVerb, Short,
-    Start, TxId, Value, WCall,
+    Kind, Listing, Making, Name, NameRef, Question, ReceiverVerb, RxId, SenderVerb, Short, Start,
+    TxId, Value, WCall,
 };
-use th_registry::calls::{
-    answers, broadcast_asked, broadcast_by_receiver, broadcast_by_sender, receives, sends, starts,
-    watch_asked, watch_by_receiver, watch_by_sender,
-};
+use th_registry::calls::{answers, receives, sends, starts};
 use th_registry::channel::{LocalChannel, TopicReceipt, TopicSegment};
 use th_registry::recorded::Recorded;
 use th_registry::topics::list;
 use th_registry::{
-    BadLimit, ChannelReply, Desk, Found, LocalDesk, Made, NoEvent, Refusal, TopicId, Unspent, laws,
+    BadLimit, Desk, Found, LocalDesk, Made, NoEvent, Refusal, TopicId, Unspent, laws,
 };
 use th_watch::Watch;
 
@@ -24,28 +21,9 @@ pub fn law() {
     laws::histories_are_legal();
 }
 
-pub fn call_by_sender(
-    one: SenderVerb,
-    other: SenderVerb,
-    question: Question,
-    tx: TxId,
-) -> ([Option<BCall<Value>>; 2], [Option<WCall<Value>>; 2]) {
-    (
-        [broadcast_by_sender(one, tx), broadcast_asked(question, tx)],
-        [watch_by_sender(other, tx), watch_asked(question, tx)],
-    )
-}
-
-pub fn call_by_receiver(
-    verb: ReceiverVerb,
-    rx: RxId,
-) -> (Option<BCall<Value>>, Option<WCall<Value>>) {
-    (broadcast_by_receiver(verb, rx), watch_by_receiver(verb, rx))
-}
-
 pub fn has_call(
     kind: Kind,
-    verb: &SenderVerb,
+    verb: &SenderVerb<Value>,
     question: Question,
     read: ReceiverVerb,
 ) -> [bool; 4] {
@@ -128,7 +106,7 @@ pub fn act(
     topic: TopicId,
     tx: &mut TxId,
     rx: &mut RxId,
-    verb: SenderVerb,
+    verb: SenderVerb<Value>,
 ) -> [Result<TopicReceipt, NoEvent>; 3] {
     [
         desk.by_sender(topic, tx, verb),
@@ -143,9 +121,9 @@ pub fn leave(
     tx: TxId,
     rx: RxId,
 ) -> (
-    Result<ChannelReply, Unspent<TxId>>,
-    Result<ChannelReply, Unspent<RxId>>,
-    Result<ChannelReply, NoEvent>,
+    Result<(), Unspent<TxId>>,
+    Result<(), Unspent<RxId>>,
+    Result<(), NoEvent>,
 ) {
     (
         desk.spend_sender(topic, tx),

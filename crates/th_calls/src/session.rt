@@ -50,6 +50,10 @@ pub fn look(session: &Session<LocalDesk>) -> usize {
     session.receipts().len().max(session.segments().len())
 }
 
+pub fn forget(session: &mut Session<LocalDesk>) {
+    session.let_go(Keeping::Nothing);
+}
+
 pub fn make(alloc: Global) -> Session<LocalDesk> {
     Session::new(alloc)
 }

@@ -5,11 +5,8 @@ use th_log::Segment;
 use th_model::{BCall, BReply, Value, WCall, WReply};
 use th_ring::RingShelf;
 use th_traces::{
-    BroadcastLines, BroadcastTrace, Draft, Entry, Head, Version, WatchLines, WatchTrace,
-    gives_broadcast_value, gives_watch_value, laws, print_broadcast_entry, print_end, print_entry,
-    print_watch_entry, read_broadcast_call, read_broadcast_reply, read_end, read_entry,
-    read_picture, read_watch_call, read_watch_reply, says_broadcast_reply, says_watch_reply,
-    spells_broadcast_reply, spells_watch_reply,
+    BroadcastLines, BroadcastTrace, Draft, EntryLines, PictureLines, Version, WatchLines,
+    WatchTrace, laws, print_end, print_entry, read_end, read_picture, says_reply, spells_reply,
 };
 use th_watch::Watch;
 
@@ -52,30 +49,29 @@ pub fn print_watch_trace(segment: &Segment<Watch<Value>>, out: &mut Vec<u8>) -> 
 }
 
 pub fn print_entries(
-    entry: &Entry,
+    alloc: Global,
     news: (&BCall<Value>, &BReply<Value>),
     light: (&WCall<Value>, &WReply<Value>),
     out: &mut Vec<u8>,
 ) {
-    let _ = print_entry(entry, out);
-    let _ = print_broadcast_entry(news.0, news.1, out);
-    let _ = print_watch_entry(light.0, light.1, out);
+    let _ = print_entry(news.0, news.1, out);
+    let _ = print_entry(light.0, light.1, out);
     let _ = print_end(7, out);
+    if let Ok(mut room) = Vec::with_capacity(alloc, 2000) {
+        news.0.put_call(&mut room);
+    }
 }
 
-pub fn read_broadcast(alloc: Global, version: Version, call: &BCall<Value>, line: &[u8]) {
-    let _ = read_broadcast_call(alloc, version, line);
-    let _ = read_broadcast_reply(alloc, call, line);
+pub fn read_broadcast(alloc: Global, version: Version, line: &[u8]) {
+    let _ = BCall::<Value>::read_call(alloc, version, line);
 }
 
-pub fn read_watch(alloc: Global, call: &WCall<Value>, line: &[u8]) {
-    let _ = read_watch_call(alloc, line);
-    let _ = read_watch_reply(alloc, call, line);
+pub fn read_watch(alloc: Global, line: &[u8]) {
+    let _ = WCall::<Value>::read_call(alloc, (), line);
 }
 
-pub fn read_lines(alloc: Global, draft: &mut Draft, head: Head, line: &[u8]) -> Draft {
+pub fn read_lines(alloc: Global, draft: &mut Draft, line: &[u8]) -> Draft {
     let _ = read_picture(alloc, draft, line);
-    let _ = read_entry(alloc, head, line, line);
     let _ = read_end(line);
     Draft::new()
 }
@@ -86,19 +82,21 @@ pub fn tell_broadcast(
     reply: &BReply<Value>,
     line: &[u8],
 ) -> (Version, bool, bool) {
-    let gives = gives_broadcast_value(call);
-    let says = says_broadcast_reply(gives, line);
+    let gives = call.gives_value();
+    let says = says_reply::<BCall<Value>>(gives, line);
+    let own = BCall::<Value>::says_own_reply(b"value", Some(line));
+    let _ = BCall::<Value>::reply_spelling(reply);
     (
         version.with_call(call),
-        says,
-        spells_broadcast_reply(line, reply),
+        says && own,
+        spells_reply::<BCall<Value>>(line, reply),
     )
 }
 
 pub fn tell_watch(call: &WCall<Value>, reply: &WReply<Value>, line: &[u8]) -> (bool, bool) {
-    let gives = gives_watch_value(call);
+    let gives = call.gives_value();
     (
-        says_watch_reply(gives, line),
-        spells_watch_reply(line, reply),
+        says_reply::<WCall<Value>>(gives, line),
+        spells_reply::<WCall<Value>>(line, reply),
     )
 }

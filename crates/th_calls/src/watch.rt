@@ -30,15 +30,12 @@ pub fn look_at_parts(parts: &PictureParts<u64>, other: &PictureParts<u64>) -> ([
     (numbers, parts.is_same(other))
 }
 
-pub fn look(light: &Watch<u64>, tx: TxId, rx: RxId) -> [u64; 6] {
+pub fn look(light: &Watch<u64>, tx: TxId, rx: RxId) -> [u64; 5] {
     let _ = light.is_unseen(rx);
-    let _ = light.next_reader(Some(rx));
     let _ = light.has_sender(tx);
-    let _ = light.next_sender(Some(tx));
     [
         light.version(),
         *light.value(),
-        light.reader_count(),
         light.sender_count(),
         light.next_number(),
         light.live(),

@@ -1,12 +1,10 @@
 -- What is printed of a broadcast channel's history is a legal text.
-use Rattle.std.proofs.Common.{◌≡◌, ℕ, ◌-◌, ◌<◌, ◌≤◌, ◌^◌, Bool, true, false, List, [], ◌∷◌, ◌++◌, length, map, refl, sym, ap, ◌∙◌, subst, arith, Option, Some, None}
+use Rattle.std.proofs.Common.{◌≡◌, ℕ, ◌-◌, ◌<◌, ◌≤◌, ◌^◌, Bool, true, List, [], ◌∷◌, length, map, refl, sym, ap, subst, arith, Option, Some, None}
 use Rattle.std.specs.Prelude.{codes, slice_get, ◌==◌, nat_lt}
 use Rattle.std.specs.Bool.{Decides}
 use Rattle.std.specs.Fmt.{decimal}
 use Rattle.std.specs.List.{AllByRecursion}
 use Rattle.std.specs.Map.{keys_of}
-use Rattle.std.proofs.lemmas.Bool.{false≢true}
-use Rattle.std.proofs.lemmas.List.{length-map}
 use Rattle.th_model.specs.declared.broadcast.BCall.{BCall}
 use Rattle.th_model.specs.declared.broadcast.BCall.TheVariants.{Send, TryRecv, Recv, Subscribe, SubscribeOldest, Resubscribe, CloneTx, DropTx, DropRx, Queued, Left, Readers}
 use Rattle.th_model.specs.declared.broadcast.BReply.{BReply}
@@ -24,20 +22,19 @@ use Rattle.th_traces.specs.declared.head.Version.{Version}
 use Rattle.th_traces.specs.declared.head.Version.TheVariants.{One, Two}
 use Rattle.th_traces.specs.declared.picture.Picture.TheVariants as picture
 use Rattle.th_traces.specs.Broadcast.{call_fields, reply_fields, standing, told}
-use Rattle.th_traces.specs.BroadcastWords.{HasFields, IsReplyTo, reply_of, value_given}
-use Rattle.th_traces.specs.Spelled.{Bytes, call_line, end_line, entry_lines, reply_line}
+use Rattle.th_traces.specs.BroadcastWords.{HandsBack, HasFields, IsCall, IsReplyTo, ReplyFits, grammar, reply_of, value_given}
+use Rattle.th_traces.specs.Spelled.{Bytes, call_line, reply_line}
 use Rattle.th_traces.specs.Tables.{IsNumber}
-use Rattle.th_traces.specs.Traces.{broadcast_fields, broadcast_trace}
+use Rattle.th_traces.specs.Traces.{broadcast_trace}
 use Rattle.th_traces.specs.Versions.{digit, has_call, version_from, version_of, version_with}
 use Rattle.th_traces.proofs.BroadcastAgain.{broadcast-again}
 use Rattle.th_traces.proofs.BroadcastSpelling.{reply_of-again, reply_of-found}
-use Rattle.th_check.specs.Histories.{HasHistory, IsBroadcastEntry}
-use Rattle.th_check.specs.Printed.{HasBroadcastFields, IsBroadcastPrinted}
-use Rattle.th_check.specs.Stages.{most_entries}
+use Rattle.th_check.specs.Printed.{IsBroadcastPrinted, IsPrinted}
+use Rattle.th_check.specs.Stages.{GivenBy, most_entries}
 use Rattle.th_check.specs.Verdicts.{IsLegalText}
 use Rattle.th_check.proofs.Handing.{chosen, one_of}
-use Rattle.th_check.proofs.PrintedLines.{IsEntryPlain, IsLine, IsPlain, IsStanding, IsTold, all_map, last_said, number, number_said, plain, senders_plain, traced, value, value_said, word}
-use Rattle.th_check.proofs.Tracing.{legal}
+use Rattle.th_check.proofs.PrintedLines.{IsLine, IsPlain, IsStanding, ArePlainFields, last_said, number, number_said, plain, senders_plain, value, value_said, word}
+use Rattle.th_check.proofs.PrintedEntries.{all_with, printed_legal, says}
 
 abbrev Entry : Type 0
 Entry = BCall Bytes × BReply Bytes
@@ -57,7 +54,7 @@ call_plain (Queued k) h = number_said (codes "C ") (codes "queued") refl refl k.
 call_plain (Left k) h = number_said (codes "C ") (codes "left") refl refl k.0 h
 call_plain (Readers k) h = number_said (codes "C ") (codes "readers") refl refl k.0 h
 
-reply_plain : (reply : BReply Bytes) → HasBroadcastFields reply → IsLine (reply_line (reply_fields reply))
+reply_plain : (reply : BReply Bytes) → ReplyFits reply → IsLine (reply_line (reply_fields reply))
 reply_plain (Sent n) h = number_said (codes "R ") (codes "sent") refl refl n h
 reply_plain (NoReceivers v) h = word 4096 (reply_line (codes "no-receivers" ∷ [])) refl
 reply_plain (Exhausted v) h = word 4096 (reply_line (codes "exhausted" ∷ [])) refl
@@ -72,11 +69,9 @@ reply_plain Done h = word 4096 (reply_line (codes "done" ∷ [])) refl
 reply_plain TooMany h = word 4096 (reply_line (codes "too-many" ∷ [])) refl
 reply_plain (NoHandle back) h = word 4096 (reply_line (codes "no-handle" ∷ [])) refl
 
-entry_plain : (e : Entry) → IsBroadcastPrinted e → IsEntryPlain (call_fields e.0, reply_fields e.1)
-entry_plain e h = (call_plain e.0 h.0, reply_plain e.1 h.1)
-
 -- the lines of a picture
-standing_plain : (next tail : ℕ) → next < 2 ^ 64 → tail < 2 ^ 64 → (places : Places) → AllByRecursion (λ k. (0 < k) × (k < next)) (keys_of places) → ArePlaces tail places
+standing_plain : (next tail : ℕ) → next < 2 ^ 64 → tail < 2 ^ 64 → (places : Places)
+    → AllByRecursion (λ k. (0 < k) × (k < next)) (keys_of places) → ArePlaces tail places
     → AllByRecursion IsStanding (map standing places)
 standing_plain next tail fits small [] keys within = tt
 standing_plain next tail fits small (x ∷ xs) keys within = (
@@ -88,16 +83,25 @@ digit_plain : (version : Version) → IsPlain 100 (digit version)
 digit_plain One = word 100 (codes "1") refl
 digit_plain Two = word 100 (codes "2") refl
 
-picture_told : (version : Version) (p : Picture Bytes) → IsSound p → AllByRecursion IsValue p.window.kept → IsTold (told version p)
+picture_told : (version : Version) (p : Picture Bytes) → IsSound p → AllByRecursion IsValue p.window.kept → ArePlainFields (told version p)
 picture_told version p s values =
     let w = p.window in
     let c : IsNumber w.capacity = omega (arith, s.window.capacity.2) in
     let low : IsNumber w.low = omega (arith, s.window.kept, s.tail) in
     record {
       head = plain 100 (codes "TRACE" ∷ digit version ∷ codes "B" ∷ decimal w.capacity ∷ [])
-          (word 100 (codes "TRACE") refl, (digit_plain version, (word 100 (codes "B") refl, (number 100 w.capacity (omega arith) c, tt)))) (omega arith);
-      start = plain 100 (codes "AT" ∷ decimal w.low ∷ decimal w.tail ∷ codes "NEXT" ∷ decimal p.next ∷ [])
-          (word 100 (codes "AT") refl, (number 100 w.low (omega arith) low, (number 100 w.tail (omega arith) s.tail, (word 100 (codes "NEXT") refl, (number 100 p.next (omega arith) s.handles.fits, tt))))) (omega arith);
+          (word 100 (codes "TRACE") refl, (digit_plain version, (word 100 (codes "B") refl, (number 100 w.capacity (omega arith) c, tt))))
+          (omega arith);
+      start = plain 100 (codes "AT" ∷ decimal w.low ∷ decimal w.tail ∷ codes "NEXT" ∷ decimal p.next ∷ []) (
+        word 100 (codes "AT") refl,
+        (
+          number 100 w.low (omega arith) low,
+          (
+            number 100 w.tail (omega arith) s.tail,
+            (word 100 (codes "NEXT") refl, (number 100 p.next (omega arith) s.handles.fits, tt)),
+          ),
+        ),
+      ) (omega arith);
       kept = values;
       senders = senders_plain p.next s.handles.fits p.senders s.handles.by_sender.given;
       receivers = standing_plain p.next w.tail s.handles.fits s.tail w.places s.handles.by_receiver.given s.window.places;
@@ -123,7 +127,8 @@ either : (version : Version) (call : BCall Bytes) → has_call One call ≡ true
 either One call h = h
 either Two call h = refl
 
-first_has : (version : Version) (call : BCall Bytes) (calls : List (BCall Bytes)) → has_call (version_from (version_with version call) calls) call ≡ true
+first_has : (version : Version) (call : BCall Bytes) (calls : List (BCall Bytes))
+    → has_call (version_from (version_with version call) calls) call ≡ true
 first_has version (SubscribeOldest tx) calls = ap (λ (v : Version). has_call {T = Bytes} v (SubscribeOldest tx)) (two_stays calls)
 first_has version (Send tx v) calls = either (version_from version calls) (Send tx v) refl
 first_has version (TryRecv rx) calls = either (version_from version calls) (TryRecv rx) refl
@@ -140,16 +145,10 @@ first_has version (Readers tx) calls = either (version_from version calls) (Read
 abbrev calls_of : {R : Type 0} → List (BCall Bytes × R) → List (BCall Bytes)
 calls_of entries = map (λ e. e.0) entries
 
-all_has : {R : Type 0} (version : Version) (entries : List (BCall Bytes × R)) → AllByRecursion (λ e. has_call (version_from version (calls_of entries)) e.0 ≡ true) entries
+all_has : {R : Type 0} (version : Version) (entries : List (BCall Bytes × R))
+    → AllByRecursion (λ e. has_call (version_from version (calls_of entries)) e.0 ≡ true) entries
 all_has version [] = tt
 all_has version (e ∷ es) = (first_has version e.0 (calls_of es), all_has (version_with version e.0) es)
-
--- what is handed back is the call's own value
-abbrev HandsBack : BCall Bytes → BReply Bytes → Type 0
-HandsBack call (NoReceivers back) = value_given call ≡ Some back
-HandsBack call (Exhausted back) = value_given call ≡ Some back
-HandsBack call (NoHandle back) = value_given call ≡ back
-HandsBack call reply = Unit {0}
 
 indexed : (call : BCall Bytes) (e : Endless Bytes) (o : Option ℕ) (given : ℕ → BReply Bytes × Endless Bytes) → value_given call ≡ None
     → ((i : ℕ) → HandsBack call (given i).0) → HandsBack call (at_index e o given).0
@@ -190,56 +189,27 @@ gives e (Queued tx) = chosen (HandsBack (Queued tx)) (is_sender e.senders tx.0) 
 gives e (Left rx) = indexed (Left rx) e (place_of e.index rx.0) _ refl (λ i. tt)
 gives e (Readers tx) = chosen (HandsBack (Readers tx)) (is_sender e.senders tx.0) _ _ tt refl
 
-is_reply : (call : BCall Bytes) (reply : BReply Bytes) → HandsBack call reply → HasBroadcastFields reply → IsReplyTo call reply
-is_reply call (Sent n) h k = k
-is_reply call (NoReceivers back) h k = h
-is_reply call (Exhausted back) h k = h
-is_reply call (Value v) h k = k
-is_reply call Empty h k = tt
-is_reply call Closed h k = tt
-is_reply call (Lagged n) h k = k
-is_reply call (NewRx rx) h k = k
-is_reply call (NewTx tx) h k = k
-is_reply call (Count n) h k = k
-is_reply call Done h k = tt
-is_reply call TooMany h k = tt
-is_reply call (NoHandle back) h k = h
+-- so a reply of the machine is one to its call
+answers : (state : Endless Bytes) (call : BCall Bytes) (reply : BReply Bytes) → reply ≡ (step state call).0 → ReplyFits reply
+    → IsReplyTo call reply
+answers state call reply own fits = (subst (HandsBack call) (sym own) (gives state call), fits)
 
--- a line says the machine's own reply exactly where it is its spelling
-pub says_own : (state : Endless Bytes) (call : BCall Bytes) (line : List ℕ) (reply : BReply Bytes) → line ≡ reply_line (reply_fields reply)
-    → HasBroadcastFields reply → reply ≡ (step state call).0 → reply_of call line ≡ Some reply
-says_own state call line reply e fields own =
-    ap (reply_of call) e ∙ reply_of-again call reply (is_reply call reply (subst (HandsBack call) (sym own) (gives state call)) fields)
-
-pub says_else : (call : BCall Bytes) (line : List ℕ) (reply : BReply Bytes) (b : Bool) → Decides b (line ≡ reply_line (reply_fields reply)) → b ≡ false
-    → reply_of call line ≡ Some reply → ⊥
-says_else call line reply b d other e = false≢true (sym other ∙ d.1 (reply_of-found call line reply e).1)
-
-each_entry : (version : Version) (state : Endless Bytes) (entries : List Entry) → IsRun machines.broadcast state entries → AllByRecursion IsBroadcastPrinted entries
-    → AllByRecursion (λ e. has_call version e.0 ≡ true) entries → AllByRecursion (IsBroadcastEntry version) entries
-each_entry version state [] run printed has = tt
-each_entry version state (e ∷ es) run printed has =
-    let back : HandsBack e.0 e.1 = subst (HandsBack e.0) (sym run.1) (gives state e.0) in (
-      ((printed.0.0, has.0), is_reply e.0 e.1 back printed.0.1),
-      each_entry version (step state e.0).1 es run.2 printed.1 has.1,
-    )
+pub broadcast_says : (line : List ℕ) (reply : BReply Bytes) (b : Bool) → Decides b (line ≡ reply_line (reply_fields reply))
+    → ReplyFits reply
+    → (call : BCall Bytes) → GivenBy machines.broadcast call reply → Decides b (reply_of call line ≡ Some reply)
+broadcast_says = says machines.broadcast grammar IsReplyTo ReplyFits answers reply_of-found reply_of-again
 
 -- the text of a legal history
-pub broadcast_legal : (p : Picture Bytes) (entries : List Entry) → IsSound p → IsRun machines.broadcast (whole p) entries → AllByRecursion IsValue p.window.kept
-    → AllByRecursion IsBroadcastPrinted entries → length entries ≤ most_entries → IsLegalText (lines_of (broadcast_trace p entries)) (length entries)
+pub broadcast_legal : (p : Picture Bytes) (entries : List Entry) → IsSound p → IsRun machines.broadcast (whole p) entries
+    → AllByRecursion IsValue p.window.kept
+    → AllByRecursion IsBroadcastPrinted entries → length entries ≤ most_entries → IsLegalText (lines_of (broadcast_trace p entries))
+    (length entries)
 broadcast_legal p entries sound run values printed few =
     let version = version_of (calls_of entries) in
-    let es = broadcast_fields entries in
-    let same : length es ≡ length entries = length-map entries _ in
-    let history : HasHistory (head.Broadcast version) (picture.Broadcast p) (entry_lines es ++ end_line (length es) ∷ []) (length entries) = record {
-      entries = entries;
-      run = run;
-      each = each_entry version (whole p) entries run printed (all_has One entries);
-      told = ap (λ (n : ℕ). entry_lines es ++ end_line n ∷ []) same;
-      counted = refl;
-      most = few;
-    } in
-    legal (lines_of (broadcast_trace p entries)) (length entries)
-    (traced (told version p) es (head.Broadcast version) (picture.Broadcast p) (length entries) (picture_told version p sound values)
-    (all_map IsBroadcastPrinted IsEntryPlain (λ e. (call_fields e.0, reply_fields e.1)) entry_plain entries printed)
-    (omega (arith, same, few)) (broadcast-again version p sound values) history)
+    let each = all_with IsBroadcastPrinted (λ (e : Entry). has_call version e.0 ≡ true) (IsPrinted (IsCall version) ReplyFits)
+    (λ e h has. ((h.0, has), h.1)) entries printed
+    (all_has One entries) in
+    printed_legal machines.broadcast grammar IsReplyTo ReplyFits answers (IsCall version) (λ call h. call_plain call h.0) reply_plain
+    (head.Broadcast version) (picture.Broadcast p) (whole p) (λ lines count h. h) (told version p) (picture_told version p sound values)
+    (broadcast-again version p sound values)
+    entries run each few

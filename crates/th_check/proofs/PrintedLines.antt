@@ -17,7 +17,7 @@ use Rattle.th_traces.specs.declared.head.Head.{Head}
 use Rattle.th_traces.specs.declared.picture.Picture.{Picture}
 use Rattle.th_traces.specs.declared.place.Place.TheVariants.{Nothing}
 use Rattle.th_traces.specs.Pictures.{Begun, leads}
-use Rattle.th_traces.specs.Spelled.{Bytes, Told, call_line, end_line, entry_lines, kept_line, line, picture_lines, receiver_line, reply_line, sender_line, start_line, text, trace_lines}
+use Rattle.th_traces.specs.Spelled.{Bytes, PictureFields, call_line, end_line, entry_lines, kept_line, line, picture_lines, receiver_line, reply_line, sender_line, start_line, text, trace_lines}
 use Rattle.th_traces.specs.Tables.{IsNumber}
 use Rattle.th_traces.proofs.Further.{not_true}
 use Rattle.th_check.specs.Histories.{HasHistory, IsTrace}
@@ -50,7 +50,8 @@ not_cut bytes h = and_false _ _ (no_cr bytes (length bytes - 1) h)
 
 read_again : (line : Bytes) → IsLine line → line_of true line ≡ Good line
 read_again line p =
-    ap (λ (b : Bool). cond b Long (Good (cond (ends_with_byte 13 line) (take (length line - 1) line) line))) (le-ltb 4096 (length line) p.short)
+    ap (λ (b : Bool). cond b Long (Good (cond (ends_with_byte 13 line) (take (length line - 1) line) line)))
+    (le-ltb 4096 (length line) p.short)
     ∙ ap (λ (b : Bool). Good (cond b (take (length line - 1) line) line)) (not_cut line p.free)
 
 -- the lines of a text
@@ -111,7 +112,8 @@ plain most fs h few =
     let l = fields most fs h in
     record { free = l.free; short = omega (arith, l.short, few) }
 
-pub marked : (mark : Bytes) (most : ℕ) (fs : List Bytes) → IsPlain 2 mark → AllByRecursion (IsPlain most) fs → room most fs ≤ 4000 → IsLine (mark ++ line fs)
+pub marked : (mark : Bytes) (most : ℕ) (fs : List Bytes) → IsPlain 2 mark → AllByRecursion (IsPlain most) fs → room most fs ≤ 4000
+    → IsLine (mark ++ line fs)
 marked mark most fs m h few =
     let l = fields most fs h in
     record {
@@ -120,7 +122,8 @@ marked mark most fs m h few =
     }
 
 -- lines of entries: behind a mark and a word stand a number, another field, or both
-module _ (mark name : Bytes) (m : (list_all is_value_byte mark && nat_le (length mark) 2) ≡ true) (w : (list_all is_value_byte name && nat_le (length name) 1024) ≡ true) where
+module _ (mark name : Bytes) (m : (list_all is_value_byte mark && nat_le (length mark) 2) ≡ true)
+    (w : (list_all is_value_byte name && nat_le (length name) 1024) ≡ true) where
   pub last_said : (last : Bytes) → IsPlain 1024 last → IsLine (mark ++ line (name ∷ last ∷ []))
   last_said last h = marked mark 1024 (name ∷ last ∷ []) (word 2 mark m) (word 1024 name w, (h, tt)) (omega arith)
 
@@ -129,13 +132,15 @@ module _ (mark name : Bytes) (m : (list_all is_value_byte mark && nat_le (length
 
   pub value_said : (n : ℕ) (v : Bytes) → IsNumber n → IsValue v → IsLine (mark ++ line (name ∷ decimal n ∷ v ∷ []))
   value_said n v h k =
-      marked mark 1024 (name ∷ decimal n ∷ v ∷ []) (word 2 mark m) (word 1024 name w, (number 1024 n (omega arith) h, (value v k, tt))) (omega arith)
+      marked mark 1024 (name ∷ decimal n ∷ v ∷ []) (word 2 mark m) (word 1024 name w, (number 1024 n (omega arith) h, (value v k, tt)))
+      (omega arith)
 
 pub all_both : {A : Type 0} (P : A → Type 0) (xs ys : List A) → AllByRecursion P xs → AllByRecursion P ys → AllByRecursion P (xs ++ ys)
 all_both P [] ys h k = k
 all_both P (x ∷ xs) ys h k = (h.0, all_both P xs ys h.1 k)
 
-pub all_map : {A B : Type 0} (P : A → Type 0) (Q : B → Type 0) (f : A → B) → ((a : A) → P a → Q (f a)) → (xs : List A) → AllByRecursion P xs → AllByRecursion Q (map f xs)
+pub all_map : {A B : Type 0} (P : A → Type 0) (Q : B → Type 0) (f : A → B) → ((a : A) → P a → Q (f a)) → (xs : List A)
+    → AllByRecursion P xs → AllByRecursion Q (map f xs)
 all_map P Q f ok [] h = tt
 all_map P Q f ok (x ∷ xs) h = (ok x h.0, all_map P Q f ok xs h.1)
 
@@ -143,7 +148,7 @@ all_map P Q f ok (x ∷ xs) h = (ok x h.0, all_map P Q f ok xs h.1)
 abbrev pub IsStanding : ℕ × Bytes → Type 0
 IsStanding rx = IsNumber rx.0 × IsPlain 1024 rx.1
 
-pub record IsTold (t : Told) : Type 0 where
+pub record ArePlainFields (t : PictureFields) : Type 0 where
   pub head : IsLine (line t.head)
   pub start : IsLine (start_line t)
   pub kept : AllByRecursion IsValue t.kept
@@ -151,7 +156,8 @@ pub record IsTold (t : Told) : Type 0 where
   pub receivers : AllByRecursion IsStanding t.receivers
 
 -- the numbers of live handles
-pub senders_plain : (next : ℕ) → next < 2 ^ 64 → (senders : List ℕ) → AllByRecursion (λ k. (0 < k) × (k < next)) senders → AllByRecursion IsNumber senders
+pub senders_plain : (next : ℕ) → next < 2 ^ 64 → (senders : List ℕ) → AllByRecursion (λ k. (0 < k) × (k < next)) senders
+    → AllByRecursion IsNumber senders
 senders_plain next fits [] h = tt
 senders_plain next fits (x ∷ xs) h = (omega (arith, h.0.1, fits), senders_plain next fits xs h.1)
 
@@ -159,16 +165,21 @@ kept_plain : (v : Bytes) → IsValue v → IsLine (kept_line v)
 kept_plain v h = plain 1024 (codes "KEEP" ∷ v ∷ []) (word 1024 (codes "KEEP") refl, (value v h, tt)) (omega arith)
 
 sender_plain : (tx : ℕ) → IsNumber tx → IsLine (sender_line tx)
-sender_plain tx h = plain 1024 (codes "TX" ∷ decimal tx ∷ []) (word 1024 (codes "TX") refl, (number 1024 tx (omega arith) h, tt)) (omega arith)
+sender_plain tx h =
+    plain 1024 (codes "TX" ∷ decimal tx ∷ []) (word 1024 (codes "TX") refl, (number 1024 tx (omega arith) h, tt)) (omega arith)
 
 receiver_plain : (rx : ℕ × Bytes) → IsStanding rx → IsLine (receiver_line rx)
-receiver_plain rx h = plain 1024 (codes "RX" ∷ decimal rx.0 ∷ rx.1 ∷ []) (word 1024 (codes "RX") refl, (number 1024 rx.0 (omega arith) h.0, (h.1, tt))) (omega arith)
+receiver_plain rx h =
+    plain 1024 (codes "RX" ∷ decimal rx.0 ∷ rx.1 ∷ []) (word 1024 (codes "RX") refl, (number 1024 rx.0 (omega arith) h.0, (h.1, tt)))
+    (omega arith)
 
-pub picture_plain : (t : Told) → IsTold t → AllByRecursion IsLine (picture_lines t)
+pub picture_plain : (t : PictureFields) → ArePlainFields t → AllByRecursion IsLine (picture_lines t)
 picture_plain t h =
     let begin : AllByRecursion IsLine (codes "BEGIN" ∷ []) = (word 4096 (codes "BEGIN") refl, tt) in
-    let rxs = all_both IsLine (map receiver_line t.receivers) (codes "BEGIN" ∷ []) (all_map IsStanding IsLine receiver_line receiver_plain t.receivers h.receivers) begin in
-    let txs = all_both IsLine (map sender_line t.senders) (map receiver_line t.receivers ++ codes "BEGIN" ∷ []) (all_map IsNumber IsLine sender_line sender_plain t.senders h.senders) rxs in
+    let rxs = all_both IsLine (map receiver_line t.receivers) (codes "BEGIN" ∷ [])
+    (all_map IsStanding IsLine receiver_line receiver_plain t.receivers h.receivers) begin in
+    let txs = all_both IsLine (map sender_line t.senders) (map receiver_line t.receivers ++ codes "BEGIN" ∷ [])
+    (all_map IsNumber IsLine sender_line sender_plain t.senders h.senders) rxs in
     (h.head, (h.start, all_both IsLine (map kept_line t.kept) _ (all_map IsValue IsLine kept_line kept_plain t.kept h.kept) txs))
 
 -- the lines of entries
@@ -180,10 +191,12 @@ entries_plain [] h = tt
 entries_plain (e ∷ es) h = (h.0.0, (h.0.1, entries_plain es h.1))
 
 pub end_plain : (count : ℕ) → IsNumber count → IsLine (end_line count)
-end_plain count h = plain 1024 (codes "END" ∷ decimal count ∷ []) (word 1024 (codes "END") refl, (number 1024 count (omega arith) h, tt)) (omega arith)
+end_plain count h =
+    plain 1024 (codes "END" ∷ decimal count ∷ []) (word 1024 (codes "END") refl, (number 1024 count (omega arith) h, tt)) (omega arith)
 
 -- the lines of a whole trace are those of its picture, and below them those of its history
-pub traced : (t : Told) (es : List (List Bytes × List Bytes)) (h : Head) (p : Picture) (count : ℕ) → IsTold t → AllByRecursion IsEntryPlain es → IsNumber (length es)
+pub traced : (t : PictureFields) (es : List (List Bytes × List Bytes)) (h : Head) (p : Picture) (count : ℕ) → ArePlainFields t
+    → AllByRecursion IsEntryPlain es → IsNumber (length es)
     → leads Nothing (picture_lines t) ≡ Some (Begun h p) → HasHistory h p (entry_lines es ++ end_line (length es) ∷ []) count
     → IsTrace (lines_of (text (trace_lines t es))) count
 traced t es h p count told each few drawn history = record {

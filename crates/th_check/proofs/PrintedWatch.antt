@@ -1,13 +1,11 @@
 -- What is printed of a watch channel's history is a legal text.
-use Rattle.std.proofs.Common.{◌≡◌, ℕ, ◌-◌, ◌<◌, ◌≤◌, ◌^◌, Bool, true, false, List, [], ◌∷◌, ◌++◌, length, map, refl, sym, ap, ◌∙◌, subst, arith, Option, Some, None}
+use Rattle.std.proofs.Common.{◌≡◌, ℕ, ◌-◌, ◌<◌, ◌≤◌, ◌^◌, Bool, true, false, List, [], ◌∷◌, length, map, refl, sym, subst, arith, Option, Some, None}
 use Rattle.std.specs.Prelude.{codes, nat_eq, ◌==◌}
 use Rattle.std.specs.Bool.{Decides}
 use Rattle.std.specs.Cmp.Lexicographic.{pointwise}
 use Rattle.std.specs.Fmt.{decimal}
 use Rattle.std.specs.List.{AllByRecursion}
 use Rattle.std.specs.Map.{keys_of}
-use Rattle.std.proofs.lemmas.Bool.{false≢true}
-use Rattle.std.proofs.lemmas.List.{length-map}
 use Rattle.th_model.specs.declared.watch.Edit.TheVariants.{Set, Differ, Quiet}
 use Rattle.th_model.specs.declared.watch.WCall.{WCall}
 use Rattle.th_model.specs.declared.watch.WCall.TheVariants.{Send, Replace, EditBy, Borrow, Take, HasChanged, TryChanged, Changed, MarkChanged, MarkUnchanged, Subscribe, CloneRx, CloneTx, DropTx, DropRx, IsClosed, Readers}
@@ -22,20 +20,19 @@ use Rattle.th_lines.specs.Lines.{lines_of}
 use Rattle.th_log.specs.History.{IsRun}
 use Rattle.th_traces.specs.declared.head.Head.TheVariants as head
 use Rattle.th_traces.specs.declared.picture.Picture.TheVariants as picture
-use Rattle.th_traces.specs.Spelled.{Bytes, call_line, end_line, entry_lines, reply_line}
-use Rattle.th_traces.specs.Traces.{watch_fields, watch_trace}
+use Rattle.th_traces.specs.Spelled.{Bytes, call_line, reply_line}
+use Rattle.th_traces.specs.Traces.{watch_trace}
 use Rattle.th_traces.specs.Watch.{call_fields, reply_fields, seen_or_unseen, standing, told}
-use Rattle.th_traces.specs.WatchWords.{IsCall, IsReplyTo, reply_of, value_given}
+use Rattle.th_traces.specs.WatchWords.{HandsBack, IsCall, IsReplyTo, ReplyFits, grammar, reply_of, value_given}
 use Rattle.th_traces.proofs.WatchAgain.{watch-again}
 use Rattle.th_traces.proofs.WatchSpelling.{reply_of-again, reply_of-found}
-use Rattle.th_check.specs.Histories.{HasHistory, IsWatchEntry}
 use Rattle.th_check.specs.Points.{watch_machine}
-use Rattle.th_check.specs.Printed.{HasWatchFields, IsWatchPrinted}
-use Rattle.th_check.specs.Stages.{most_entries}
+use Rattle.th_check.specs.Printed.{IsWatchPrinted}
+use Rattle.th_check.specs.Stages.{GivenBy, most_entries}
 use Rattle.th_check.specs.Verdicts.{IsLegalText}
 use Rattle.th_check.proofs.Handing.{chosen, one_of}
-use Rattle.th_check.proofs.PrintedLines.{IsEntryPlain, IsLine, IsPlain, IsStanding, IsTold, all_map, last_said, marked, number, number_said, plain, senders_plain, traced, value, value_said, word}
-use Rattle.th_check.proofs.Tracing.{legal}
+use Rattle.th_check.proofs.PrintedLines.{IsLine, IsPlain, IsStanding, ArePlainFields, last_said, marked, number, number_said, plain, senders_plain, value, value_said, word}
+use Rattle.th_check.proofs.PrintedEntries.{printed_legal, says}
 
 abbrev Entry : Type 0
 Entry = WCall Bytes × WReply Bytes
@@ -63,9 +60,11 @@ call_plain (IsClosed k) h = number_said (codes "C ") (codes "is-closed") refl re
 call_plain (Readers k) h = number_said (codes "C ") (codes "readers") refl refl k.0 h
 
 shown_plain : (name v : Bytes) → IsPlain 1024 name → IsValue v → IsLine (reply_line (codes "shown" ∷ name ∷ v ∷ []))
-shown_plain name v n h = marked (codes "R ") 1024 (codes "shown" ∷ name ∷ v ∷ []) (word 2 (codes "R ") refl) (word 1024 (codes "shown") refl, (n, (value v h, tt))) (omega arith)
+shown_plain name v n h =
+    marked (codes "R ") 1024 (codes "shown" ∷ name ∷ v ∷ []) (word 2 (codes "R ") refl)
+    (word 1024 (codes "shown") refl, (n, (value v h, tt))) (omega arith)
 
-reply_plain : (reply : WReply Bytes) → HasWatchFields reply → IsLine (reply_line (reply_fields reply))
+reply_plain : (reply : WReply Bytes) → ReplyFits reply → IsLine (reply_line (reply_fields reply))
 reply_plain Done h = word 4096 (reply_line (codes "done" ∷ [])) refl
 reply_plain (NoReceivers v) h = word 4096 (reply_line (codes "no-receivers" ∷ [])) refl
 reply_plain (Exhausted v) h = word 4096 (reply_line (codes "exhausted" ∷ [])) refl
@@ -87,36 +86,33 @@ reply_plain (Count n) h = number_said (codes "R ") (codes "count") refl refl n h
 reply_plain TooMany h = word 4096 (reply_line (codes "too-many" ∷ [])) refl
 reply_plain (NoHandle back) h = word 4096 (reply_line (codes "no-handle" ∷ [])) refl
 
-entry_plain : (e : Entry) → IsWatchPrinted e → IsEntryPlain (call_fields e.0, reply_fields e.1)
-entry_plain e h = (call_plain e.0 h.0, reply_plain e.1 h.1)
-
 -- the lines of a picture
 state_plain : (unseen : Bool) → IsPlain 1024 (seen_or_unseen unseen)
 state_plain true = word 1024 (codes "unseen") refl
 state_plain false = word 1024 (codes "seen") refl
 
-standing_plain : (next : ℕ) → next < 2 ^ 64 → (readers : Kept Bool) → AllByRecursion (λ k. (0 < k) × (k < next)) (keys_of readers) → AllByRecursion IsStanding (map standing readers)
+standing_plain : (next : ℕ) → next < 2 ^ 64 → (readers : Kept Bool) → AllByRecursion (λ k. (0 < k) × (k < next)) (keys_of readers)
+    → AllByRecursion IsStanding (map standing readers)
 standing_plain next fits [] keys = tt
 standing_plain next fits (x ∷ xs) keys = ((omega (arith, keys.0.1, fits), state_plain x.1), standing_plain next fits xs keys.1)
 
-picture_told : (p : Picture Bytes) → IsSound p → IsValue p.last → IsTold (told p)
+picture_told : (p : Picture Bytes) → IsSound p → IsValue p.last → ArePlainFields (told p)
 picture_told p s value = record {
   head = word 4096 (codes "TRACE 1 W") refl;
-  start = plain 100 (codes "AT" ∷ decimal p.version ∷ codes "NEXT" ∷ decimal p.next ∷ [])
-      (word 100 (codes "AT") refl, (number 100 p.version (omega arith) s.version, (word 100 (codes "NEXT") refl, (number 100 p.next (omega arith) s.handles.fits, tt)))) (omega arith);
+  start = plain 100 (codes "AT" ∷ decimal p.version ∷ codes "NEXT" ∷ decimal p.next ∷ []) (
+    word 100 (codes "AT") refl,
+    (
+      number 100 p.version (omega arith) s.version,
+      (word 100 (codes "NEXT") refl, (number 100 p.next (omega arith) s.handles.fits, tt)),
+    ),
+  ) (omega arith);
   kept = (value, tt);
   senders = senders_plain p.next s.handles.fits p.senders s.handles.by_sender.given;
   receivers = standing_plain p.next s.handles.fits p.readers s.handles.by_receiver.given;
 }
 
--- what is handed back is the call's own value
-abbrev HandsBack : WCall Bytes → WReply Bytes → Type 0
-HandsBack call (NoReceivers back) = value_given call ≡ Some back
-HandsBack call (Exhausted back) = value_given call ≡ Some back
-HandsBack call (NoHandle back) = value_given call ≡ back
-HandsBack call reply = Unit {0}
-
-published : (call : WCall Bytes) (e : Endless Bytes) (v : Bytes) (r : WReply Bytes) → value_given call ≡ Some v → HandsBack call r → HandsBack call (publish e v r).0
+published : (call : WCall Bytes) (e : Endless Bytes) (v : Bytes) (r : WReply Bytes) → value_given call ≡ Some v → HandsBack call r
+    → HandsBack call (publish e v r).0
 published call e v r h k = chosen (HandsBack call) (version_of e == 2 ^ 64 - 1) _ _ h k
 
 marked_by : (call : WCall Bytes) (e : Endless Bytes) (o : Option ℕ) (given : ℕ → WReply Bytes × Endless Bytes) → value_given call ≡ None
@@ -138,20 +134,26 @@ module _ (eq : Bytes → Bytes → Bool) where
   gives e (Send tx v) =
       let P = HandsBack (Send tx v) in
       chosen P (is_sender e.senders tx.0) _ _ (chosen P (length e.marks == 0) _ _ refl (published (Send tx v) e v Done refl tt)) refl
-  gives e (Replace tx v) = chosen (HandsBack (Replace tx v)) (is_sender e.senders tx.0) _ _ (published (Replace tx v) e v (Was e.last) refl tt) refl
-  gives e (EditBy tx (Set v)) = chosen (HandsBack (EditBy tx (Set v))) (is_sender e.senders tx.0) _ _ (published (EditBy tx (Set v)) e v (Modified true) refl tt) refl
+  gives e (Replace tx v) =
+      chosen (HandsBack (Replace tx v)) (is_sender e.senders tx.0) _ _ (published (Replace tx v) e v (Was e.last) refl tt) refl
+  gives e (EditBy tx (Set v)) =
+      chosen (HandsBack (EditBy tx (Set v))) (is_sender e.senders tx.0) _ _ (published (EditBy tx (Set v)) e v (Modified true) refl tt) refl
   gives e (EditBy tx (Differ v)) =
       let P = HandsBack (EditBy tx (Differ v)) in
-      chosen P (is_sender e.senders tx.0) _ _ (chosen P (eq v e.last) _ _ tt (published (EditBy tx (Differ v)) e v (Modified true) refl tt)) refl
+      chosen P (is_sender e.senders tx.0) _ _
+      (chosen P (eq v e.last) _ _ tt (published (EditBy tx (Differ v)) e v (Modified true) refl tt)) refl
   gives e (EditBy tx (Quiet v)) = chosen (HandsBack (EditBy tx (Quiet v))) (is_sender e.senders tx.0) _ _ tt refl
   gives e (Borrow rx) = marked_by (Borrow rx) e (reader_of e.marks rx.0) _ refl (λ mark. tt)
   gives e (Take rx) = marked_by (Take rx) e (reader_of e.marks rx.0) _ refl (λ mark. tt)
-  gives e (HasChanged rx) = marked_by (HasChanged rx) e (reader_of e.marks rx.0) _ refl (λ mark. opened (HasChanged rx) e.senders (reply.Changed (is_unseen e mark)) tt)
+  gives e (HasChanged rx) =
+      marked_by (HasChanged rx) e (reader_of e.marks rx.0) _ refl
+      (λ mark. opened (HasChanged rx) e.senders (reply.Changed (is_unseen e mark)) tt)
   gives e (TryChanged rx) = marked_by (TryChanged rx) e (reader_of e.marks rx.0) _ refl (waited (TryChanged rx) e rx.0)
   gives e (Changed rx) = marked_by (Changed rx) e (reader_of e.marks rx.0) _ refl (waited (Changed rx) e rx.0)
   gives e (MarkChanged rx) = marked_by (MarkChanged rx) e (reader_of e.marks rx.0) _ refl (λ mark. tt)
   gives e (MarkUnchanged rx) = marked_by (MarkUnchanged rx) e (reader_of e.marks rx.0) _ refl (λ mark. tt)
-  gives e (Subscribe tx) = chosen (HandsBack (Subscribe tx)) (is_sender e.senders tx.0) _ _ (subscribed (Subscribe tx) e (version_of e)) refl
+  gives e (Subscribe tx) =
+      chosen (HandsBack (Subscribe tx)) (is_sender e.senders tx.0) _ _ (subscribed (Subscribe tx) e (version_of e)) refl
   gives e (CloneRx rx) = marked_by (CloneRx rx) e (reader_of e.marks rx.0) _ refl (subscribed (CloneRx rx) e)
   gives e (CloneTx tx) =
       let P = HandsBack (CloneTx tx) in
@@ -161,57 +163,20 @@ module _ (eq : Bytes → Bytes → Bool) where
   gives e (IsClosed tx) = chosen (HandsBack (IsClosed tx)) (is_sender e.senders tx.0) _ _ tt refl
   gives e (Readers tx) = chosen (HandsBack (Readers tx)) (is_sender e.senders tx.0) _ _ tt refl
 
-is_reply : (call : WCall Bytes) (reply : WReply Bytes) → HandsBack call reply → HasWatchFields reply → IsReplyTo call reply
-is_reply call Done h k = tt
-is_reply call (NoReceivers back) h k = h
-is_reply call (Exhausted back) h k = h
-is_reply call (Was v) h k = k
-is_reply call (Modified published) h k = tt
-is_reply call (Shown v unseen) h k = k
-is_reply call (reply.Changed unseen) h k = tt
-is_reply call Marked h k = tt
-is_reply call NotYet h k = tt
-is_reply call Closed h k = tt
-is_reply call (Gone none_left) h k = tt
-is_reply call (NewRx rx) h k = k
-is_reply call (NewTx tx) h k = k
-is_reply call (Count n) h k = k
-is_reply call TooMany h k = tt
-is_reply call (NoHandle back) h k = h
+-- so a reply of the machine is one to its call
+answers : (state : Endless Bytes) (call : WCall Bytes) (reply : WReply Bytes) → reply ≡ (step (pointwise nat_eq) state call).0
+    → ReplyFits reply → IsReplyTo call reply
+answers state call reply own fits = (subst (HandsBack call) (sym own) (gives (pointwise nat_eq) state call), fits)
 
--- a line says the machine's own reply exactly where it is its spelling
-pub says_own : (state : Endless Bytes) (call : WCall Bytes) (line : List ℕ) (reply : WReply Bytes) → line ≡ reply_line (reply_fields reply)
-    → HasWatchFields reply → reply ≡ (step (pointwise nat_eq) state call).0 → reply_of call line ≡ Some reply
-says_own state call line reply e fields own =
-    ap (reply_of call) e ∙ reply_of-again call reply (is_reply call reply (subst (HandsBack call) (sym own) (gives (pointwise nat_eq) state call)) fields)
-
-pub says_else : (call : WCall Bytes) (line : List ℕ) (reply : WReply Bytes) (b : Bool) → Decides b (line ≡ reply_line (reply_fields reply)) → b ≡ false
-    → reply_of call line ≡ Some reply → ⊥
-says_else call line reply b d other e = false≢true (sym other ∙ d.1 (reply_of-found call line reply e).1)
-
-each_entry : (state : Endless Bytes) (entries : List Entry) → IsRun watch_machine state entries → AllByRecursion IsWatchPrinted entries → AllByRecursion IsWatchEntry entries
-each_entry state [] run printed = tt
-each_entry state (e ∷ es) run printed =
-    let back : HandsBack e.0 e.1 = subst (HandsBack e.0) (sym run.1) (gives (pointwise nat_eq) state e.0) in (
-      (printed.0.0, is_reply e.0 e.1 back printed.0.1),
-      each_entry (step (pointwise nat_eq) state e.0).1 es run.2 printed.1,
-    )
+pub watch_says : (line : List ℕ) (reply : WReply Bytes) (b : Bool) → Decides b (line ≡ reply_line (reply_fields reply)) → ReplyFits reply
+    → (call : WCall Bytes) → GivenBy watch_machine call reply → Decides b (reply_of call line ≡ Some reply)
+watch_says = says watch_machine grammar IsReplyTo ReplyFits answers reply_of-found reply_of-again
 
 -- the text of a legal history
 pub watch_legal : (p : Picture Bytes) (entries : List Entry) → IsSound p → IsRun watch_machine (whole p) entries → IsValue p.last
-    → AllByRecursion IsWatchPrinted entries → length entries ≤ most_entries → IsLegalText (lines_of (watch_trace p entries)) (length entries)
+    → AllByRecursion IsWatchPrinted entries → length entries ≤ most_entries → IsLegalText (lines_of (watch_trace p entries))
+    (length entries)
 watch_legal p entries sound run value printed few =
-    let es = watch_fields entries in
-    let same : length es ≡ length entries = length-map entries _ in
-    let history : HasHistory head.Watch (picture.Watch p) (entry_lines es ++ end_line (length es) ∷ []) (length entries) = record {
-      entries = entries;
-      run = run;
-      each = each_entry (whole p) entries run printed;
-      told = ap (λ (n : ℕ). entry_lines es ++ end_line n ∷ []) same;
-      counted = refl;
-      most = few;
-    } in
-    legal (lines_of (watch_trace p entries)) (length entries)
-    (traced (told p) es head.Watch (picture.Watch p) (length entries) (picture_told p sound value)
-    (all_map IsWatchPrinted IsEntryPlain (λ e. (call_fields e.0, reply_fields e.1)) entry_plain entries printed)
-    (omega (arith, same, few)) (watch-again p sound value) history)
+    printed_legal watch_machine grammar IsReplyTo ReplyFits answers IsCall call_plain reply_plain head.Watch (picture.Watch p) (whole p)
+    (λ lines count h. h)
+    (told p) (picture_told p sound value) (watch-again p sound value) entries run printed few

@@ -16,7 +16,8 @@ use Rattle.th_check.specs.Judging.{EndsAt, IsOther, IsShown, ShowsBy, TurnsTo, t
 use Rattle.th_check.specs.Stages.{Stage, CallDue, ReplyDue, Ended, Words, begins, reply_at}
 
 -- a line that says nothing
-pub reads_bad : {A : Type 0} (asks : A → Bool) (fault : LineFault) (said : Option A) → fault ≡ BadLine → Reads asks (Err fault) said → said ≡ None
+pub reads_bad : {A : Type 0} (asks : A → Bool) (fault : LineFault) (said : Option A) → fault ≡ BadLine → Reads asks (Err fault) said
+    → said ≡ None
 reads_bad asks fault said e h = subst (λ (f : LineFault). Reads asks (Err f) said) e h
 
 -- what is there
@@ -27,8 +28,10 @@ some_of (Some a) h = (a, refl)
 module _ {E S C R : Type 0} (m : Machine E S C R) (IsProper : E → Type 0) (words : Words C R) where
   module _ (state : E) (count : ℕ) (line : List ℕ) where
     -- a line says a call
-    pub says_call : (object : S) (call : C) (held : Course S C) → IsShown m IsProper state object → words.call_of line ≡ Some call → count < 1000000
-        → held.channel ≡ object → held.count ≡ count + 1 → held.due ≡ due.Reply call → TurnsTo m IsProper words (CallDue state count) line (Ok held)
+    pub says_call : (object : S) (call : C) (held : Course S C) → IsShown m IsProper state object → words.call_of line ≡ Some call
+        → count < 1000000
+        → held.channel ≡ object → held.count ≡ count + 1 → held.due ≡ due.Reply call → TurnsTo m IsProper words (CallDue state count) line
+        (Ok held)
     says_call object call held shown e low same more next = (
       ReplyDue state count call,
       ap (λ (o : Option C). begins m words state count o (end_of line)) e
@@ -46,7 +49,8 @@ module _ {E S C R : Type 0} (m : Machine E S C R) (IsProper : E → Type 0) (wor
 
     -- no call: the end line, or a bad one
     module _ (held : Course S C) (same : held.count ≡ count) (over : held.due ≡ due.Nothing) where
-      end_turns : (told : Option ℕ) (result : Result (Unit {0}) Stop) → end_of line ≡ told → words.call_of line ≡ None → EndsAt count told result
+      end_turns : (told : Option ℕ) (result : Result (Unit {0}) Stop) → end_of line ≡ told → words.call_of line ≡ None
+          → EndsAt count told result
           → TurnsTo m IsProper words (CallDue state count) line (taken result held)
       end_turns told (Ok done) t e h = (
         Ended count,
@@ -97,7 +101,8 @@ module _ {E S C R : Type 0} (m : Machine E S C R) (IsProper : E → Type 0) (wor
       own : reply ≡ (m.step state call).0
       own = ap (λ (a : R × S). a.0) answered
 
-      pub says_reply : (held : Course S C) → (reply ≡ (m.step state call).0 → words.reply_of call line ≡ Some reply) → m.ready object call ≡ true → held.channel ≡ new → held.count ≡ count + 1
+      pub says_reply : (held : Course S C) → (reply ≡ (m.step state call).0 → words.reply_of call line ≡ Some reply)
+          → m.ready object call ≡ true → held.channel ≡ new → held.count ≡ count + 1
           → held.due ≡ due.Call → TurnsTo m IsProper words (ReplyDue state count call) line (Ok held)
       says_reply held e late same more next = (
         CallDue (m.step state call).1 (count + 1),
@@ -107,11 +112,12 @@ module _ {E S C R : Type 0} (m : Machine E S C R) (IsProper : E → Type 0) (wor
       )
 
       pub says_another : (why : Stop) → IsOther (words.reply_of call line) (words.told (Some reply)) why → m.ready object call ≡ true
-          → (words.reply_of call line ≡ Some reply → ⊥) → TurnsTo m IsProper words (ReplyDue state count call) line (Err why)
+          → (reply ≡ (m.step state call).0 → words.reply_of call line ≡ Some reply → ⊥) → TurnsTo m IsProper words
+          (ReplyDue state count call) line (Err why)
       says_another stop.Bad h late apart = h
       says_another (stop.Illegal expected) h late apart =
           let said = some_of (words.reply_of call line) h.0 in (
-            (said.0, said.1, λ now same. apart (said.1 ∙ ap Some (same ∙ sym own))),
+            (said.0, said.1, λ now same. apart own (said.1 ∙ ap Some (same ∙ sym own))),
             h.1 ∙ ap (λ (r : R). words.told (Some r)) own ∙ expects true late,
           )
       says_another stop.Short h late apart = tt
@@ -127,21 +133,26 @@ module _ {E S C R : Type 0} (m : Machine E S C R) (IsProper : E → Type 0) (wor
       by_stage (ReplyDue state told call) k = absurd k
       by_stage (Ended told) k = absurd k
 
-  pub at_reply : (object : S) (count : ℕ) (next : Due C) (call : C) → next ≡ due.Reply call → (line : List ℕ) (result : Result (Course S C) Stop)
-      → ((state : E) (before : ℕ) → IsShown m IsProper state object → count ≡ before + 1 → TurnsTo m IsProper words (ReplyDue state before call) line result)
+  pub at_reply : (object : S) (count : ℕ) (next : Due C) (call : C) → next ≡ due.Reply call
+      → (line : List ℕ) (result : Result (Course S C) Stop)
+      → ((state : E) (before : ℕ) → IsShown m IsProper state object → count ≡ before + 1 → TurnsTo m IsProper words
+      (ReplyDue state before call) line result)
       → (stage : Stage E C) → ShowsBy m IsProper stage object count next → TurnsTo m IsProper words stage line result
-  at_reply object count next call e line result h stage s = by_stage stage (subst (λ (d : Due C). ShowsBy m IsProper stage object count d) e s)
+  at_reply object count next call e line result h stage s =
+      by_stage stage (subst (λ (d : Due C). ShowsBy m IsProper stage object count d) e s)
     where
       by_stage : (stage : Stage E C) → ShowsBy m IsProper stage object count (due.Reply call) → TurnsTo m IsProper words stage line result
       by_stage (CallDue state told) k = absurd k
-      by_stage (ReplyDue state told given) k = subst (λ (c : C). TurnsTo m IsProper words (ReplyDue state told c) line result) k.2 (h state told k.0 k.1)
+      by_stage (ReplyDue state told given) k = subst (λ (c : C). TurnsTo m IsProper words (ReplyDue state told c) line result) k.2
+          (h state told k.0 k.1)
       by_stage (Ended told) k = absurd k
 
   pub at_end : (object : S) (count : ℕ) (next : Due C) → next ≡ due.Nothing → (line : List ℕ)
       → (stage : Stage E C) → ShowsBy m IsProper stage object count next → TurnsTo m IsProper words stage line (Err stop.Bad)
   at_end object count next e line stage s = by_stage stage (subst (λ (d : Due C). ShowsBy m IsProper stage object count d) e s)
     where
-      by_stage : (stage : Stage E C) → ShowsBy m IsProper stage object count due.Nothing → TurnsTo m IsProper words stage line (Err stop.Bad)
+      by_stage : (stage : Stage E C) → ShowsBy m IsProper stage object count due.Nothing
+          → TurnsTo m IsProper words stage line (Err stop.Bad)
       by_stage (CallDue state told) k = absurd k
       by_stage (ReplyDue state told given) k = absurd k
       by_stage (Ended told) k = tt

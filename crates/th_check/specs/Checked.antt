@@ -1,7 +1,7 @@
 -- What the answer of a check says of what was read.
-use Rattle.std.specs.Prelude.{◌≡◌, ℕ, ◌+◌, ◌^◌, ◌-◌, false, List, [], ◌++◌, min, Result, Ok, Err, Option}
+use Rattle.std.specs.Prelude.{◌≡◌, ℕ, ◌+◌, ◌^◌, false, List, [], ◌++◌, min, Result, Ok, Err, Option}
 use Rattle.std.specs.Io.KnownBytes.{Consumes, IsAtEnd}
-use Rattle.th_lines.specs.Device.{one_more}
+use Rattle.th_lines.specs.Device.{kept_count, one_more}
 use Rattle.th_lines.specs.Lines.{lines_from, lines_of}
 use Rattle.th_check.specs.declared.fault.CheckFault.{CheckFault}
 use Rattle.th_check.specs.declared.fault.CheckFault.TheVariants.{Read, TooLong, Short}
@@ -24,10 +24,6 @@ pub record IsGoodSoFar (reader reader' : Option (List ℕ)) : Type 0 where
   pub read : Consumes reader reader' input
   pub here : Point
   pub led : Leads start (lines_from false [] input) here
-
--- a count as it is kept: up to 2^64 - 1
-abbrev pub kept_count : ℕ → ℕ
-kept_count n = min n (2 ^ 64 - 1)
 
 -- What a fault says: where the reader failed, or all reads were made, no line that came was bad or illegal.
 abbrev pub Stopped : Option (List ℕ) → Option (List ℕ) → (calls calls' reads : ℕ) → CheckFault → Type 0

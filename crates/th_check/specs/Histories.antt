@@ -18,8 +18,7 @@ use Rattle.th_traces.specs.declared.picture.Picture.TheVariants as picture
 use Rattle.th_traces.specs.declared.place.Place.TheVariants.{Nothing}
 use Rattle.th_traces.specs.BroadcastWords as broadcast_words
 use Rattle.th_traces.specs.WatchWords as watch_words
-use Rattle.th_traces.specs.Broadcast as broadcast
-use Rattle.th_traces.specs.Watch as watch
+use Rattle.th_traces.specs.Grammars.{Grammar}
 use Rattle.th_traces.specs.Pictures.{Begun, leads}
 use Rattle.th_traces.specs.Spelled.{Bytes, end_line, entry_lines}
 use Rattle.th_check.specs.Points.{watch_machine}
@@ -44,19 +43,17 @@ IsBroadcastEntry version e =
 abbrev pub IsWatchEntry : WCall Bytes × WReply Bytes → Type 0
 IsWatchEntry e = watch_words.IsCall e.0 × watch_words.IsReplyTo e.0 e.1
 
-abbrev pub broadcast_fields : BCall Bytes × BReply Bytes → List Bytes × List Bytes
-broadcast_fields e = (broadcast.call_fields e.0, broadcast.reply_fields e.1)
-
-abbrev pub watch_fields : WCall Bytes × WReply Bytes → List Bytes × List Bytes
-watch_fields e = (watch.call_fields e.0, watch.reply_fields e.1)
+abbrev pub entry_fields : {F C R : Type 0} → Grammar F C R → C × R → List Bytes × List Bytes
+entry_fields g e = (g.call_fields e.0, g.reply_fields e.1)
 
 -- the lines below a picture tell a legal history from it
 abbrev pub HasHistory : Head → Picture → List Bytes → ℕ → Type 0
 HasHistory (head.Broadcast version) (picture.Broadcast p) lines count = IsHistory
-    machines.broadcast (IsBroadcastEntry version) broadcast_fields (broadcast_picture.whole p)
-    lines count
+    machines.broadcast (IsBroadcastEntry version) (entry_fields broadcast_words.grammar)
+    (broadcast_picture.whole p) lines count
 HasHistory head.Watch (picture.Watch p) lines count =
-    IsHistory watch_machine IsWatchEntry watch_fields (watch_picture.whole p) lines count
+    IsHistory watch_machine IsWatchEntry (entry_fields watch_words.grammar) (watch_picture.whole p)
+    lines count
 HasHistory h p lines count = ⊥
 
 -- The lines of a text are those of a picture, and below them those of a legal history from it, with

@@ -1,16 +1,15 @@
 -- How the code goes through a trace: what it holds at a point, and what each of its steps does.
 use Rattle.std.specs.Prelude.{◌≡◌, ℕ, ◌+◌, Bool, true, List, [], ◌∷◌, ◌++◌, length, Option, Some, None, is_some, Result, Ok, Err}
-use Rattle.std.specs.Io.KnownBytes.{Consumes}
 use Rattle.th_model.specs.BroadcastMachine as broadcast
 use Rattle.th_model.specs.WatchMachine as watch
-use Rattle.th_lines.specs.Intake.{Came, lines_after}
-use Rattle.th_lines.specs.Lines.{Line, lines_from}
+use Rattle.th_lines.specs.Lines.{Line}
+use Rattle.th_lines.specs.declared.feeder.Fed.{Fed}
+use Rattle.th_lines.specs.declared.feeder.Fed.TheVariants as why
 use Rattle.th_log.specs.History.{Machine}
 use Rattle.th_log.specs.Machines as machines
 use Rattle.th_traces.specs.declared.head.Head.{Head}
 use Rattle.th_traces.specs.declared.picture.Picture.{Picture}
 use Rattle.th_traces.specs.declared.place.Place.{Place}
-use Rattle.th_check.specs.declared.checker.Checker.{Checker}
 use Rattle.th_check.specs.declared.course.Course.{Course}
 use Rattle.th_check.specs.declared.course.Due.{Due}
 use Rattle.th_check.specs.declared.course.Due.TheVariants as due
@@ -23,10 +22,13 @@ use Rattle.th_check.specs.declared.fault.CheckFault.{CheckFault}
 use Rattle.th_check.specs.declared.fault.CheckFault.TheVariants as fault
 use Rattle.th_check.specs.declared.verdict.Verdict.{Verdict}
 use Rattle.th_check.specs.declared.verdict.Verdict.TheVariants as verdict
-use Rattle.th_check.specs.Checked.{Checked, IsGoodSoFar}
-use Rattle.th_check.specs.Points.{Point, InPicture, InBroadcast, InWatch, Does, ExpectsAt, start, ended_with, entries_of, watch_machine}
+use Rattle.th_check.specs.Points.{Point, InPicture, InBroadcast, InWatch, Does, ExpectsAt, ended_with, entries_of, watch_machine}
 use Rattle.th_check.specs.Stages.{Stage, CallDue, ReplyDue, Ended, On, Bad, Illegal, Expects, Turns, Words}
 use Rattle.th_check.specs.Verdicts.{Leads}
+
+-- a course, by what is seen of its channel
+abbrev pub seen : {O S C : Type 0} → (O → S) → Course O C → Course S C
+seen shows held = record { channel = shows held.channel; count = held.count; due = held.due }
 
 module _ {E S C R : Type 0} (m : Machine E S C R) (IsProper : E → Type 0) where
   -- this picture is seen of the state
@@ -74,6 +76,11 @@ IsOther said own stop.Bad = said ≡ None
 IsOther said own (stop.Illegal expected) = (is_some said ≡ true) × (expected ≡ own)
 IsOther said own stop.Short = Unit {0}
 
+-- a line says this reply, or why it stopped the code
+abbrev pub IsJudged : {R : Type 0} → Option R → R → Expected → Result (Unit {0}) Stop → Type 0
+IsJudged said reply own (Ok done) = said ≡ Some reply
+IsJudged said reply own (Err why) = IsOther said own why × (said ≡ Some reply → ⊥)
+
 -- the code holds this point
 abbrev pub Holds : Point → Spot → Type 0
 Holds (InPicture place) (spot.InPicture draft) = draft ≡ place
@@ -111,53 +118,29 @@ Begins h p (Err stop.Bad) = entries_of h p ≡ Bad
 Begins h p (Err (stop.Illegal expected)) = ⊥
 Begins h p (Err stop.Short) = Unit {0}
 
--- These lines were judged, and lead on.
-pub record Passes (old new : Checker) (lines : List Line) : Type 0 where
-  pub led : (here : Point) → Holds here old.spot
-      → (there : Point) × Leads here lines there × Holds there new.spot
-  pub counted : new.judged ≡ old.judged + length lines
+-- what the lines that were judged led to, and nothing beside
+abbrev pub Reached : Type 0
+Reached = Spot × Unit {0} × Unit {0}
 
--- These lines were judged and lead on, and this stopped the code at the next one.
-pub record Halts (old new : Checker) (before : List Line) (line : Line) (why : Stop) : Type 0 where
-  pub led : (here : Point) → Holds here old.spot
-      → (there : Point) × Leads here before there × StopsAt there line why
-  pub counted : new.judged ≡ old.judged + length before + 1
+-- these lines were judged, and lead on
+abbrev pub Passes : Reached → List Line → Reached → Type 0
+Passes old lines new = (here : Point) → Holds here old.0 →
+    (there : Point) × Leads here lines there × Holds there new.0
 
--- one line was judged
-abbrev pub JudgesLine : Checker → Checker → Line → Result (Unit {0}) Stop → Type 0
-JudgesLine old new line (Ok done) = Passes old new (line ∷ [])
-JudgesLine old new line (Err why) = Halts old new [] line why
+-- Of these lines the last one has stopped the code. Those before it lead on.
+pub record HaltsAt (here : Point) (lines : List Line) (why : Stop) : Type 0 where
+  pub before : List Line
+  pub line : Line
+  pub parts : lines ≡ before ++ line ∷ []
+  pub there : Point
+  pub led : Leads here before there
+  pub stops : StopsAt there line why
 
--- These lines of what came were judged. What is left came after them.
-abbrev pub IsPast : Came → Came → List Line → Type 0
-IsPast old new done = (ended : Bool) (more : List ℕ) →
-    lines_after ended old more ≡ done ++ lines_after ended new more
+abbrev pub Halts : Reached → List Line → Stop → Reached → Type 0
+Halts old lines why new = (here : Point) → Holds here old.0 → HaltsAt here lines why
 
--- All lines that came whole were judged; or one of them stopped the code.
-abbrev pub JudgesAll : Checker → Checker → Result (Unit {0}) Stop → Type 0
-JudgesAll old new (Ok done) = (lines : List Line) × Passes old new lines
-    × IsPast old.intake.came new.intake.came lines × (new.intake.came.ahead ≡ [])
-JudgesAll old new (Err why) = (before : List Line) × (line : Line) × Halts old new before line why
-    × IsPast old.intake.came new.intake.came (before ++ line ∷ [])
-
--- So much was read, and the lines that were judged lead on.
-pub record Underway (reader reader' : Option (List ℕ)) (now : Checker) : Type 0 where
-  pub input : List ℕ
-  pub read : Consumes reader reader' input
-  pub done : List Line
-  pub lines : (ended : Bool) (more : List ℕ) →
-      lines_from ended [] (input ++ more) ≡ done ++ lines_after ended now.intake.came more
-  pub here : Point
-  pub led : Leads start done here
-  pub held : Holds here now.spot
-  pub counted : now.judged ≡ length done
-
--- at the end of the input what stands after its last LF was judged, if it is a line
-abbrev pub JudgesLast : Checker → Checker → Result (Unit {0}) Stop → Type 0
-JudgesLast old new (Ok done) =
-    Passes old new (lines_after true old.intake.came [])
-JudgesLast old new (Err why) =
-    (line : Line) × Halts old new [] line why × (lines_after true old.intake.came [] ≡ line ∷ [])
+abbrev pub IsReached : Reached → Type 0
+IsReached here = Unit {0}
 
 -- the verdict at the end of a text, after so many lines
 abbrev pub EndSays : Point → ℕ → Verdict → Type 0
@@ -165,29 +148,15 @@ EndSays here judged (verdict.Legal count) = ended_with here ≡ Some count
 EndSays here judged (verdict.Illegal number) = ⊥
 EndSays here judged (verdict.BadTrace number) = (ended_with here ≡ None) × (number ≡ judged + 1)
 
--- the answer of a check that was stopped at this line
-abbrev pub stopped : Stop → ℕ → Result Verdict CheckFault
-stopped stop.Bad number = Ok (verdict.BadTrace number)
-stopped (stop.Illegal expected) number = Ok (verdict.Illegal number)
-stopped stop.Short number = Err fault.Short
-
--- the reply that was expected where this stopped the code, if a reply was
-abbrev pub IsKept : Stop → Option Expected → Type 0
-IsKept (stop.Illegal expected) kept = kept ≡ Some expected
-IsKept why kept = Unit {0}
-
--- The whole input was read: the verdict is on it.
-abbrev pub Finishes : Option (List ℕ) → Option (List ℕ) → Result Verdict CheckFault → Type 0
-Finishes reader reader' (Ok said) = Checked reader reader' said
-Finishes reader reader' (Err fault.Read) = ⊥
-Finishes reader reader' (Err fault.TooLong) = ⊥
-Finishes reader reader' (Err fault.Short) = Unit {0}
-
--- One read was made: the check goes on, or has come to its verdict, or was stopped.
-abbrev pub ReadsOn : Option (List ℕ) → Option (List ℕ) → Checker → Result (Option Verdict) CheckFault
-    → Type 0
-ReadsOn reader reader' now (Ok None) = Underway reader reader' now × (now.intake.came.ahead ≡ [])
-ReadsOn reader reader' now (Ok (Some said)) = Checked reader reader' said
-ReadsOn reader reader' now (Err fault.Read) = IsGoodSoFar reader reader'
-ReadsOn reader reader' now (Err fault.TooLong) = ⊥
-ReadsOn reader reader' now (Err fault.Short) = Unit {0}
+-- what comes of a check after so many lines, by why no further line is fed
+abbrev pub Concludes : {A : Type 0} → Fed Stop → Spot → ℕ → Result (Verdict × A) CheckFault → Type 0
+Concludes why.Ended spot judged (Ok said) =
+    (here : Point) → Holds here spot → EndSays here judged said.0
+Concludes (why.Stopped stop.Bad) spot judged (Ok said) = said.0 ≡ verdict.BadTrace judged
+Concludes (why.Stopped (stop.Illegal expected)) spot judged (Ok said) =
+    said.0 ≡ verdict.Illegal judged
+Concludes (why.Stopped stop.Short) spot judged (Err e) = e ≡ fault.Short
+Concludes why.Full spot judged (Err e) = e ≡ fault.TooLong
+Concludes why.Failed spot judged (Err e) = e ≡ fault.Read
+Concludes why.Spent spot judged (Err e) = e ≡ fault.TooLong
+Concludes fed spot judged result = ⊥

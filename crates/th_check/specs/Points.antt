@@ -25,7 +25,7 @@ use Rattle.th_traces.specs.Pictures as pictures
 use Rattle.th_traces.specs.Spelled.{Bytes}
 use Rattle.th_check.specs.declared.fault.Expected.{Expected}
 use Rattle.th_check.specs.declared.fault.Expected.TheVariants as expected
-use Rattle.th_check.specs.Stages.{Stage, CallDue, Ended, Turn, On, Bad, Illegal, Expects, Turns, Words}
+use Rattle.th_check.specs.Stages.{Stage, CallDue, Ended, Turn, On, Bad, Illegal, Expects, Turns, Words, words_of}
 
 abbrev pub BroadcastStage : Type 0
 BroadcastStage = Stage (broadcast.Endless Bytes) (BCall Bytes)
@@ -48,18 +48,10 @@ abbrev pub watch_machine : Machine (watch.Endless Bytes) (watch_picture.Picture 
 watch_machine = machines.watch (pointwise nat_eq)
 
 abbrev pub words_of_broadcast : Version → Words (BCall Bytes) (BReply Bytes)
-words_of_broadcast version = record {
-  call_of = broadcast_words.call_of version;
-  reply_of = broadcast_words.reply_of;
-  told = expected.Broadcast;
-}
+words_of_broadcast = words_of broadcast_words.grammar expected.Broadcast
 
 abbrev pub words_of_watch : Words (WCall Bytes) (WReply Bytes)
-words_of_watch = record {
-  call_of = watch_words.call_of;
-  reply_of = watch_words.reply_of;
-  told = expected.Watch;
-}
+words_of_watch = words_of watch_words.grammar expected.Watch tt
 
 -- Where the picture is whole the entries begin, from the state that remembers no more than it shows.
 abbrev pub entries_of : Head → Picture → Turn Point

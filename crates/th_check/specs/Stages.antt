@@ -3,6 +3,7 @@
 use Rattle.std.specs.Prelude.{◌≡◌, ℕ, ◌+◌, List, nat_lt, ◌==◌, true, Option, Some, None, if◌then◌else◌}
 use Rattle.th_log.specs.History.{Machine}
 use Rattle.th_traces.specs.Entries.{end_of}
+use Rattle.th_traces.specs.Grammars.{Grammar, reply_of}
 use Rattle.th_check.specs.declared.fault.Expected.{Expected}
 
 -- the most entries of a trace
@@ -28,6 +29,22 @@ pub record Words (C R : Type 0) : Type 0 where
   pub call_of : List ℕ → Option C
   pub reply_of : C → List ℕ → Option R
   pub told : Option R → Expected
+
+-- by how the lines are spelled and read, in a trace of this form
+abbrev pub words_of : {F C R : Type 0} → Grammar F C R → (Option R → Expected) → F → Words C R
+words_of g told form = record {
+  call_of = g.call_of form;
+  reply_of = reply_of g;
+  told = told;
+}
+
+-- some state of the machine gives this reply to the call
+abbrev pub GivenBy : {E S C R : Type 0} → Machine E S C R → C → R → Type 0
+GivenBy {E} m call reply = (state : E) × (reply ≡ (m.step state call).0)
+
+-- this is known of each reply of the machine
+abbrev pub IsKnown : {E S C R : Type 0} → Machine E S C R → (C → R → Type 0) → Type 0
+IsKnown {E} {S} {C} m Known = (state : E) (call : C) → Known call (m.step state call).0
 
 module _ {E S C R : Type 0} (m : Machine E S C R) (words : Words C R) where
   -- where a call is due, or the end line: the call of a further entry, or the number of the entries

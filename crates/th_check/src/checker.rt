@@ -1,13 +1,10 @@
 //! The lines of a trace, as they come, and what they were judged to be.
-ghost use Rattle.std.specs.Prelude.{◌≡◌, ◌≤◌, ◌<◌, ◌+◌, ◌^◌, [], ℕ, List, Option, length, IfErr, IfOk, OnOk};
-ghost use Rattle.std.specs.Io.KnownBytes.{IsAtEnd};
-ghost use Rattle.th_lines.specs.Device.{failures_after, one_more};
-ghost use Rattle.th_lines.specs.Intake.{Fills, nothing_came};
-ghost use Rattle.th_lines.specs.Lines.{line_of};
+ghost use Rattle.std.specs.Prelude.{◌≡◌, ℕ, ◌<◌, ◌≤◌, ◌+◌, ◌-◌, ◌^◌, IfErr, IfOk};
+ghost use Rattle.th_lines.specs.Feeding.{beginning, failures_by};
 ghost use Rattle.th_traces.specs.declared.place.Place.TheVariants.{Nothing};
 ghost use Rattle.th_check.specs.declared.point.Spot.TheVariants as spot;
-ghost use Rattle.th_check.specs.Checked.{failures_of};
-ghost use Rattle.th_check.specs.Judging.{EndSays, Finishes, Holds, IsKept, JudgesAll, JudgesLast, JudgesLine, ReadsOn, Underway, stopped};
+ghost use Rattle.th_check.specs.Checked.{Checked, Stopped, failures_of, within_most};
+ghost use Rattle.th_check.specs.Judging.{Concludes, EndSays, Holds};
 ghost use Rattle.th_check.specs.Points.{Point};
 
 use crate::fault::{CheckFault, Expected, Stop};
@@ -15,183 +12,156 @@ use crate::point::{Spot, ended_with, take_line};
 use crate::verdict::Verdict;
 use std::alloc::{AllocError, Global};
 use std::io::Read;
-use th_lines::{Counted, Intake, Moved};
+use th_lines::{Counted, Fed, Feeder, Intake, MOST_READS, TakesLines};
 use th_traces::Draft;
 
-/// How far a trace was judged, and what came of it after that.
+/// More lines than any check has, since each has a byte.
+const NO_BOUND: u64 = u64::MAX - 1;
+
+/// A trace that was judged.
 #[derive(Drop)]
 pub struct Checker {
     // What the lines that were judged led to.
-    pub(crate) spot: Spot,
-    // What was read and is not judged yet.
-    pub(crate) intake: Intake,
-    // How many lines were judged: one more with each.
+    spot: Spot,
+    // What was read.
+    pub(crate) feeder: Feeder,
+    // How many of its lines were judged.
     pub(crate) judged: u64,
     // The channel's own reply, where a line with another one has stopped the check.
     pub(crate) expected: Option<Expected>,
-    // Whether the line that has stopped the check ends with an LF.
-    pub(crate) by_lf: bool,
+}
+
+impl TakesLines<(), ()> for Spot {
+    ghost use Rattle.th_check.specs.Judging.{Halts, IsReached, Passes};
+
+    type Stop = Stop;
+
+    ghost took = { Passes };
+
+    ghost halts = { Halts };
+
+    ghost is_settled = { IsReached };
+
+    fn settle(&mut self, _desk: &mut (), _writer: &mut (), _taken: u64) -> Result<(), Stop> {
+        Ok(())
+    }
+
+    // Judges a line.
+    #[inline(always)]
+    fn take(
+        &mut self,
+        alloc: Global,
+        _desk: &mut (),
+        _writer: &mut (),
+        _taken: u64,
+        line: Option<&[u8]>,
+        _intake: &Intake,
+    ) -> Result<(), Stop> {
+        take_line(alloc, self, line)
+    }
 }
 
 impl Checker {
     // Before the first line. It makes the buffer for what comes.
-    pub fn new(alloc: Global) -> Result<Checker, AllocError>
-        ensures { IfOk result (λ c. (c.spot ≡ spot.InPicture Nothing)
-            × (c.intake.came ≡ nothing_came) × (c.judged ≡ 0)) }
+    fn new(alloc: Global) -> Result<Checker, AllocError>
+        ensures { IfOk result (λ c.
+            (c.spot ≡ spot.InPicture Nothing) × (c.feeder ≡ beginning (2 ^ 64 - 2))) }
     {
-        let intake = Intake::new(alloc)?;
+        let feeder = Feeder::new(alloc, NO_BOUND)?;
         Ok(Checker {
             spot: Spot::InPicture(Draft::new()),
-            intake,
+            feeder,
             judged: 0,
             expected: None,
-            by_lf: true,
         })
-    }
-
-    // Judges the line that was handed out.
-    #[inline(always)]
-    fn judge_line(&mut self, alloc: Global, before_lf: bool) -> Result<(), Stop>
-        requires { self.old.judged < 2 ^ 63 }
-        ensures line { JudgesLine self.old self.new
-            (line_of before_lf self.old.intake.line) result }
-        ensures came { self.new.intake ≡ self.old.intake }
-    {
-        let line = self.intake.line(before_lf);
-        self.judged += 1;
-        take_line(alloc, &mut self.spot, line)
-    }
-
-    // Judges all lines that came whole, up to the first that does not lead on.
-    pub fn judge_all(&mut self, alloc: Global) -> Result<(), Stop>
-        requires { self.old.judged + length self.old.intake.came.ahead < 2 ^ 63 }
-        ensures all { JudgesAll self.old self.new result }
-        ensures count { self.new.judged ≤ self.old.judged + length self.old.intake.came.ahead }
-    {
-        loop {
-            if !self.intake.next_line() {
-                return Ok(());
-            }
-            match self.judge_line(alloc, true) {
-                Ok(()) => {}
-                Err(why) => return Err(why),
-            }
-        }
-    }
-
-    // Makes one read, once nothing is ahead.
-    pub fn fill<R: Read>(&mut self, reader: &mut Counted<R>) -> Moved
-        requires { self.old.intake.came.ahead ≡ [] }
-        ensures spot { self.new.spot ≡ self.old.spot }
-        ensures judged { self.new.judged ≡ self.old.judged }
-        ensures filled { Fills
-            (R.remaining reader.old.device) (R.remaining reader.new.device) result
-            self.old.intake.came self.new.intake.came }
-        ensures most { length self.new.intake.came.ahead ≤ 65536 }
-        ensures calls { reader.new.calls ≡ one_more reader.old.calls }
-        ensures failures { reader.new.failures ≡ failures_after reader.old.failures result }
-    {
-        self.intake.fill(reader)
-    }
-
-    // Judges what stands after the last LF, at the end of the input.
-    #[inline(never)]
-    fn judge_last(&mut self, alloc: Global) -> Result<(), Stop>
-        requires few { self.old.judged < 2 ^ 63 }
-        requires all { self.old.intake.came.ahead ≡ [] }
-        ensures last { JudgesLast self.old self.new result }
-        ensures count { self.new.judged ≤ self.old.judged + 1 }
-    {
-        if !self.intake.last_line() {
-            return Ok(());
-        }
-        match self.judge_line(alloc, false) {
-            Ok(()) => Ok(()),
-            Err(why) => Err(why),
-        }
-    }
-
-    // The answer where this has stopped the check at the line that was judged last.
-    fn stop(&mut self, why: Stop) -> Result<Verdict, CheckFault>
-        ensures answer { result ≡ stopped why self.old.judged }
-        ensures judged { self.new.judged ≡ self.old.judged }
-        ensures kept { IsKept why self.new.expected }
-    {
-        let number = self.judged;
-        match why {
-            Stop::Bad => Ok(Verdict::BadTrace(number)),
-            Stop::Illegal(expected) => {
-                self.expected = Some(expected);
-                Ok(Verdict::Illegal(number))
-            }
-            Stop::Short => Err(CheckFault::Short),
-        }
     }
 
     // The line that was judged last; `None` where it is too long.
     pub fn line(&self) -> Option<&[u8]> {
-        self.intake.line(self.by_lf)
+        self.feeder.line()
     }
 
-    // The verdict at the end of the input, once all lines lead on.
-    fn verdict(&self) -> Verdict
-        requires { self.now.judged ≤ 2 ^ 63 }
-        ensures { (here : Point) → Holds here self.now.spot → EndSays here self.now.judged result }
-    {
-        match ended_with(&self.spot) {
-            Some(count) => Verdict::Legal(count),
-            None => Verdict::BadTrace(self.judged + 1),
-        }
-    }
-
-    // Judges the end of the input.
-    pub fn finish(&mut self, alloc: Global) -> Result<Verdict, CheckFault>
-        requires few { self.old.judged < 2 ^ 63 }
-        requires all { self.old.intake.came.ahead ≡ [] }
-        ensures ends { (reader reader' : Option (List ℕ)) → IsAtEnd reader'
-            → Underway reader reader' self.old → Finishes reader reader' result }
-        ensures count { self.new.judged ≤ self.old.judged + 1 }
-        ensures short { IfErr result (λ e. e ≡ CheckFault.Short) }
-    {
-        match self.judge_last(alloc) {
-            Ok(()) => Ok(self.verdict()),
-            Err(why) => {
-                self.by_lf = false;
-                self.stop(why)
-            }
-        }
-    }
-
-    // Makes one read, and judges the lines that came whole; at the end of the input, what is left.
-    pub fn read_on<R: Read>(
+    // Reads and judges, by at most so many reads.
+    fn run<R: Read>(
         &mut self,
         alloc: Global,
         reader: &mut Counted<R>,
-    ) -> Result<Option<Verdict>, CheckFault>
-        requires few { self.old.judged < 2 ^ 62 }
-        requires all { self.old.intake.came.ahead ≡ [] }
-        ensures read { (first : Option (List ℕ))
-            → Underway first (R.remaining reader.old.device) self.old
-            → ReadsOn first (R.remaining reader.new.device) self.new result }
-        ensures count { OnOk result (self.new.judged ≤ self.old.judged + 65536) }
-        ensures calls { reader.new.calls ≡ one_more reader.old.calls }
+        reads: u64,
+    ) -> Result<Verdict, CheckFault>
+        requires spot { self.old.spot ≡ spot.InPicture Nothing }
+        requires feeder { self.old.feeder ≡ beginning (2 ^ 64 - 2) }
+        requires reads { reads ≤ 2 ^ 32 }
+        ensures verdict { IfOk result (λ said. Checked
+            (R.remaining reader.old.device) (R.remaining reader.new.device) said) }
+        ensures fault { IfErr result (λ e. Stopped
+            (R.remaining reader.old.device) (R.remaining reader.new.device)
+            reader.old.calls reader.new.calls reads e) }
+        ensures reads { reader.new.calls ≤ reader.old.calls + reads }
         ensures reader { reader.new.failures ≡ failures_of reader.old.failures result }
     {
-        match self.fill(reader) {
-            Moved::Bytes(0) => match self.finish(alloc) {
-                Ok(verdict) => return Ok(Some(verdict)),
-                Err(fault) => return Err(fault),
-            },
-            Moved::Bytes(_) => {}
-            Moved::Again => return Ok(None),
-            Moved::Failed => return Err(CheckFault::Read),
+        let Checker { spot, feeder, .. } = self;
+        let fed = feeder.feed(spot, alloc, &mut (), &mut (), reader, reads);
+        self.judged = self.feeder.taken();
+        match conclude(fed, &self.spot, self.judged) {
+            Ok((verdict, expected)) => {
+                self.expected = expected;
+                Ok(verdict)
+            }
+            Err(fault) => Err(fault),
         }
-        match self.judge_all(alloc) {
-            Ok(()) => Ok(None),
-            Err(why) => match self.stop(why) {
-                Ok(verdict) => Ok(Some(verdict)),
-                Err(fault) => Err(fault),
-            },
-        }
+    }
+}
+
+// The verdict at the end of the input, once so many lines lead on.
+fn verdict(spot: &Spot, judged: u64) -> Verdict
+    requires { judged + 1 < 2 ^ 64 }
+    ensures { (here : Point) → Holds here spot.now → EndSays here judged result }
+{
+    match ended_with(spot) {
+        Some(count) => Verdict::Legal(count),
+        None => Verdict::BadTrace(judged + 1),
+    }
+}
+
+// What comes of a check, by why no further line is fed, and the reply that was expected, if one was.
+fn conclude(
+    fed: Fed<Stop>,
+    spot: &Spot,
+    judged: u64,
+) -> Result<(Verdict, Option<Expected>), CheckFault>
+    requires { fed ≡ Fed.Ended → judged + 1 < 2 ^ 64 }
+    ensures concludes { Concludes fed spot.now judged result }
+    ensures failures { (n : ℕ) → failures_by n fed ≡ failures_of n result }
+{
+    match fed {
+        Fed::Ended => Ok((verdict(spot, judged), None)),
+        Fed::Stopped(Stop::Bad) => Ok((Verdict::BadTrace(judged), None)),
+        Fed::Stopped(Stop::Illegal(expected)) => Ok((Verdict::Illegal(judged), Some(expected))),
+        Fed::Stopped(Stop::Short) => Err(CheckFault::Short),
+        Fed::Failed => Err(CheckFault::Read),
+        Fed::Full | Fed::Spent => Err(CheckFault::TooLong),
+    }
+}
+
+// Checks a trace by at most so many reads, and answers also how it was judged.
+pub fn judge<R: Read>(
+    alloc: Global,
+    reader: &mut Counted<R>,
+    reads: u64,
+) -> Result<(Verdict, Checker), CheckFault>
+    ensures verdict { IfOk result (λ said. Checked
+        (R.remaining reader.old.device) (R.remaining reader.new.device) said.0) }
+    ensures fault { IfErr result (λ e. Stopped
+        (R.remaining reader.old.device) (R.remaining reader.new.device)
+        reader.old.calls reader.new.calls (within_most reads) e) }
+    ensures reads { reader.new.calls ≤ reader.old.calls + within_most reads }
+    ensures reader { reader.new.failures ≡ failures_of reader.old.failures result }
+{
+    let Ok(mut checker) = Checker::new(alloc) else {
+        return Err(CheckFault::Short);
+    };
+    match checker.run(alloc, reader, reads.min(MOST_READS)) {
+        Ok(verdict) => Ok((verdict, checker)),
+        Err(fault) => Err(fault),
     }
 }

@@ -1,9 +1,26 @@
-//! How far the entries of a trace were judged.
-ghost use Rattle.th_check.specs.Judging.{EndsAt};
+//! A channel that goes through the entries of a trace again.
+ghost use Rattle.std.specs.Prelude.{◌≡◌, ◌+◌, ℕ};
 ghost use Rattle.th_traces.specs.Entries.{end_of};
+ghost use Rattle.th_check.specs.Judging.{EndsAt, IsShown, Shows, TurnsTo, seen, taken};
+ghost use Rattle.th_check.specs.Stages.{CallDue, IsKnown, ReplyDue, Stage, words_of};
 
 use crate::fault::Stop;
+use crate::judged::{JudgedCall, another};
+use std::alloc::Global;
+use std::mem::replace;
+use th_bcast::Broadcast;
+use th_lines::LineFault;
+use th_log::{MOST_ENTRIES, Object};
+use th_model::Value;
+use th_ring::RingShelf;
 use th_traces::read_end;
+use th_watch::Watch;
+
+/// A broadcast channel of values, over a ring.
+pub type RingBroadcast = Broadcast<Value, RingShelf<Value>>;
+
+/// A watch channel of values.
+pub type ValueWatch = Watch<Value>;
 
 /// How far the entries of a trace were judged, with the channel that goes through them again.
 #[derive(Drop)]
@@ -27,8 +44,56 @@ pub enum Due<C> {
     Nothing,
 }
 
-/// Judges a line that is no call, where the end line is due.
-pub(crate) fn take_end(count: u64, line: &[u8]) -> Result<(), Stop>
+// Judges one more line, without its line end. The course goes on in place.
+#[inline(always)]
+pub(crate) fn take_line<C: JudgedCall, K: Object<Call = C, Reply = C::Reply>>(
+    alloc: Global,
+    form: C::Form,
+    course: &mut Course<K, C>,
+    line: &[u8],
+) -> Result<(), Stop>
+    requires lawful { K.lawful }
+    requires known { IsKnown K.machine C.answers }
+    ensures { (stage : Stage K.Endless C)
+        → Shows K.machine K.is_proper stage (seen K.shows course.old)
+        → TurnsTo K.machine K.is_proper (words_of C.grammar C.told form)
+        stage line.now (taken result (seen K.shows course.new)) }
+{
+    match replace(&mut course.due, Due::Nothing) {
+        Due::Call => take_call(alloc, form, course, line),
+        Due::Reply(call) => take_reply(course, call, line),
+        Due::Nothing => Err(Stop::Bad),
+    }
+}
+
+// Judges a line where a call is due, or the end line.
+fn take_call<C: JudgedCall, K: Object<Call = C, Reply = C::Reply>>(
+    alloc: Global,
+    form: C::Form,
+    course: &mut Course<K, C>,
+    line: &[u8],
+) -> Result<(), Stop>
+    requires { course.old.due ≡ Due.Nothing }
+    ensures { (state : K.Endless)
+        → IsShown K.machine K.is_proper state (K.shows course.old.channel)
+        → TurnsTo K.machine K.is_proper (words_of C.grammar C.told form)
+        (CallDue state course.old.count) line.now (taken result (seen K.shows course.new)) }
+{
+    let call = match C::read_call(alloc, form, line) {
+        Ok(call) => call,
+        Err(LineFault::BadLine) => return take_end(course.count, line),
+        Err(LineFault::Short) => return Err(Stop::Short),
+    };
+    if course.count >= MOST_ENTRIES {
+        return Err(Stop::Bad);
+    }
+    course.count += 1;
+    course.due = Due::Reply(call);
+    Ok(())
+}
+
+// Judges a line that is no call, where the end line is due.
+fn take_end(count: u64, line: &[u8]) -> Result<(), Stop>
     ensures { EndsAt count (end_of line.now) result }
 {
     let Some(told) = read_end(line) else {
@@ -37,5 +102,32 @@ pub(crate) fn take_end(count: u64, line: &[u8]) -> Result<(), Stop>
     if told != count {
         return Err(Stop::Bad);
     }
+    Ok(())
+}
+
+// Judges a line where the reply to this call is due, by which there are so many entries. The channel's own
+// reply is compared as it is spelled; of another line only its form is asked.
+fn take_reply<C: JudgedCall, K: Object<Call = C, Reply = C::Reply>>(
+    course: &mut Course<K, C>,
+    call: C,
+    line: &[u8],
+) -> Result<(), Stop>
+    requires lawful { K.lawful }
+    requires known { IsKnown K.machine C.answers }
+    ensures { (form : C.Form) (state : K.Endless) (before : ℕ)
+        → IsShown K.machine K.is_proper state (K.shows course.old.channel)
+        → course.old.count ≡ before + 1
+        → TurnsTo K.machine K.is_proper (words_of C.grammar C.told form)
+        (ReplyDue state before call) line.now (taken result (seen K.shows course.new)) }
+{
+    let gives = call.gives_value();
+    if !course.channel.ready(&call) {
+        return Err(another::<C>(gives, line, C::tell_none()));
+    }
+    let Ok(reply) = course.channel.apply(call) else {
+        return Err(Stop::Short);
+    };
+    C::judge_reply(gives, line, reply)?;
+    course.due = Due::Call;
     Ok(())
 }

@@ -8,7 +8,7 @@ use crate::verdict::Verdict;
 use itoa::Buffer;
 use std::alloc::{AllocError, Global};
 use th_model::{BCall, TxId, WCall};
-use th_traces::{print_broadcast_entry, print_watch_entry};
+use th_traces::print_entry;
 
 /// The most bytes of a line that are shown.
 const MOST_SHOWN: usize = 200;
@@ -124,10 +124,10 @@ fn put_expected(
     let mut entry = Vec::new(alloc);
     match expected {
         Some(Expected::Broadcast(Some(reply))) => {
-            print_broadcast_entry(&BCall::Readers(CALL), reply, &mut entry)?;
+            print_entry(&BCall::Readers(CALL), reply, &mut entry)?;
         }
         Some(Expected::Watch(Some(reply))) => {
-            print_watch_entry(&WCall::Readers(CALL), reply, &mut entry)?;
+            print_entry(&WCall::Readers(CALL), reply, &mut entry)?;
         }
         _ => return raw.extend_from_slice(b"no reply, since the call would wait"),
     }

@@ -6,10 +6,9 @@ ghost use Rattle.th_check.specs.Histories.{IsTrace};
 ghost use Rattle.th_check.specs.Stages.{most_entries};
 ghost use Rattle.th_check.specs.Verdicts.{IsLegalText, IsSo};
 
-use crate::broadcast_course::RingBroadcast;
-use crate::printed::{are_broadcast_entries, are_kept_values, are_watch_entries, is_value};
+use crate::course::{RingBroadcast, ValueWatch};
+use crate::printed::{are_entries, are_kept_values, is_value};
 use crate::verdict::Verdict;
-use crate::watch_course::ValueWatch;
 use th_bcast::Broadcast;
 use th_log::{Compared, Segment};
 use th_model::Value;
@@ -43,7 +42,7 @@ pub fn printed_broadcast_traces_are_legal<S: Shelf<Value> + Drop>(
 {
     let _ = segment.len();
     are_kept_values(segment.start());
-    are_broadcast_entries(segment.entries());
+    are_entries(segment.entries());
 }
 
 /// The same of a watch channel's. Linear in the entries.
@@ -53,5 +52,5 @@ pub fn printed_watch_traces_are_legal(segment: &Segment<Watch<Value>>)
 {
     let _ = segment.len();
     is_value(segment.start().value());
-    are_watch_entries(segment.entries());
+    are_entries(segment.entries());
 }

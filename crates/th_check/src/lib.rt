@@ -7,17 +7,16 @@
 //! ```
 #![tactic(auto)]
 
-pub mod broadcast_course;
 mod checker;
 pub mod course;
 mod explain;
 pub mod fault;
+mod judged;
 pub mod laws;
 pub mod point;
 mod printed;
 mod run;
 pub mod verdict;
-pub mod watch_course;
 
 pub use fault::CheckFault;
 pub use run::{check, check_bounded, check_explained};

@@ -5,13 +5,12 @@ ghost use Rattle.th_lines.specs.Lines.{Good};
 ghost use Rattle.th_check.specs.Judging.{Begins, Holds, Takes, drawn, taken};
 ghost use Rattle.th_check.specs.Points.{InPicture, Point, ended_with};
 
-use crate::broadcast_course::{self, BroadcastCourse, RingBroadcast};
-use crate::course::{Course, Due};
+use crate::course::{self, Course, Due, RingBroadcast, ValueWatch};
 use crate::fault::Stop;
-use crate::watch_course::{self, ValueWatch, WatchCourse};
 use std::alloc::Global;
 use th_lines::LineFault;
 use th_log::Object;
+use th_model::{BCall, Value, WCall};
 use th_traces::{Draft, Head, Picture, Version, read_picture};
 
 /// How far a trace was judged.
@@ -20,9 +19,9 @@ pub enum Spot {
     /// Some lines of its picture.
     InPicture(Draft),
     /// The picture of a broadcast channel, and maybe some lines below it.
-    InBroadcast(Version, BroadcastCourse),
+    InBroadcast(Version, Course<RingBroadcast, BCall<Value>>),
     /// The same of a watch channel.
-    InWatch(WatchCourse),
+    InWatch(Course<ValueWatch, WCall<Value>>),
 }
 
 /// Judges one more line, given without its end, or as `None` where it is too long. The spot goes on in place.
@@ -36,9 +35,9 @@ pub fn take_line(alloc: Global, spot: &mut Spot, line: Option<&[u8]>) -> Result<
     };
     let begun = match spot {
         Spot::InBroadcast(version, course) => {
-            return broadcast_course::take_line(alloc, *version, course, line);
+            return course::take_line(alloc, *version, course, line);
         }
-        Spot::InWatch(course) => return watch_course::take_line(alloc, course, line),
+        Spot::InWatch(course) => return course::take_line(alloc, (), course, line),
         Spot::InPicture(draft) => take_of_picture(alloc, draft, line),
     };
     match begun {

@@ -1,45 +1,15 @@
 //! A trace is read and judged.
-ghost use Rattle.std.specs.Prelude.{◌≡◌, ◌+◌, ◌≤◌, ◌^◌, IfOk, IfErr, OnErr};
+ghost use Rattle.std.specs.Prelude.{◌≡◌, ◌+◌, ◌≤◌, ◌^◌, IfErr, IfOk, OnErr};
 ghost use Rattle.th_check.specs.Checked.{Checked, Stopped, failures_of, within_most};
 ghost use Rattle.th_check.specs.Explaining.{Explains};
 
-use crate::checker::Checker;
+use crate::checker::judge;
 use crate::explain::explain;
 use crate::fault::CheckFault;
 use crate::verdict::Verdict;
 use std::alloc::Global;
 use std::io::Read;
-use th_lines::Counted;
-
-/// The most reads of a check.
-const MOST_READS: u64 = 1 << 32;
-
-// Checks a trace, and answers also how the checker stands at the verdict.
-fn judged<R: Read>(
-    alloc: Global,
-    reader: &mut Counted<R>,
-    reads: u64,
-) -> Result<(Verdict, Checker), CheckFault>
-    ensures verdict { IfOk result (λ said. Checked
-        (R.remaining reader.old.device) (R.remaining reader.new.device) said.0) }
-    ensures fault { IfErr result (λ e. Stopped
-        (R.remaining reader.old.device) (R.remaining reader.new.device)
-        reader.old.calls reader.new.calls (within_most reads) e) }
-    ensures reads { reader.new.calls ≤ reader.old.calls + within_most reads }
-    ensures reader { reader.new.failures ≡ failures_of reader.old.failures result }
-{
-    let Ok(mut checker) = Checker::new(alloc) else {
-        return Err(CheckFault::Short);
-    };
-    for made in 0..reads.min(MOST_READS) {
-        match checker.read_on(alloc, reader) {
-            Ok(None) => {}
-            Ok(Some(verdict)) => return Ok((verdict, checker)),
-            Err(fault) => return Err(fault),
-        }
-    }
-    Err(CheckFault::TooLong)
-}
+use th_lines::{Counted, MOST_READS};
 
 /// Checks the trace that the reader tells, by at most so many reads and never more than 2^32, of which
 /// an interrupted one is made again and counts. It stops reading at the first line that is bad or
@@ -66,7 +36,7 @@ pub fn check_bounded<R: Read>(
     ensures reads { reader.new.calls ≤ reader.old.calls + within_most reads }
     ensures reader { reader.new.failures ≡ failures_of reader.old.failures result }
 {
-    match judged(alloc, reader, reads) {
+    match judge(alloc, reader, reads) {
         Ok((verdict, _)) => Ok(verdict),
         Err(fault) => Err(fault),
     }
@@ -104,7 +74,7 @@ pub fn check_explained<R: Read>(
     ensures text { IfOk result (λ said. Explains said text.old.items text.new.items) }
     ensures same { OnErr result (text.new ≡ text.old) }
 {
-    match judged(alloc, reader, MOST_READS) {
+    match judge(alloc, reader, MOST_READS) {
         Ok((verdict, checker)) => {
             explain(alloc, &checker, verdict, text);
             Ok(verdict)

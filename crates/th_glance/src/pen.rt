@@ -5,7 +5,7 @@ ghost use Rattle.th_glance.specs.Lists.{glance_of, last_of, last_count, IsCounte
 
 use crate::eye::Eye;
 use crate::glance::Glance;
-use crate::rule::{Copied, Cover, Posts, Told, Write};
+use crate::rule::{Copied, Cover, Learned, Posts, Write};
 use crate::sight::Sight;
 use atomic_table::{Seat, Table};
 use std::alloc::Global;
@@ -100,7 +100,7 @@ impl Pen {
         ensures eye { eye.new ≡ eye.old }
     {
         let note = self.board.shared.split_seat::<Copied>(&mut eye.seat);
-        self.board.shared.join_seat::<Told>(&mut self.seat, note);
+        self.board.shared.join_seat::<Learned>(&mut self.seat, note);
         self.board.shared.load::<Cover>(&mut self.seat, 0);
     }
 }

@@ -50,9 +50,9 @@ impl Split<Sight> for Copied {
 }
 
 /// A seat is told of what another has seen, and the other is spent.
-pub(crate) struct Told;
+pub(crate) struct Learned;
 
-impl Join<Sight> for Told {
+impl Join<Sight> for Learned {
     ghost use Rattle.th_glance.specs.Seats.{sight};
     ghost use Rattle.std.specs.Prelude.{[]};
 

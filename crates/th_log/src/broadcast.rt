@@ -5,10 +5,11 @@ ghost use Rattle.th_model.specs.BroadcastPicture.{TakesNoMemory, answer};
 ghost use Rattle.th_model.specs.declared.broadcast.BCall.TheVariants.{Send};
 ghost use Rattle.th_model.specs.declared.broadcast.BReply.TheVariants.{Sent};
 
-use crate::object::{Compared, Event, Object};
+use crate::kind::Kind;
+use crate::object::{Compared, Event, Object, noted};
 use std::alloc::{AllocError, Global};
 use th_bcast::{Broadcast, PictureParts};
-use th_model::{BCall, BReply, Short, TxId};
+use th_model::{BCall, BReply, Question, ReceiverVerb, RxId, SenderVerb, Short, Start, TxId};
 use th_shelf::Shelf;
 
 // A copy of a call. Only a sent value takes memory.
@@ -31,39 +32,6 @@ fn copied<T: Clone>(call: &BCall<T>) -> Result<BCall<T>, AllocError>
         BCall::Queued(tx) => Ok(BCall::Queued(*tx)),
         BCall::Left(rx) => Ok(BCall::Left(*rx)),
         BCall::Readers(tx) => Ok(BCall::Readers(*tx)),
-    }
-}
-
-// One event, with what its log keeps of it. It is drawn into each place that calls it, and knows the
-// call there.
-#[inline(always)]
-fn noted<T: Clone, S: Shelf<T> + Drop>(
-    channel: &mut Broadcast<T, S>,
-    call: BCall<T>,
-) -> Result<Event<BCall<T>, BReply<T>>, Short<BCall<T>>>
-    requires { ClonesAreEqual T.is_clone }
-    ensures step { IfOk result (λ e. answer channel.old call ≡ (e.reply, channel.new)) }
-    ensures call { IfOk result (λ e. e.call ≡ call) }
-    ensures entry { IfOk result (λ e. e.entry ≡ (call, e.reply)) }
-    ensures short { IfErr result (λ short. (short.call ≡ call) × (channel.new ≡ channel.old)) }
-    ensures always { TakesNoMemory call → IsOk result }
-{
-    let Ok(kept) = copied(&call) else {
-        return Err(Short { call });
-    };
-    let Ok(told) = copied(&call) else {
-        return Err(Short { call });
-    };
-    let Ok(foreseen) = channel.foresee(&call) else {
-        return Err(Short { call });
-    };
-    match channel.apply(call) {
-        Ok(reply) => Ok(Event {
-            entry: (kept, foreseen),
-            call: told,
-            reply,
-        }),
-        Err(short) => Err(short),
     }
 }
 
@@ -169,6 +137,112 @@ impl<T: Clone, S: Shelf<T> + Drop> Object for Broadcast<T, S> {
         Broadcast::foresee(self, call)
     }
 
+    #[inline(always)]
+    fn copy_call(call: &BCall<T>) -> Result<BCall<T>, Short<()>> {
+        match copied(call) {
+            Ok(copy) => Ok(copy),
+            Err(_) => Err(Short { call: () }),
+        }
+    }
+
+    fn picture(&self, alloc: Global) -> Result<PictureParts<T>, Short<()>> {
+        Broadcast::picture(self, alloc)
+    }
+
+    fn resume(alloc: Global, state: PictureParts<T>) -> Result<Self, Short<PictureParts<T>>> {
+        Broadcast::from_picture(alloc, state)
+    }
+
+    #[inline(always)]
+    fn live(&self) -> u64 {
+        Broadcast::live(self)
+    }
+
+    #[inline(always)]
+    fn live_after(&self, call: &BCall<T>) -> u64 {
+        Broadcast::live_after(self, call)
+    }
+
+    #[inline(always)]
+    fn closed(&self) -> bool {
+        self.sender_count() == 0
+    }
+}
+
+impl<T: Clone, S: Shelf<T> + Drop> Kind for Broadcast<T, S> {
+    ghost use Rattle.std.specs.Prelude.{None, Some, is_some};
+    ghost use Rattle.th_model.specs.Handles.{is_sender};
+    ghost use Rattle.th_model.specs.Places.{place_of};
+    ghost use Rattle.th_model.specs.declared.broadcast.BCall.TheVariants.{CloneTx, DropRx, DropTx, Resubscribe};
+    ghost use Rattle.th_model.specs.declared.broadcast.BReply.TheVariants.{Done};
+    ghost use Rattle.th_log.specs.Calls.{broadcast_asked, broadcast_by_receiver, broadcast_by_sender, broadcast_receiver_of, broadcast_sender_of, broadcast_subscribing, broadcast_waits};
+    ghost use Rattle.th_log.specs.Replies.{broadcast_ends, broadcast_made_rx, broadcast_made_tx};
+    ghost use Rattle.th_log.specs.KindLaws.{broadcast-asked, broadcast-by-receiver, broadcast-by-sender};
+    ghost use Rattle.th_log.specs.KindLaws.{receiver-ends, sender-ends, stays};
+
+    type Value = T;
+
+    ghost has_sender = { λ p tx. is_sender p.senders tx.0 };
+
+    ghost has_receiver = { λ p rx. is_some (place_of p.window.places rx.0) };
+
+    ghost waits = { broadcast_waits };
+
+    ghost by_sender = { broadcast_by_sender };
+
+    ghost asked = { broadcast_asked };
+
+    ghost by_receiver = { broadcast_by_receiver };
+
+    ghost subscribing = { broadcast_subscribing };
+
+    ghost resubscribing = { λ rx. Some (Resubscribe rx) };
+
+    ghost cloning = { λ tx. CloneTx tx };
+
+    ghost last_of_sender = { λ tx. DropTx tx };
+
+    ghost last_of_receiver = { λ rx. DropRx rx };
+
+    ghost sender_of = { broadcast_sender_of };
+
+    ghost receiver_of = { broadcast_receiver_of };
+
+    ghost made_tx = { broadcast_made_tx };
+
+    ghost made_rx = { broadcast_made_rx };
+
+    ghost ends = { broadcast_ends };
+
+    ghost done = { Done };
+
+    ghost by_sender_ok = { broadcast-by-sender T };
+
+    ghost asked_ok = { broadcast-asked T };
+
+    ghost by_receiver_ok = { broadcast-by-receiver T };
+
+    ghost sender_ends_ok = { sender-ends T };
+
+    ghost receiver_ends_ok = { receiver-ends T };
+
+    ghost stays_ok = { stays T };
+
+    #[inline(always)]
+    fn has_sender(&self, tx: TxId) -> bool {
+        Broadcast::has_sender(self, tx)
+    }
+
+    #[inline(always)]
+    fn has_receiver(&self, rx: RxId) -> bool {
+        Broadcast::place(self, rx).is_some()
+    }
+
+    #[inline(always)]
+    fn waits(&self, call: &BCall<T>) -> bool {
+        !Broadcast::ready(self, call)
+    }
+
     // A receive tells its reply twice, so that the receiver's place is found once, and a send so that
     // its sender is.
     #[inline(always)]
@@ -200,34 +274,77 @@ impl<T: Clone, S: Shelf<T> + Drop> Object for Broadcast<T, S> {
     }
 
     #[inline(always)]
-    fn copy_call(call: &BCall<T>) -> Result<BCall<T>, Short<()>> {
-        match copied(call) {
-            Ok(copy) => Ok(copy),
-            Err(_) => Err(Short { call: () }),
+    fn by_sender(verb: SenderVerb<T>, tx: TxId) -> Option<BCall<T>>
+        ensures { result ≡ broadcast_by_sender verb tx }
+    {
+        match verb {
+            SenderVerb::Send(value) => Some(BCall::Send(tx, value)),
+            _ => None,
         }
     }
 
-    fn picture(&self, alloc: Global) -> Result<PictureParts<T>, Short<()>> {
-        Broadcast::picture(self, alloc)
-    }
-
-    fn resume(alloc: Global, state: PictureParts<T>) -> Result<Self, Short<PictureParts<T>>> {
-        Broadcast::from_picture(alloc, state)
+    #[inline(always)]
+    fn asked(question: Question, tx: TxId) -> Option<BCall<T>> {
+        match question {
+            Question::Queued => Some(BCall::Queued(tx)),
+            Question::Readers => Some(BCall::Readers(tx)),
+        }
     }
 
     #[inline(always)]
-    fn live(&self) -> u64 {
-        Broadcast::live(self)
+    fn by_receiver(verb: ReceiverVerb, rx: RxId) -> Option<BCall<T>> {
+        match verb {
+            ReceiverVerb::TryRecv => Some(BCall::TryRecv(rx)),
+            ReceiverVerb::Recv => Some(BCall::Recv(rx)),
+            ReceiverVerb::Left => Some(BCall::Left(rx)),
+            _ => None,
+        }
     }
 
-    #[inline(always)]
-    fn live_after(&self, call: &BCall<T>) -> u64 {
-        Broadcast::live_after(self, call)
+    fn subscribing(start: Start, tx: TxId) -> Option<BCall<T>> {
+        match start {
+            Start::Tail => Some(BCall::Subscribe(tx)),
+            Start::Oldest => Some(BCall::SubscribeOldest(tx)),
+        }
     }
 
-    #[inline(always)]
-    fn closed(&self) -> bool {
-        self.sender_count() == 0
+    fn resubscribing(rx: RxId) -> Option<BCall<T>> {
+        Some(BCall::Resubscribe(rx))
+    }
+
+    fn cloning(tx: TxId) -> BCall<T> {
+        BCall::CloneTx(tx)
+    }
+
+    fn last_of_sender(tx: TxId) -> BCall<T> {
+        BCall::DropTx(tx)
+    }
+
+    fn last_of_receiver(rx: RxId) -> BCall<T> {
+        BCall::DropRx(rx)
+    }
+
+    fn made_tx(reply: &BReply<T>) -> Option<TxId> {
+        match reply {
+            BReply::NewTx(tx) => Some(*tx),
+            _ => None,
+        }
+    }
+
+    fn made_rx(reply: &BReply<T>) -> Option<RxId> {
+        match reply {
+            BReply::NewRx(rx) => Some(*rx),
+            _ => None,
+        }
+    }
+
+    fn ends(reply: &BReply<T>) -> bool {
+        matches!(reply, BReply::Closed | BReply::NoHandle(_))
+    }
+
+    // A receiver waits for a value.
+    fn is_news(_call: &BCall<T>, reply: &BReply<T>) -> bool {
+        matches!(reply, BReply::Sent(_))
     }
 }
 

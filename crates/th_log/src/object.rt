@@ -20,7 +20,7 @@ pub struct Event<C, R> {
 /// A channel for one thread, which does what a machine does that remembers everything.
 ///
 /// `copy_call` and `foresee` give what a log keeps of an event before the event is made, so that
-/// after it nothing is left that may be refused. `event` does all of it.
+/// after it nothing is left that may be refused.
 pub trait Object: Drop {
     /// A call, by the number of the handle that makes it.
     type Call: Drop;
@@ -73,21 +73,6 @@ pub trait Object: Drop {
             reply ≡ (machine.answer (shows self.now) call.now).0) }
         ensures always { takes_none call.now → IsOk result };
 
-    /// The event of a call, with what its log keeps of it: `apply`, behind two copies of the call and
-    /// its reply foreseen. Where memory is refused the call comes back, and nothing has changed.
-    fn event(
-        &mut self,
-        call: Self::Call,
-    ) -> Result<Event<Self::Call, Self::Reply>, Short<Self::Call>>
-        requires { lawful }
-        ensures step { IfOk result (λ e.
-            machine.answer (shows self.old) call ≡ (e.reply, shows self.new)) }
-        ensures call { IfOk result (λ e. e.call ≡ call) }
-        ensures entry { IfOk result (λ e. e.entry ≡ (call, e.reply)) }
-        ensures short { IfErr result (λ short.
-            (short.call ≡ call) × (shows self.new ≡ shows self.old)) }
-        ensures always { takes_none call → IsOk result };
-
     /// The same call, a value in it as a clone.
     fn copy_call(call: &Self::Call) -> Result<Self::Call, Short<()>>
         requires { lawful }
@@ -135,6 +120,40 @@ pub trait Object: Drop {
     /// A call that spends a handle takes no memory.
     ghost spends_ok: { (p : Self.State) (c : Self.Call) → is_sound p
         → live_after machine p c < machine.live p → takes_none c };
+}
+
+/// One event, with what its log keeps of it. It is drawn into each place that calls it, and knows the call there.
+#[inline(always)]
+pub(crate) fn noted<O: Object>(
+    object: &mut O,
+    call: O::Call,
+) -> Result<Event<O::Call, O::Reply>, Short<O::Call>>
+    requires { O.lawful }
+    ensures step { IfOk result (λ e.
+        O.machine.answer (O.shows object.old) call ≡ (e.reply, O.shows object.new)) }
+    ensures call { IfOk result (λ e. e.call ≡ call) }
+    ensures entry { IfOk result (λ e. e.entry ≡ (call, e.reply)) }
+    ensures short { IfErr result (λ short.
+        (short.call ≡ call) × (O.shows object.new ≡ O.shows object.old)) }
+    ensures always { O.takes_none call → IsOk result }
+{
+    let Ok(kept) = O::copy_call(&call) else {
+        return Err(Short { call });
+    };
+    let Ok(told) = O::copy_call(&call) else {
+        return Err(Short { call });
+    };
+    let Ok(foreseen) = object.foresee(&call) else {
+        return Err(Short { call });
+    };
+    match object.apply(call) {
+        Ok(reply) => Ok(Event {
+            entry: (kept, foreseen),
+            call: told,
+            reply,
+        }),
+        Err(short) => Err(short),
+    }
 }
 
 /// An object whose calls, replies and pictures are compared.

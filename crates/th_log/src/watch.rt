@@ -5,9 +5,10 @@ ghost use Rattle.th_model.specs.Live.{TakesNone};
 ghost use Rattle.th_model.specs.WatchMachine.{IsExact};
 ghost use Rattle.th_model.specs.WatchPicture.{answer};
 
-use crate::object::{Compared, Event, Object};
+use crate::kind::Kind;
+use crate::object::{Compared, Event, Object, noted};
 use std::alloc::{AllocError, Global};
-use th_model::{Edit, Short, WCall, WReply};
+use th_model::{Edit, Question, ReceiverVerb, RxId, SenderVerb, Short, Start, TxId, WCall, WReply};
 use th_watch::{PictureParts, Watch};
 
 // A copy of an edit.
@@ -47,40 +48,6 @@ fn copied<T: Clone>(call: &WCall<T>) -> Result<WCall<T>, AllocError>
         WCall::DropRx(rx) => Ok(WCall::DropRx(*rx)),
         WCall::IsClosed(tx) => Ok(WCall::IsClosed(*tx)),
         WCall::Readers(tx) => Ok(WCall::Readers(*tx)),
-    }
-}
-
-// One event, with what its log keeps of it. It is drawn into each place that calls it, and knows the
-// call there.
-#[inline(always)]
-fn noted<T: Clone + PartialEq + Drop>(
-    channel: &mut Watch<T>,
-    call: WCall<T>,
-) -> Result<Event<WCall<T>, WReply<T>>, Short<WCall<T>>>
-    requires clones { ClonesAreEqual T.is_clone }
-    requires exact { IsExact T.eq }
-    ensures step { IfOk result (λ e. answer T.eq channel.old call ≡ (e.reply, channel.new)) }
-    ensures call { IfOk result (λ e. e.call ≡ call) }
-    ensures entry { IfOk result (λ e. e.entry ≡ (call, e.reply)) }
-    ensures short { IfErr result (λ short. (short.call ≡ call) × (channel.new ≡ channel.old)) }
-    ensures always { TakesNone call → IsOk result }
-{
-    let Ok(kept) = copied(&call) else {
-        return Err(Short { call });
-    };
-    let Ok(told) = copied(&call) else {
-        return Err(Short { call });
-    };
-    let Ok(foreseen) = channel.foresee(&call) else {
-        return Err(Short { call });
-    };
-    match channel.apply(call) {
-        Ok(reply) => Ok(Event {
-            entry: (kept, foreseen),
-            call: told,
-            reply,
-        }),
-        Err(short) => Err(short),
     }
 }
 
@@ -135,19 +102,6 @@ impl<T: Clone + PartialEq + Drop> Object for Watch<T> {
         Watch::foresee(self, call)
     }
 
-    // The calls that are made most often are compiled each for itself.
-    #[inline(always)]
-    fn event(&mut self, call: WCall<T>) -> Result<Event<WCall<T>, WReply<T>>, Short<WCall<T>>> {
-        match call {
-            WCall::Send(tx, value) => noted(self, WCall::Send(tx, value)),
-            WCall::Borrow(rx) => noted(self, WCall::Borrow(rx)),
-            WCall::Take(rx) => noted(self, WCall::Take(rx)),
-            WCall::TryChanged(rx) => noted(self, WCall::TryChanged(rx)),
-            WCall::Changed(rx) => noted(self, WCall::Changed(rx)),
-            other => noted(self, other),
-        }
-    }
-
     #[inline(always)]
     fn copy_call(call: &WCall<T>) -> Result<WCall<T>, Short<()>> {
         match copied(call) {
@@ -177,6 +131,180 @@ impl<T: Clone + PartialEq + Drop> Object for Watch<T> {
     #[inline(always)]
     fn closed(&self) -> bool {
         self.sender_count() == 0
+    }
+}
+
+impl<T: Clone + PartialEq + Drop> Kind for Watch<T> {
+    ghost use Rattle.std.specs.Prelude.{None, is_some};
+    ghost use Rattle.th_model.specs.Handles.{is_sender};
+    ghost use Rattle.th_model.specs.WatchMachine.{reader_of};
+    ghost use Rattle.th_model.specs.declared.watch.WCall.TheVariants.{CloneTx, DropRx, DropTx};
+    ghost use Rattle.th_model.specs.declared.watch.WReply.TheVariants.{Done};
+    ghost use Rattle.th_log.specs.Calls.{watch_asked, watch_by_receiver, watch_by_sender, watch_receiver_of, watch_sender_of, watch_subscribing, watch_waits};
+    ghost use Rattle.th_log.specs.Replies.{watch_ends, watch_made_rx, watch_made_tx};
+    ghost use Rattle.th_log.specs.KindLaws.{watch-asked, watch-by-receiver, watch-by-sender};
+    ghost use Rattle.th_log.specs.KindLaws.{reader-ends, watch-sender-ends};
+
+    type Value = T;
+
+    ghost has_sender = { λ p tx. is_sender p.senders tx.0 };
+
+    ghost has_receiver = { λ p rx. is_some (reader_of p.readers rx.0) };
+
+    ghost waits = { watch_waits };
+
+    ghost by_sender = { watch_by_sender };
+
+    ghost asked = { watch_asked };
+
+    ghost by_receiver = { watch_by_receiver };
+
+    ghost subscribing = { watch_subscribing };
+
+    ghost resubscribing = { λ rx. None };
+
+    ghost cloning = { λ tx. CloneTx tx };
+
+    ghost last_of_sender = { λ tx. DropTx tx };
+
+    ghost last_of_receiver = { λ rx. DropRx rx };
+
+    ghost sender_of = { watch_sender_of };
+
+    ghost receiver_of = { watch_receiver_of };
+
+    ghost made_tx = { watch_made_tx };
+
+    ghost made_rx = { watch_made_rx };
+
+    ghost ends = { watch_ends };
+
+    ghost done = { Done };
+
+    ghost by_sender_ok = { watch-by-sender T };
+
+    ghost asked_ok = { watch-asked T };
+
+    ghost by_receiver_ok = { watch-by-receiver T };
+
+    ghost sender_ends_ok = { watch-sender-ends T T.eq };
+
+    ghost receiver_ends_ok = { reader-ends T T.eq };
+
+    ghost stays_ok = { λ rx. tt };
+
+    #[inline(always)]
+    fn has_sender(&self, tx: TxId) -> bool {
+        Watch::has_sender(self, tx)
+    }
+
+    #[inline(always)]
+    fn has_receiver(&self, rx: RxId) -> bool {
+        Watch::is_unseen(self, rx).is_some()
+    }
+
+    #[inline(always)]
+    fn waits(&self, call: &WCall<T>) -> bool {
+        !Watch::ready(self, call)
+    }
+
+    // The calls that are made most often are compiled each for itself.
+    #[inline(always)]
+    fn event(&mut self, call: WCall<T>) -> Result<Event<WCall<T>, WReply<T>>, Short<WCall<T>>> {
+        match call {
+            WCall::Send(tx, value) => noted(self, WCall::Send(tx, value)),
+            WCall::Borrow(rx) => noted(self, WCall::Borrow(rx)),
+            WCall::Take(rx) => noted(self, WCall::Take(rx)),
+            WCall::TryChanged(rx) => noted(self, WCall::TryChanged(rx)),
+            WCall::Changed(rx) => noted(self, WCall::Changed(rx)),
+            other => noted(self, other),
+        }
+    }
+
+    #[inline(always)]
+    fn by_sender(verb: SenderVerb<T>, tx: TxId) -> Option<WCall<T>>
+        ensures { result ≡ watch_by_sender verb tx }
+    {
+        match verb {
+            SenderVerb::Send(value) => Some(WCall::Send(tx, value)),
+            SenderVerb::Replace(value) => Some(WCall::Replace(tx, value)),
+            SenderVerb::Set(value) => Some(WCall::EditBy(tx, Edit::Set(value))),
+            SenderVerb::Differ(value) => Some(WCall::EditBy(tx, Edit::Differ(value))),
+            SenderVerb::Quiet(value) => Some(WCall::EditBy(tx, Edit::Quiet(value))),
+        }
+    }
+
+    #[inline(always)]
+    fn asked(question: Question, tx: TxId) -> Option<WCall<T>> {
+        match question {
+            Question::Queued => None,
+            Question::Readers => Some(WCall::Readers(tx)),
+        }
+    }
+
+    #[inline(always)]
+    fn by_receiver(verb: ReceiverVerb, rx: RxId) -> Option<WCall<T>> {
+        match verb {
+            ReceiverVerb::Borrow => Some(WCall::Borrow(rx)),
+            ReceiverVerb::Take => Some(WCall::Take(rx)),
+            ReceiverVerb::HasChanged => Some(WCall::HasChanged(rx)),
+            ReceiverVerb::TryChanged => Some(WCall::TryChanged(rx)),
+            ReceiverVerb::Changed => Some(WCall::Changed(rx)),
+            ReceiverVerb::MarkChanged => Some(WCall::MarkChanged(rx)),
+            ReceiverVerb::MarkUnchanged => Some(WCall::MarkUnchanged(rx)),
+            _ => None,
+        }
+    }
+
+    fn subscribing(start: Start, tx: TxId) -> Option<WCall<T>> {
+        match start {
+            Start::Tail => Some(WCall::Subscribe(tx)),
+            Start::Oldest => None,
+        }
+    }
+
+    fn resubscribing(_rx: RxId) -> Option<WCall<T>> {
+        None
+    }
+
+    fn cloning(tx: TxId) -> WCall<T> {
+        WCall::CloneTx(tx)
+    }
+
+    fn last_of_sender(tx: TxId) -> WCall<T> {
+        WCall::DropTx(tx)
+    }
+
+    fn last_of_receiver(rx: RxId) -> WCall<T> {
+        WCall::DropRx(rx)
+    }
+
+    fn made_tx(reply: &WReply<T>) -> Option<TxId> {
+        match reply {
+            WReply::NewTx(tx) => Some(*tx),
+            _ => None,
+        }
+    }
+
+    fn made_rx(reply: &WReply<T>) -> Option<RxId> {
+        match reply {
+            WReply::NewRx(rx) => Some(*rx),
+            _ => None,
+        }
+    }
+
+    fn ends(reply: &WReply<T>) -> bool {
+        matches!(reply, WReply::Closed | WReply::NoHandle(_))
+    }
+
+    // A reader waits for a publication. What it marks unseen itself it does not wait for.
+    fn is_news(call: &WCall<T>, reply: &WReply<T>) -> bool {
+        match call {
+            WCall::Send(_, _) => matches!(reply, WReply::Done),
+            WCall::Replace(_, _) => matches!(reply, WReply::Was(_)),
+            WCall::EditBy(_, _) => matches!(reply, WReply::Modified(true)),
+            _ => false,
+        }
     }
 }
 

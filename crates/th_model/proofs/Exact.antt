@@ -1,5 +1,5 @@
 -- Calls and replies that compare equal are one, where values that compare equal are.
-use Rattle.std.proofs.Common.{◌≡◌, ◌↔◌, ℕ, Bool, true, false, ◌&&◌, Option, Some, None, eqb, refl, ap, subst, ◌∙◌}
+use Rattle.std.proofs.Common.{◌≡◌, ◌↔◌, ℕ, Bool, true, false, ◌&&◌, Option, Some, None, eqb, refl, ap, subst}
 use Rattle.std.proofs.lemmas.Bool.{false≢true, eqb-true, eq-eqb}
 use Rattle.std.specs.Prelude.{IsTrue}
 use Rattle.std.specs.Option.{option_eq}
@@ -50,6 +50,9 @@ same_bool true false h = absurd (false≢true h)
 same_bool false true h = absurd (false≢true h)
 same_bool false false h = refl
 
+eq-self : (n : ℕ) → IsTrue (eqb n n)
+eq-self n = eq-eqb n n refl
+
 beq-self : (a : Bool) → beq a a ≡ true
 beq-self true = refl
 beq-self false = refl
@@ -57,93 +60,281 @@ beq-self false = refl
 pub bool_same : (a b : Bool) → a ≡ b → beq a b ≡ true
 bool_same a b e = subst (λ c. beq a c ≡ true) e (beq-self a)
 
+-- What compares equal is one.
+abbrev Implies : {X : Type 0} → (X → X → Bool) → X → X → Type 0
+Implies eq a b = IsTrue (eq a b) → a ≡ b
+
+-- It compares equal to itself, and to nothing else.
+abbrev Alone : {X : Type 0} → (X → X → Bool) → X → Type 0
+Alone {X} eq a = IsTrue (eq a a) × ((b : X) → Implies eq a b)
+
+exact_by : {X : Type 0} {eq : X → X → Bool} → ((a : X) → Alone eq a) → IsExact eq
+exact_by {X} {eq} alone a b = ((alone a).1 b, λ e. subst (λ c. IsTrue (eq a c)) e (alone a).0)
+
+differ : {A : Type 0} → false ≡ true → A
+differ h = absurd (false≢true h)
+
+of_tx : {X : Type 0} (f : TxId → X) (a b : TxId) → IsTrue (eqb a.0 b.0) → f a ≡ f b
+of_tx f a b h = ap f (same_tx a b h)
+
+of_rx : {X : Type 0} (f : RxId → X) (a b : RxId) → IsTrue (eqb a.0 b.0) → f a ≡ f b
+of_rx f a b h = ap f (same_rx a b h)
+
+of_number : {X : Type 0} (f : ℕ → X) (a b : ℕ) → IsTrue (eqb a b) → f a ≡ f b
+of_number f a b h = ap f (eqb-true a b h)
+
+of_bool : {X : Type 0} (f : Bool → X) (a b : Bool) → IsTrue (beq a b) → f a ≡ f b
+of_bool f a b h = ap f (same_bool a b h)
+
+of_value : {V X : Type 0} {eq : V → V → Bool} → IsExact eq → (f : V → X) (a b : V) → IsTrue (eq a b) → f a ≡ f b
+of_value exact f a b h = ap f ((exact a b).0 h)
+
+pair : {A B C : Type 0} (f : A → B → C) {a b : A} {x y : B} → a ≡ b → x ≡ y → f a x ≡ f b y
+pair f p q = rw (p, q) refl
+
 pub exact_bcall : (T : RattleType) (P : Ghosts T.Denot) (d : Dict) → IsExact P.eq → IsExact ((ghosts_bcall T P d).eq)
-exact_bcall T P d exact x y =
-    let eq = (ghosts_bcall T P d).eq in
-    elim x as (λ k. (IsTrue (eq k y) → k ≡ y) × (k ≡ y → IsTrue (eq k y))) [
-      | bcall.Send a0 a1 ↦ elim y as (λ k. (IsTrue (eq (bcall.Send a0 a1) k) → bcall.Send a0 a1 ≡ k) × (bcall.Send a0 a1 ≡ k → IsTrue (eq (bcall.Send a0 a1) k))) [ bcall.Send b0 b1 ↦ (λ h. ap (λ u. bcall.Send u a1) (same_tx a0 b0 (and-left _ _ h)) ∙ ap (λ u. bcall.Send b0 u) ((exact a1 b1).0 (and-right _ _ h)), λ e. both (eq-eqb a0.0 b0.0 (cc)) ((exact a1 b1).1 (cc))) | _ ↦ (λ h. absurd (false≢true h), λ e. cc) ]
-      | bcall.TryRecv a0 ↦ elim y as (λ k. (IsTrue (eq (bcall.TryRecv a0) k) → bcall.TryRecv a0 ≡ k) × (bcall.TryRecv a0 ≡ k → IsTrue (eq (bcall.TryRecv a0) k))) [ bcall.TryRecv b0 ↦ (λ h. ap bcall.TryRecv (same_rx a0 b0 h), λ e. eq-eqb a0.0 b0.0 (cc)) | _ ↦ (λ h. absurd (false≢true h), λ e. cc) ]
-      | bcall.Recv a0 ↦ elim y as (λ k. (IsTrue (eq (bcall.Recv a0) k) → bcall.Recv a0 ≡ k) × (bcall.Recv a0 ≡ k → IsTrue (eq (bcall.Recv a0) k))) [ bcall.Recv b0 ↦ (λ h. ap bcall.Recv (same_rx a0 b0 h), λ e. eq-eqb a0.0 b0.0 (cc)) | _ ↦ (λ h. absurd (false≢true h), λ e. cc) ]
-      | bcall.Subscribe a0 ↦ elim y as (λ k. (IsTrue (eq (bcall.Subscribe a0) k) → bcall.Subscribe a0 ≡ k) × (bcall.Subscribe a0 ≡ k → IsTrue (eq (bcall.Subscribe a0) k))) [ bcall.Subscribe b0 ↦ (λ h. ap bcall.Subscribe (same_tx a0 b0 h), λ e. eq-eqb a0.0 b0.0 (cc)) | _ ↦ (λ h. absurd (false≢true h), λ e. cc) ]
-      | bcall.SubscribeOldest a0 ↦ elim y as (λ k. (IsTrue (eq (bcall.SubscribeOldest a0) k) → bcall.SubscribeOldest a0 ≡ k) × (bcall.SubscribeOldest a0 ≡ k → IsTrue (eq (bcall.SubscribeOldest a0) k))) [ bcall.SubscribeOldest b0 ↦ (λ h. ap bcall.SubscribeOldest (same_tx a0 b0 h), λ e. eq-eqb a0.0 b0.0 (cc)) | _ ↦ (λ h. absurd (false≢true h), λ e. cc) ]
-      | bcall.Resubscribe a0 ↦ elim y as (λ k. (IsTrue (eq (bcall.Resubscribe a0) k) → bcall.Resubscribe a0 ≡ k) × (bcall.Resubscribe a0 ≡ k → IsTrue (eq (bcall.Resubscribe a0) k))) [ bcall.Resubscribe b0 ↦ (λ h. ap bcall.Resubscribe (same_rx a0 b0 h), λ e. eq-eqb a0.0 b0.0 (cc)) | _ ↦ (λ h. absurd (false≢true h), λ e. cc) ]
-      | bcall.CloneTx a0 ↦ elim y as (λ k. (IsTrue (eq (bcall.CloneTx a0) k) → bcall.CloneTx a0 ≡ k) × (bcall.CloneTx a0 ≡ k → IsTrue (eq (bcall.CloneTx a0) k))) [ bcall.CloneTx b0 ↦ (λ h. ap bcall.CloneTx (same_tx a0 b0 h), λ e. eq-eqb a0.0 b0.0 (cc)) | _ ↦ (λ h. absurd (false≢true h), λ e. cc) ]
-      | bcall.DropTx a0 ↦ elim y as (λ k. (IsTrue (eq (bcall.DropTx a0) k) → bcall.DropTx a0 ≡ k) × (bcall.DropTx a0 ≡ k → IsTrue (eq (bcall.DropTx a0) k))) [ bcall.DropTx b0 ↦ (λ h. ap bcall.DropTx (same_tx a0 b0 h), λ e. eq-eqb a0.0 b0.0 (cc)) | _ ↦ (λ h. absurd (false≢true h), λ e. cc) ]
-      | bcall.DropRx a0 ↦ elim y as (λ k. (IsTrue (eq (bcall.DropRx a0) k) → bcall.DropRx a0 ≡ k) × (bcall.DropRx a0 ≡ k → IsTrue (eq (bcall.DropRx a0) k))) [ bcall.DropRx b0 ↦ (λ h. ap bcall.DropRx (same_rx a0 b0 h), λ e. eq-eqb a0.0 b0.0 (cc)) | _ ↦ (λ h. absurd (false≢true h), λ e. cc) ]
-      | bcall.Queued a0 ↦ elim y as (λ k. (IsTrue (eq (bcall.Queued a0) k) → bcall.Queued a0 ≡ k) × (bcall.Queued a0 ≡ k → IsTrue (eq (bcall.Queued a0) k))) [ bcall.Queued b0 ↦ (λ h. ap bcall.Queued (same_tx a0 b0 h), λ e. eq-eqb a0.0 b0.0 (cc)) | _ ↦ (λ h. absurd (false≢true h), λ e. cc) ]
-      | bcall.Left a0 ↦ elim y as (λ k. (IsTrue (eq (bcall.Left a0) k) → bcall.Left a0 ≡ k) × (bcall.Left a0 ≡ k → IsTrue (eq (bcall.Left a0) k))) [ bcall.Left b0 ↦ (λ h. ap bcall.Left (same_rx a0 b0 h), λ e. eq-eqb a0.0 b0.0 (cc)) | _ ↦ (λ h. absurd (false≢true h), λ e. cc) ]
-      | bcall.Readers a0 ↦ elim y as (λ k. (IsTrue (eq (bcall.Readers a0) k) → bcall.Readers a0 ≡ k) × (bcall.Readers a0 ≡ k → IsTrue (eq (bcall.Readers a0) k))) [ bcall.Readers b0 ↦ (λ h. ap bcall.Readers (same_tx a0 b0 h), λ e. eq-eqb a0.0 b0.0 (cc)) | _ ↦ (λ h. absurd (false≢true h), λ e. cc) ]
-    ]
+exact_bcall T P d exact =
+    let Same = Implies ((ghosts_bcall T P d).eq) in
+    exact_by (λ x. elim x as (Alone ((ghosts_bcall T P d).eq)) [
+      | bcall.Send a x ↦ (
+        both (eq-self a.0) ((exact x x).1 refl),
+        λ y. elim y as (Same (bcall.Send a x)) [
+          | bcall.Send b z ↦ λ h. pair bcall.Send (same_tx a b (and-left _ _ h)) ((exact x z).0 (and-right _ _ h))
+          | _ ↦ differ
+        ],
+      )
+      | bcall.TryRecv a ↦ (eq-self a.0, λ y. elim y as (Same (bcall.TryRecv a)) [ bcall.TryRecv b ↦ of_rx bcall.TryRecv a b | _ ↦ differ ])
+      | bcall.Recv a ↦ (eq-self a.0, λ y. elim y as (Same (bcall.Recv a)) [ bcall.Recv b ↦ of_rx bcall.Recv a b | _ ↦ differ ])
+      | bcall.Subscribe a ↦ (
+        eq-self a.0,
+        λ y. elim y as (Same (bcall.Subscribe a)) [
+          | bcall.Subscribe b ↦ of_tx bcall.Subscribe a b
+          | _ ↦ differ
+        ],
+      )
+      | bcall.SubscribeOldest a ↦ (
+        eq-self a.0,
+        λ y. elim y as (Same (bcall.SubscribeOldest a)) [
+          | bcall.SubscribeOldest b ↦ of_tx bcall.SubscribeOldest a b
+          | _ ↦ differ
+        ],
+      )
+      | bcall.Resubscribe a ↦ (
+        eq-self a.0,
+        λ y. elim y as (Same (bcall.Resubscribe a)) [
+          | bcall.Resubscribe b ↦ of_rx bcall.Resubscribe a b
+          | _ ↦ differ
+        ],
+      )
+      | bcall.CloneTx a ↦ (eq-self a.0, λ y. elim y as (Same (bcall.CloneTx a)) [ bcall.CloneTx b ↦ of_tx bcall.CloneTx a b | _ ↦ differ ])
+      | bcall.DropTx a ↦ (eq-self a.0, λ y. elim y as (Same (bcall.DropTx a)) [ bcall.DropTx b ↦ of_tx bcall.DropTx a b | _ ↦ differ ])
+      | bcall.DropRx a ↦ (eq-self a.0, λ y. elim y as (Same (bcall.DropRx a)) [ bcall.DropRx b ↦ of_rx bcall.DropRx a b | _ ↦ differ ])
+      | bcall.Queued a ↦ (eq-self a.0, λ y. elim y as (Same (bcall.Queued a)) [ bcall.Queued b ↦ of_tx bcall.Queued a b | _ ↦ differ ])
+      | bcall.Left a ↦ (eq-self a.0, λ y. elim y as (Same (bcall.Left a)) [ bcall.Left b ↦ of_rx bcall.Left a b | _ ↦ differ ])
+      | bcall.Readers a ↦ (eq-self a.0, λ y. elim y as (Same (bcall.Readers a)) [ bcall.Readers b ↦ of_tx bcall.Readers a b | _ ↦ differ ])
+    ])
 
 pub exact_breply : (T : RattleType) (P : Ghosts T.Denot) (d : Dict) → IsExact P.eq → IsExact ((ghosts_breply T P d).eq)
-exact_breply T P d exact x y =
-    let eq = (ghosts_breply T P d).eq in
-    elim x as (λ k. (IsTrue (eq k y) → k ≡ y) × (k ≡ y → IsTrue (eq k y))) [
-      | breply.Sent a0 ↦ elim y as (λ k. (IsTrue (eq (breply.Sent a0) k) → breply.Sent a0 ≡ k) × (breply.Sent a0 ≡ k → IsTrue (eq (breply.Sent a0) k))) [ breply.Sent b0 ↦ (λ h. ap breply.Sent (eqb-true a0 b0 h), λ e. eq-eqb a0 b0 (cc)) | _ ↦ (λ h. absurd (false≢true h), λ e. cc) ]
-      | breply.NoReceivers a0 ↦ elim y as (λ k. (IsTrue (eq (breply.NoReceivers a0) k) → breply.NoReceivers a0 ≡ k) × (breply.NoReceivers a0 ≡ k → IsTrue (eq (breply.NoReceivers a0) k))) [ breply.NoReceivers b0 ↦ (λ h. ap breply.NoReceivers ((exact a0 b0).0 h), λ e. (exact a0 b0).1 (cc)) | _ ↦ (λ h. absurd (false≢true h), λ e. cc) ]
-      | breply.Exhausted a0 ↦ elim y as (λ k. (IsTrue (eq (breply.Exhausted a0) k) → breply.Exhausted a0 ≡ k) × (breply.Exhausted a0 ≡ k → IsTrue (eq (breply.Exhausted a0) k))) [ breply.Exhausted b0 ↦ (λ h. ap breply.Exhausted ((exact a0 b0).0 h), λ e. (exact a0 b0).1 (cc)) | _ ↦ (λ h. absurd (false≢true h), λ e. cc) ]
-      | breply.Value a0 ↦ elim y as (λ k. (IsTrue (eq (breply.Value a0) k) → breply.Value a0 ≡ k) × (breply.Value a0 ≡ k → IsTrue (eq (breply.Value a0) k))) [ breply.Value b0 ↦ (λ h. ap breply.Value ((exact a0 b0).0 h), λ e. (exact a0 b0).1 (cc)) | _ ↦ (λ h. absurd (false≢true h), λ e. cc) ]
-      | breply.Empty ↦ elim y as (λ k. (IsTrue (eq (breply.Empty) k) → breply.Empty ≡ k) × (breply.Empty ≡ k → IsTrue (eq (breply.Empty) k))) [ breply.Empty ↦ (λ h. refl, λ e. refl) | _ ↦ (λ h. absurd (false≢true h), λ e. cc) ]
-      | breply.Closed ↦ elim y as (λ k. (IsTrue (eq (breply.Closed) k) → breply.Closed ≡ k) × (breply.Closed ≡ k → IsTrue (eq (breply.Closed) k))) [ breply.Closed ↦ (λ h. refl, λ e. refl) | _ ↦ (λ h. absurd (false≢true h), λ e. cc) ]
-      | breply.Lagged a0 ↦ elim y as (λ k. (IsTrue (eq (breply.Lagged a0) k) → breply.Lagged a0 ≡ k) × (breply.Lagged a0 ≡ k → IsTrue (eq (breply.Lagged a0) k))) [ breply.Lagged b0 ↦ (λ h. ap breply.Lagged (eqb-true a0 b0 h), λ e. eq-eqb a0 b0 (cc)) | _ ↦ (λ h. absurd (false≢true h), λ e. cc) ]
-      | breply.NewRx a0 ↦ elim y as (λ k. (IsTrue (eq (breply.NewRx a0) k) → breply.NewRx a0 ≡ k) × (breply.NewRx a0 ≡ k → IsTrue (eq (breply.NewRx a0) k))) [ breply.NewRx b0 ↦ (λ h. ap breply.NewRx (same_rx a0 b0 h), λ e. eq-eqb a0.0 b0.0 (cc)) | _ ↦ (λ h. absurd (false≢true h), λ e. cc) ]
-      | breply.NewTx a0 ↦ elim y as (λ k. (IsTrue (eq (breply.NewTx a0) k) → breply.NewTx a0 ≡ k) × (breply.NewTx a0 ≡ k → IsTrue (eq (breply.NewTx a0) k))) [ breply.NewTx b0 ↦ (λ h. ap breply.NewTx (same_tx a0 b0 h), λ e. eq-eqb a0.0 b0.0 (cc)) | _ ↦ (λ h. absurd (false≢true h), λ e. cc) ]
-      | breply.Count a0 ↦ elim y as (λ k. (IsTrue (eq (breply.Count a0) k) → breply.Count a0 ≡ k) × (breply.Count a0 ≡ k → IsTrue (eq (breply.Count a0) k))) [ breply.Count b0 ↦ (λ h. ap breply.Count (eqb-true a0 b0 h), λ e. eq-eqb a0 b0 (cc)) | _ ↦ (λ h. absurd (false≢true h), λ e. cc) ]
-      | breply.Done ↦ elim y as (λ k. (IsTrue (eq (breply.Done) k) → breply.Done ≡ k) × (breply.Done ≡ k → IsTrue (eq (breply.Done) k))) [ breply.Done ↦ (λ h. refl, λ e. refl) | _ ↦ (λ h. absurd (false≢true h), λ e. cc) ]
-      | breply.TooMany ↦ elim y as (λ k. (IsTrue (eq (breply.TooMany) k) → breply.TooMany ≡ k) × (breply.TooMany ≡ k → IsTrue (eq (breply.TooMany) k))) [ breply.TooMany ↦ (λ h. refl, λ e. refl) | _ ↦ (λ h. absurd (false≢true h), λ e. cc) ]
-      | breply.NoHandle a0 ↦ elim y as (λ k. (IsTrue (eq (breply.NoHandle a0) k) → breply.NoHandle a0 ≡ k) × (breply.NoHandle a0 ≡ k → IsTrue (eq (breply.NoHandle a0) k))) [ breply.NoHandle b0 ↦ (λ h. ap breply.NoHandle ((exact_option P.eq exact a0 b0).0 h), λ e. (exact_option P.eq exact a0 b0).1 (cc)) | _ ↦ (λ h. absurd (false≢true h), λ e. cc) ]
-    ]
+exact_breply T P d exact =
+    let Same = Implies ((ghosts_breply T P d).eq) in
+    exact_by (λ x. elim x as (Alone ((ghosts_breply T P d).eq)) [
+      | breply.Sent a ↦ (eq-self a, λ y. elim y as (Same (breply.Sent a)) [ breply.Sent b ↦ of_number breply.Sent a b | _ ↦ differ ])
+      | breply.NoReceivers a ↦ (
+        (exact a a).1 refl,
+        λ y. elim y as (Same (breply.NoReceivers a)) [
+          | breply.NoReceivers b ↦ of_value exact breply.NoReceivers a b
+          | _ ↦ differ
+        ],
+      )
+      | breply.Exhausted a ↦ (
+        (exact a a).1 refl,
+        λ y. elim y as (Same (breply.Exhausted a)) [
+          | breply.Exhausted b ↦ of_value exact breply.Exhausted a b
+          | _ ↦ differ
+        ],
+      )
+      | breply.Value a ↦ (
+        (exact a a).1 refl,
+        λ y. elim y as (Same (breply.Value a)) [
+          | breply.Value b ↦ of_value exact breply.Value a b
+          | _ ↦ differ
+        ],
+      )
+      | breply.Empty ↦ (refl, λ y. elim y as (Same breply.Empty) [ breply.Empty ↦ λ h. refl | _ ↦ differ ])
+      | breply.Closed ↦ (refl, λ y. elim y as (Same breply.Closed) [ breply.Closed ↦ λ h. refl | _ ↦ differ ])
+      | breply.Lagged a ↦ (eq-self a, λ y. elim y as (Same (breply.Lagged a)) [ breply.Lagged b ↦ of_number breply.Lagged a b | _ ↦ differ ])
+      | breply.NewRx a ↦ (eq-self a.0, λ y. elim y as (Same (breply.NewRx a)) [ breply.NewRx b ↦ of_rx breply.NewRx a b | _ ↦ differ ])
+      | breply.NewTx a ↦ (eq-self a.0, λ y. elim y as (Same (breply.NewTx a)) [ breply.NewTx b ↦ of_tx breply.NewTx a b | _ ↦ differ ])
+      | breply.Count a ↦ (eq-self a, λ y. elim y as (Same (breply.Count a)) [ breply.Count b ↦ of_number breply.Count a b | _ ↦ differ ])
+      | breply.Done ↦ (refl, λ y. elim y as (Same breply.Done) [ breply.Done ↦ λ h. refl | _ ↦ differ ])
+      | breply.TooMany ↦ (refl, λ y. elim y as (Same breply.TooMany) [ breply.TooMany ↦ λ h. refl | _ ↦ differ ])
+      | breply.NoHandle a ↦ (
+        (exact_option P.eq exact a a).1 refl,
+        λ y. elim y as (Same (breply.NoHandle a)) [
+          | breply.NoHandle b ↦ λ h. ap breply.NoHandle ((exact_option P.eq exact a b).0 h)
+          | _ ↦ differ
+        ],
+      )
+    ])
 
 pub exact_edit : (T : RattleType) (P : Ghosts T.Denot) (d : Dict) → IsExact P.eq → IsExact ((ghosts_edit T P d).eq)
-exact_edit T P d exact x y =
-    let eq = (ghosts_edit T P d).eq in
-    elim x as (λ k. (IsTrue (eq k y) → k ≡ y) × (k ≡ y → IsTrue (eq k y))) [
-      | edit.Set a0 ↦ elim y as (λ k. (IsTrue (eq (edit.Set a0) k) → edit.Set a0 ≡ k) × (edit.Set a0 ≡ k → IsTrue (eq (edit.Set a0) k))) [ edit.Set b0 ↦ (λ h. ap edit.Set ((exact a0 b0).0 h), λ e. (exact a0 b0).1 (cc)) | _ ↦ (λ h. absurd (false≢true h), λ e. cc) ]
-      | edit.Differ a0 ↦ elim y as (λ k. (IsTrue (eq (edit.Differ a0) k) → edit.Differ a0 ≡ k) × (edit.Differ a0 ≡ k → IsTrue (eq (edit.Differ a0) k))) [ edit.Differ b0 ↦ (λ h. ap edit.Differ ((exact a0 b0).0 h), λ e. (exact a0 b0).1 (cc)) | _ ↦ (λ h. absurd (false≢true h), λ e. cc) ]
-      | edit.Quiet a0 ↦ elim y as (λ k. (IsTrue (eq (edit.Quiet a0) k) → edit.Quiet a0 ≡ k) × (edit.Quiet a0 ≡ k → IsTrue (eq (edit.Quiet a0) k))) [ edit.Quiet b0 ↦ (λ h. ap edit.Quiet ((exact a0 b0).0 h), λ e. (exact a0 b0).1 (cc)) | _ ↦ (λ h. absurd (false≢true h), λ e. cc) ]
-    ]
+exact_edit T P d exact =
+    let Same = Implies ((ghosts_edit T P d).eq) in
+    exact_by (λ x. elim x as (Alone ((ghosts_edit T P d).eq)) [
+      | edit.Set a ↦ ((exact a a).1 refl, λ y. elim y as (Same (edit.Set a)) [ edit.Set b ↦ of_value exact edit.Set a b | _ ↦ differ ])
+      | edit.Differ a ↦ (
+        (exact a a).1 refl,
+        λ y. elim y as (Same (edit.Differ a)) [
+          | edit.Differ b ↦ of_value exact edit.Differ a b
+          | _ ↦ differ
+        ],
+      )
+      | edit.Quiet a ↦ (
+        (exact a a).1 refl,
+        λ y. elim y as (Same (edit.Quiet a)) [
+          | edit.Quiet b ↦ of_value exact edit.Quiet a b
+          | _ ↦ differ
+        ],
+      )
+    ])
 
 pub exact_wcall : (T : RattleType) (P : Ghosts T.Denot) (d : Dict) → IsExact P.eq → IsExact ((ghosts_wcall T P d).eq)
-exact_wcall T P d exact x y =
-    let eq = (ghosts_wcall T P d).eq in
-    elim x as (λ k. (IsTrue (eq k y) → k ≡ y) × (k ≡ y → IsTrue (eq k y))) [
-      | wcall.Send a0 a1 ↦ elim y as (λ k. (IsTrue (eq (wcall.Send a0 a1) k) → wcall.Send a0 a1 ≡ k) × (wcall.Send a0 a1 ≡ k → IsTrue (eq (wcall.Send a0 a1) k))) [ wcall.Send b0 b1 ↦ (λ h. ap (λ u. wcall.Send u a1) (same_tx a0 b0 (and-left _ _ h)) ∙ ap (λ u. wcall.Send b0 u) ((exact a1 b1).0 (and-right _ _ h)), λ e. both (eq-eqb a0.0 b0.0 (cc)) ((exact a1 b1).1 (cc))) | _ ↦ (λ h. absurd (false≢true h), λ e. cc) ]
-      | wcall.Replace a0 a1 ↦ elim y as (λ k. (IsTrue (eq (wcall.Replace a0 a1) k) → wcall.Replace a0 a1 ≡ k) × (wcall.Replace a0 a1 ≡ k → IsTrue (eq (wcall.Replace a0 a1) k))) [ wcall.Replace b0 b1 ↦ (λ h. ap (λ u. wcall.Replace u a1) (same_tx a0 b0 (and-left _ _ h)) ∙ ap (λ u. wcall.Replace b0 u) ((exact a1 b1).0 (and-right _ _ h)), λ e. both (eq-eqb a0.0 b0.0 (cc)) ((exact a1 b1).1 (cc))) | _ ↦ (λ h. absurd (false≢true h), λ e. cc) ]
-      | wcall.EditBy a0 a1 ↦ elim y as (λ k. (IsTrue (eq (wcall.EditBy a0 a1) k) → wcall.EditBy a0 a1 ≡ k) × (wcall.EditBy a0 a1 ≡ k → IsTrue (eq (wcall.EditBy a0 a1) k))) [ wcall.EditBy b0 b1 ↦ (λ h. ap (λ u. wcall.EditBy u a1) (same_tx a0 b0 (and-left _ _ h)) ∙ ap (λ u. wcall.EditBy b0 u) ((exact_edit T P d exact a1 b1).0 (and-right _ _ h)), λ e. both (eq-eqb a0.0 b0.0 (cc)) ((exact_edit T P d exact a1 b1).1 (cc))) | _ ↦ (λ h. absurd (false≢true h), λ e. cc) ]
-      | wcall.Borrow a0 ↦ elim y as (λ k. (IsTrue (eq (wcall.Borrow a0) k) → wcall.Borrow a0 ≡ k) × (wcall.Borrow a0 ≡ k → IsTrue (eq (wcall.Borrow a0) k))) [ wcall.Borrow b0 ↦ (λ h. ap wcall.Borrow (same_rx a0 b0 h), λ e. eq-eqb a0.0 b0.0 (cc)) | _ ↦ (λ h. absurd (false≢true h), λ e. cc) ]
-      | wcall.Take a0 ↦ elim y as (λ k. (IsTrue (eq (wcall.Take a0) k) → wcall.Take a0 ≡ k) × (wcall.Take a0 ≡ k → IsTrue (eq (wcall.Take a0) k))) [ wcall.Take b0 ↦ (λ h. ap wcall.Take (same_rx a0 b0 h), λ e. eq-eqb a0.0 b0.0 (cc)) | _ ↦ (λ h. absurd (false≢true h), λ e. cc) ]
-      | wcall.HasChanged a0 ↦ elim y as (λ k. (IsTrue (eq (wcall.HasChanged a0) k) → wcall.HasChanged a0 ≡ k) × (wcall.HasChanged a0 ≡ k → IsTrue (eq (wcall.HasChanged a0) k))) [ wcall.HasChanged b0 ↦ (λ h. ap wcall.HasChanged (same_rx a0 b0 h), λ e. eq-eqb a0.0 b0.0 (cc)) | _ ↦ (λ h. absurd (false≢true h), λ e. cc) ]
-      | wcall.TryChanged a0 ↦ elim y as (λ k. (IsTrue (eq (wcall.TryChanged a0) k) → wcall.TryChanged a0 ≡ k) × (wcall.TryChanged a0 ≡ k → IsTrue (eq (wcall.TryChanged a0) k))) [ wcall.TryChanged b0 ↦ (λ h. ap wcall.TryChanged (same_rx a0 b0 h), λ e. eq-eqb a0.0 b0.0 (cc)) | _ ↦ (λ h. absurd (false≢true h), λ e. cc) ]
-      | wcall.Changed a0 ↦ elim y as (λ k. (IsTrue (eq (wcall.Changed a0) k) → wcall.Changed a0 ≡ k) × (wcall.Changed a0 ≡ k → IsTrue (eq (wcall.Changed a0) k))) [ wcall.Changed b0 ↦ (λ h. ap wcall.Changed (same_rx a0 b0 h), λ e. eq-eqb a0.0 b0.0 (cc)) | _ ↦ (λ h. absurd (false≢true h), λ e. cc) ]
-      | wcall.MarkChanged a0 ↦ elim y as (λ k. (IsTrue (eq (wcall.MarkChanged a0) k) → wcall.MarkChanged a0 ≡ k) × (wcall.MarkChanged a0 ≡ k → IsTrue (eq (wcall.MarkChanged a0) k))) [ wcall.MarkChanged b0 ↦ (λ h. ap wcall.MarkChanged (same_rx a0 b0 h), λ e. eq-eqb a0.0 b0.0 (cc)) | _ ↦ (λ h. absurd (false≢true h), λ e. cc) ]
-      | wcall.MarkUnchanged a0 ↦ elim y as (λ k. (IsTrue (eq (wcall.MarkUnchanged a0) k) → wcall.MarkUnchanged a0 ≡ k) × (wcall.MarkUnchanged a0 ≡ k → IsTrue (eq (wcall.MarkUnchanged a0) k))) [ wcall.MarkUnchanged b0 ↦ (λ h. ap wcall.MarkUnchanged (same_rx a0 b0 h), λ e. eq-eqb a0.0 b0.0 (cc)) | _ ↦ (λ h. absurd (false≢true h), λ e. cc) ]
-      | wcall.Subscribe a0 ↦ elim y as (λ k. (IsTrue (eq (wcall.Subscribe a0) k) → wcall.Subscribe a0 ≡ k) × (wcall.Subscribe a0 ≡ k → IsTrue (eq (wcall.Subscribe a0) k))) [ wcall.Subscribe b0 ↦ (λ h. ap wcall.Subscribe (same_tx a0 b0 h), λ e. eq-eqb a0.0 b0.0 (cc)) | _ ↦ (λ h. absurd (false≢true h), λ e. cc) ]
-      | wcall.CloneRx a0 ↦ elim y as (λ k. (IsTrue (eq (wcall.CloneRx a0) k) → wcall.CloneRx a0 ≡ k) × (wcall.CloneRx a0 ≡ k → IsTrue (eq (wcall.CloneRx a0) k))) [ wcall.CloneRx b0 ↦ (λ h. ap wcall.CloneRx (same_rx a0 b0 h), λ e. eq-eqb a0.0 b0.0 (cc)) | _ ↦ (λ h. absurd (false≢true h), λ e. cc) ]
-      | wcall.CloneTx a0 ↦ elim y as (λ k. (IsTrue (eq (wcall.CloneTx a0) k) → wcall.CloneTx a0 ≡ k) × (wcall.CloneTx a0 ≡ k → IsTrue (eq (wcall.CloneTx a0) k))) [ wcall.CloneTx b0 ↦ (λ h. ap wcall.CloneTx (same_tx a0 b0 h), λ e. eq-eqb a0.0 b0.0 (cc)) | _ ↦ (λ h. absurd (false≢true h), λ e. cc) ]
-      | wcall.DropTx a0 ↦ elim y as (λ k. (IsTrue (eq (wcall.DropTx a0) k) → wcall.DropTx a0 ≡ k) × (wcall.DropTx a0 ≡ k → IsTrue (eq (wcall.DropTx a0) k))) [ wcall.DropTx b0 ↦ (λ h. ap wcall.DropTx (same_tx a0 b0 h), λ e. eq-eqb a0.0 b0.0 (cc)) | _ ↦ (λ h. absurd (false≢true h), λ e. cc) ]
-      | wcall.DropRx a0 ↦ elim y as (λ k. (IsTrue (eq (wcall.DropRx a0) k) → wcall.DropRx a0 ≡ k) × (wcall.DropRx a0 ≡ k → IsTrue (eq (wcall.DropRx a0) k))) [ wcall.DropRx b0 ↦ (λ h. ap wcall.DropRx (same_rx a0 b0 h), λ e. eq-eqb a0.0 b0.0 (cc)) | _ ↦ (λ h. absurd (false≢true h), λ e. cc) ]
-      | wcall.IsClosed a0 ↦ elim y as (λ k. (IsTrue (eq (wcall.IsClosed a0) k) → wcall.IsClosed a0 ≡ k) × (wcall.IsClosed a0 ≡ k → IsTrue (eq (wcall.IsClosed a0) k))) [ wcall.IsClosed b0 ↦ (λ h. ap wcall.IsClosed (same_tx a0 b0 h), λ e. eq-eqb a0.0 b0.0 (cc)) | _ ↦ (λ h. absurd (false≢true h), λ e. cc) ]
-      | wcall.Readers a0 ↦ elim y as (λ k. (IsTrue (eq (wcall.Readers a0) k) → wcall.Readers a0 ≡ k) × (wcall.Readers a0 ≡ k → IsTrue (eq (wcall.Readers a0) k))) [ wcall.Readers b0 ↦ (λ h. ap wcall.Readers (same_tx a0 b0 h), λ e. eq-eqb a0.0 b0.0 (cc)) | _ ↦ (λ h. absurd (false≢true h), λ e. cc) ]
-    ]
+exact_wcall T P d exact =
+    let Same = Implies ((ghosts_wcall T P d).eq) in
+    exact_by (λ x. elim x as (Alone ((ghosts_wcall T P d).eq)) [
+      | wcall.Send a x ↦ (
+        both (eq-self a.0) ((exact x x).1 refl),
+        λ y. elim y as (Same (wcall.Send a x)) [
+          | wcall.Send b z ↦ λ h. pair wcall.Send (same_tx a b (and-left _ _ h)) ((exact x z).0 (and-right _ _ h))
+          | _ ↦ differ
+        ],
+      )
+      | wcall.Replace a x ↦ (
+        both (eq-self a.0) ((exact x x).1 refl),
+        λ y. elim y as (Same (wcall.Replace a x)) [
+          | wcall.Replace b z ↦ λ h. pair wcall.Replace (same_tx a b (and-left _ _ h)) ((exact x z).0 (and-right _ _ h))
+          | _ ↦ differ
+        ],
+      )
+      | wcall.EditBy a x ↦ (
+        both (eq-self a.0) ((exact_edit T P d exact x x).1 refl),
+        λ y. elim y as (Same (wcall.EditBy a x)) [
+          | wcall.EditBy b z ↦ λ h. pair wcall.EditBy (same_tx a b (and-left _ _ h)) ((exact_edit T P d exact x z).0 (and-right _ _ h))
+          | _ ↦ differ
+        ],
+      )
+      | wcall.Borrow a ↦ (eq-self a.0, λ y. elim y as (Same (wcall.Borrow a)) [ wcall.Borrow b ↦ of_rx wcall.Borrow a b | _ ↦ differ ])
+      | wcall.Take a ↦ (eq-self a.0, λ y. elim y as (Same (wcall.Take a)) [ wcall.Take b ↦ of_rx wcall.Take a b | _ ↦ differ ])
+      | wcall.HasChanged a ↦ (
+        eq-self a.0,
+        λ y. elim y as (Same (wcall.HasChanged a)) [
+          | wcall.HasChanged b ↦ of_rx wcall.HasChanged a b
+          | _ ↦ differ
+        ],
+      )
+      | wcall.TryChanged a ↦ (
+        eq-self a.0,
+        λ y. elim y as (Same (wcall.TryChanged a)) [
+          | wcall.TryChanged b ↦ of_rx wcall.TryChanged a b
+          | _ ↦ differ
+        ],
+      )
+      | wcall.Changed a ↦ (eq-self a.0, λ y. elim y as (Same (wcall.Changed a)) [ wcall.Changed b ↦ of_rx wcall.Changed a b | _ ↦ differ ])
+      | wcall.MarkChanged a ↦ (
+        eq-self a.0,
+        λ y. elim y as (Same (wcall.MarkChanged a)) [
+          | wcall.MarkChanged b ↦ of_rx wcall.MarkChanged a b
+          | _ ↦ differ
+        ],
+      )
+      | wcall.MarkUnchanged a ↦ (
+        eq-self a.0,
+        λ y. elim y as (Same (wcall.MarkUnchanged a)) [
+          | wcall.MarkUnchanged b ↦ of_rx wcall.MarkUnchanged a b
+          | _ ↦ differ
+        ],
+      )
+      | wcall.Subscribe a ↦ (
+        eq-self a.0,
+        λ y. elim y as (Same (wcall.Subscribe a)) [
+          | wcall.Subscribe b ↦ of_tx wcall.Subscribe a b
+          | _ ↦ differ
+        ],
+      )
+      | wcall.CloneRx a ↦ (eq-self a.0, λ y. elim y as (Same (wcall.CloneRx a)) [ wcall.CloneRx b ↦ of_rx wcall.CloneRx a b | _ ↦ differ ])
+      | wcall.CloneTx a ↦ (eq-self a.0, λ y. elim y as (Same (wcall.CloneTx a)) [ wcall.CloneTx b ↦ of_tx wcall.CloneTx a b | _ ↦ differ ])
+      | wcall.DropTx a ↦ (eq-self a.0, λ y. elim y as (Same (wcall.DropTx a)) [ wcall.DropTx b ↦ of_tx wcall.DropTx a b | _ ↦ differ ])
+      | wcall.DropRx a ↦ (eq-self a.0, λ y. elim y as (Same (wcall.DropRx a)) [ wcall.DropRx b ↦ of_rx wcall.DropRx a b | _ ↦ differ ])
+      | wcall.IsClosed a ↦ (
+        eq-self a.0,
+        λ y. elim y as (Same (wcall.IsClosed a)) [
+          | wcall.IsClosed b ↦ of_tx wcall.IsClosed a b
+          | _ ↦ differ
+        ],
+      )
+      | wcall.Readers a ↦ (eq-self a.0, λ y. elim y as (Same (wcall.Readers a)) [ wcall.Readers b ↦ of_tx wcall.Readers a b | _ ↦ differ ])
+    ])
 
 pub exact_wreply : (T : RattleType) (P : Ghosts T.Denot) (d : Dict) → IsExact P.eq → IsExact ((ghosts_wreply T P d).eq)
-exact_wreply T P d exact x y =
-    let eq = (ghosts_wreply T P d).eq in
-    elim x as (λ k. (IsTrue (eq k y) → k ≡ y) × (k ≡ y → IsTrue (eq k y))) [
-      | wreply.Done ↦ elim y as (λ k. (IsTrue (eq (wreply.Done) k) → wreply.Done ≡ k) × (wreply.Done ≡ k → IsTrue (eq (wreply.Done) k))) [ wreply.Done ↦ (λ h. refl, λ e. refl) | _ ↦ (λ h. absurd (false≢true h), λ e. cc) ]
-      | wreply.NoReceivers a0 ↦ elim y as (λ k. (IsTrue (eq (wreply.NoReceivers a0) k) → wreply.NoReceivers a0 ≡ k) × (wreply.NoReceivers a0 ≡ k → IsTrue (eq (wreply.NoReceivers a0) k))) [ wreply.NoReceivers b0 ↦ (λ h. ap wreply.NoReceivers ((exact a0 b0).0 h), λ e. (exact a0 b0).1 (cc)) | _ ↦ (λ h. absurd (false≢true h), λ e. cc) ]
-      | wreply.Exhausted a0 ↦ elim y as (λ k. (IsTrue (eq (wreply.Exhausted a0) k) → wreply.Exhausted a0 ≡ k) × (wreply.Exhausted a0 ≡ k → IsTrue (eq (wreply.Exhausted a0) k))) [ wreply.Exhausted b0 ↦ (λ h. ap wreply.Exhausted ((exact a0 b0).0 h), λ e. (exact a0 b0).1 (cc)) | _ ↦ (λ h. absurd (false≢true h), λ e. cc) ]
-      | wreply.Was a0 ↦ elim y as (λ k. (IsTrue (eq (wreply.Was a0) k) → wreply.Was a0 ≡ k) × (wreply.Was a0 ≡ k → IsTrue (eq (wreply.Was a0) k))) [ wreply.Was b0 ↦ (λ h. ap wreply.Was ((exact a0 b0).0 h), λ e. (exact a0 b0).1 (cc)) | _ ↦ (λ h. absurd (false≢true h), λ e. cc) ]
-      | wreply.Modified a0 ↦ elim y as (λ k. (IsTrue (eq (wreply.Modified a0) k) → wreply.Modified a0 ≡ k) × (wreply.Modified a0 ≡ k → IsTrue (eq (wreply.Modified a0) k))) [ wreply.Modified b0 ↦ (λ h. ap wreply.Modified (same_bool a0 b0 h), λ e. bool_same a0 b0 (cc)) | _ ↦ (λ h. absurd (false≢true h), λ e. cc) ]
-      | wreply.Shown a0 a1 ↦ elim y as (λ k. (IsTrue (eq (wreply.Shown a0 a1) k) → wreply.Shown a0 a1 ≡ k) × (wreply.Shown a0 a1 ≡ k → IsTrue (eq (wreply.Shown a0 a1) k))) [ wreply.Shown b0 b1 ↦ (λ h. ap (λ u. wreply.Shown u a1) ((exact a0 b0).0 (and-left _ _ h)) ∙ ap (λ u. wreply.Shown b0 u) (same_bool a1 b1 (and-right _ _ h)), λ e. both ((exact a0 b0).1 (cc)) (bool_same a1 b1 (cc))) | _ ↦ (λ h. absurd (false≢true h), λ e. cc) ]
-      | wreply.Changed a0 ↦ elim y as (λ k. (IsTrue (eq (wreply.Changed a0) k) → wreply.Changed a0 ≡ k) × (wreply.Changed a0 ≡ k → IsTrue (eq (wreply.Changed a0) k))) [ wreply.Changed b0 ↦ (λ h. ap wreply.Changed (same_bool a0 b0 h), λ e. bool_same a0 b0 (cc)) | _ ↦ (λ h. absurd (false≢true h), λ e. cc) ]
-      | wreply.Marked ↦ elim y as (λ k. (IsTrue (eq (wreply.Marked) k) → wreply.Marked ≡ k) × (wreply.Marked ≡ k → IsTrue (eq (wreply.Marked) k))) [ wreply.Marked ↦ (λ h. refl, λ e. refl) | _ ↦ (λ h. absurd (false≢true h), λ e. cc) ]
-      | wreply.NotYet ↦ elim y as (λ k. (IsTrue (eq (wreply.NotYet) k) → wreply.NotYet ≡ k) × (wreply.NotYet ≡ k → IsTrue (eq (wreply.NotYet) k))) [ wreply.NotYet ↦ (λ h. refl, λ e. refl) | _ ↦ (λ h. absurd (false≢true h), λ e. cc) ]
-      | wreply.Closed ↦ elim y as (λ k. (IsTrue (eq (wreply.Closed) k) → wreply.Closed ≡ k) × (wreply.Closed ≡ k → IsTrue (eq (wreply.Closed) k))) [ wreply.Closed ↦ (λ h. refl, λ e. refl) | _ ↦ (λ h. absurd (false≢true h), λ e. cc) ]
-      | wreply.Gone a0 ↦ elim y as (λ k. (IsTrue (eq (wreply.Gone a0) k) → wreply.Gone a0 ≡ k) × (wreply.Gone a0 ≡ k → IsTrue (eq (wreply.Gone a0) k))) [ wreply.Gone b0 ↦ (λ h. ap wreply.Gone (same_bool a0 b0 h), λ e. bool_same a0 b0 (cc)) | _ ↦ (λ h. absurd (false≢true h), λ e. cc) ]
-      | wreply.NewRx a0 ↦ elim y as (λ k. (IsTrue (eq (wreply.NewRx a0) k) → wreply.NewRx a0 ≡ k) × (wreply.NewRx a0 ≡ k → IsTrue (eq (wreply.NewRx a0) k))) [ wreply.NewRx b0 ↦ (λ h. ap wreply.NewRx (same_rx a0 b0 h), λ e. eq-eqb a0.0 b0.0 (cc)) | _ ↦ (λ h. absurd (false≢true h), λ e. cc) ]
-      | wreply.NewTx a0 ↦ elim y as (λ k. (IsTrue (eq (wreply.NewTx a0) k) → wreply.NewTx a0 ≡ k) × (wreply.NewTx a0 ≡ k → IsTrue (eq (wreply.NewTx a0) k))) [ wreply.NewTx b0 ↦ (λ h. ap wreply.NewTx (same_tx a0 b0 h), λ e. eq-eqb a0.0 b0.0 (cc)) | _ ↦ (λ h. absurd (false≢true h), λ e. cc) ]
-      | wreply.Count a0 ↦ elim y as (λ k. (IsTrue (eq (wreply.Count a0) k) → wreply.Count a0 ≡ k) × (wreply.Count a0 ≡ k → IsTrue (eq (wreply.Count a0) k))) [ wreply.Count b0 ↦ (λ h. ap wreply.Count (eqb-true a0 b0 h), λ e. eq-eqb a0 b0 (cc)) | _ ↦ (λ h. absurd (false≢true h), λ e. cc) ]
-      | wreply.TooMany ↦ elim y as (λ k. (IsTrue (eq (wreply.TooMany) k) → wreply.TooMany ≡ k) × (wreply.TooMany ≡ k → IsTrue (eq (wreply.TooMany) k))) [ wreply.TooMany ↦ (λ h. refl, λ e. refl) | _ ↦ (λ h. absurd (false≢true h), λ e. cc) ]
-      | wreply.NoHandle a0 ↦ elim y as (λ k. (IsTrue (eq (wreply.NoHandle a0) k) → wreply.NoHandle a0 ≡ k) × (wreply.NoHandle a0 ≡ k → IsTrue (eq (wreply.NoHandle a0) k))) [ wreply.NoHandle b0 ↦ (λ h. ap wreply.NoHandle ((exact_option P.eq exact a0 b0).0 h), λ e. (exact_option P.eq exact a0 b0).1 (cc)) | _ ↦ (λ h. absurd (false≢true h), λ e. cc) ]
-    ]
+exact_wreply T P d exact =
+    let Same = Implies ((ghosts_wreply T P d).eq) in
+    exact_by (λ x. elim x as (Alone ((ghosts_wreply T P d).eq)) [
+      | wreply.Done ↦ (refl, λ y. elim y as (Same wreply.Done) [ wreply.Done ↦ λ h. refl | _ ↦ differ ])
+      | wreply.NoReceivers a ↦ (
+        (exact a a).1 refl,
+        λ y. elim y as (Same (wreply.NoReceivers a)) [
+          | wreply.NoReceivers b ↦ of_value exact wreply.NoReceivers a b
+          | _ ↦ differ
+        ],
+      )
+      | wreply.Exhausted a ↦ (
+        (exact a a).1 refl,
+        λ y. elim y as (Same (wreply.Exhausted a)) [
+          | wreply.Exhausted b ↦ of_value exact wreply.Exhausted a b
+          | _ ↦ differ
+        ],
+      )
+      | wreply.Was a ↦ (
+        (exact a a).1 refl,
+        λ y. elim y as (Same (wreply.Was a)) [
+          | wreply.Was b ↦ of_value exact wreply.Was a b
+          | _ ↦ differ
+        ],
+      )
+      | wreply.Modified a ↦ (
+        beq-self a,
+        λ y. elim y as (Same (wreply.Modified a)) [
+          | wreply.Modified b ↦ of_bool wreply.Modified a b
+          | _ ↦ differ
+        ],
+      )
+      | wreply.Shown a x ↦ (
+        both ((exact a a).1 refl) (beq-self x),
+        λ y. elim y as (Same (wreply.Shown a x)) [
+          | wreply.Shown b z ↦ λ h. pair wreply.Shown ((exact a b).0 (and-left _ _ h)) (same_bool x z (and-right _ _ h))
+          | _ ↦ differ
+        ],
+      )
+      | wreply.Changed a ↦ (
+        beq-self a,
+        λ y. elim y as (Same (wreply.Changed a)) [
+          | wreply.Changed b ↦ of_bool wreply.Changed a b
+          | _ ↦ differ
+        ],
+      )
+      | wreply.Marked ↦ (refl, λ y. elim y as (Same wreply.Marked) [ wreply.Marked ↦ λ h. refl | _ ↦ differ ])
+      | wreply.NotYet ↦ (refl, λ y. elim y as (Same wreply.NotYet) [ wreply.NotYet ↦ λ h. refl | _ ↦ differ ])
+      | wreply.Closed ↦ (refl, λ y. elim y as (Same wreply.Closed) [ wreply.Closed ↦ λ h. refl | _ ↦ differ ])
+      | wreply.Gone a ↦ (beq-self a, λ y. elim y as (Same (wreply.Gone a)) [ wreply.Gone b ↦ of_bool wreply.Gone a b | _ ↦ differ ])
+      | wreply.NewRx a ↦ (eq-self a.0, λ y. elim y as (Same (wreply.NewRx a)) [ wreply.NewRx b ↦ of_rx wreply.NewRx a b | _ ↦ differ ])
+      | wreply.NewTx a ↦ (eq-self a.0, λ y. elim y as (Same (wreply.NewTx a)) [ wreply.NewTx b ↦ of_tx wreply.NewTx a b | _ ↦ differ ])
+      | wreply.Count a ↦ (eq-self a, λ y. elim y as (Same (wreply.Count a)) [ wreply.Count b ↦ of_number wreply.Count a b | _ ↦ differ ])
+      | wreply.TooMany ↦ (refl, λ y. elim y as (Same wreply.TooMany) [ wreply.TooMany ↦ λ h. refl | _ ↦ differ ])
+      | wreply.NoHandle a ↦ (
+        (exact_option P.eq exact a a).1 refl,
+        λ y. elim y as (Same (wreply.NoHandle a)) [
+          | wreply.NoHandle b ↦ λ h. ap wreply.NoHandle ((exact_option P.eq exact a b).0 h)
+          | _ ↦ differ
+        ],
+      )
+    ])

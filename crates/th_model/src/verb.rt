@@ -1,20 +1,18 @@
 //! What a handle does on its channel, whatever the kind of the channel. Which kinds have a call for it is in the table of
 //! calls.
-use crate::value::Value;
-
 /// What a sender does: one event.
 #[derive(Debug, Drop, PartialEq, Eq)]
-pub enum SenderVerb {
+pub enum SenderVerb<T> {
     /// Sends a value.
-    Send(Value),
+    Send(T),
     /// Publishes a value, for the old one.
-    Replace(Value),
+    Replace(T),
     /// Publishes a value, readers or not.
-    Set(Value),
+    Set(T),
     /// Publishes a value where it differs from the newest one.
-    Differ(Value),
+    Differ(T),
     /// Replaces the newest value and tells no reader.
-    Quiet(Value),
+    Quiet(T),
 }
 
 /// What is asked through any live sender: one event.

@@ -1,6 +1,6 @@
 -- An event of a topic is an event of its channel.
-use Rattle.std.proofs.Common.{◌≡◌, ℕ, zero, suc, inl, inr, Bool, true, false, List, [], ◌∷◌, Option, Some, None, is_some, slice_get, Result, refl, sym, ap, subst, ◌∙◌}
-use Rattle.std.specs.Prelude.{not, is_ok}
+use Rattle.std.proofs.Common.{◌≡◌, ℕ, zero, suc, inl, inr, List, [], ◌∷◌, Option, Some, None, slice_get, Result, refl, sym, ap, subst, ◌∙◌}
+use Rattle.std.specs.Prelude.{is_ok}
 use Rattle.std.proofs.lemmas.Option.{same_Some}
 use Rattle.std.specs.Option.{option_map}
 use Rattle.std.specs.Map.{values_of}
@@ -10,11 +10,11 @@ use Rattle.th_model.specs.declared.verb.Question.{Question}
 use Rattle.th_model.specs.declared.verb.Start.{Start}
 use Rattle.th_registry.specs.declared.outcome.NoEvent.{NoEvent}
 use Rattle.th_registry.specs.Calls.{Bytes}
-use Rattle.th_registry.specs.Events.{Event, Asks, Subscribes, any_sender, is_hub, takes_memory}
+use Rattle.th_registry.specs.Events.{Event, Asks, Subscribes, any_sender, takes_memory}
 use Rattle.th_registry.specs.declared.opening.Found.{Found}
 use Rattle.th_registry.specs.History.{ChannelSegment}
 use Rattle.th_registry.specs.Hub.{Find, On, Cut, Noted, find, written, on_channel, channel_event, cut_channel, receipt_on, Says}
-use Rattle.th_registry.specs.Outcomes.{ChannelCuts, ChannelTells, SaysOrShort}
+use Rattle.th_registry.specs.Outcomes.{ChannelCuts, ChannelTells}
 use Rattle.th_registry.specs.Pictures.{Desk, DeskSays, SeenChannel, SeenTopics, pictures, seen_broadcast, seen_watch}
 
 -- the value that is there is set again
@@ -75,19 +75,6 @@ pub desk-cuts : {c new : SeenChannel} {segment : Result ChannelSegment NoEvent} 
 desk-cuts {new = new} {segment = segment} {limit = limit} {ts = ts} topic same there cuts =
     let P : Desk → Type 0 = λ old. DeskSays old (Cut topic) segment (desk_of limit (set_value_at ts topic new)) in
     subst P same (refl, topic-cuts limit ts topic there cuts)
-
--- what a channel tells, told of a channel of either kind
-pub tells-as : {A C D : Type 0} {s : A × C} {said refusal : A} {old new : C} (takes : A → Bool) (f : C → D) →
-    SaysOrShort refusal takes s old said new → SaysOrShort refusal takes (s.0, f s.1) (f old) said (f new)
-tells-as takes f (inl e) = inl (ap (λ s. (s.0, f s.1)) e)
-tells-as takes f (inr h) = inr (h.0, ap f h.1, h.2)
-
--- it goes through the hub's own sender where none is given
-pub hub_given : (sender : Option TxId) (none : Bool) → is_some sender ≡ not none → is_hub (any_sender sender) ≡ none
-hub_given None true e = refl
-hub_given None false e = sym e
-hub_given (Some t) true e = sym e
-hub_given (Some t) false e = refl
 
 module _ {old new : Desk} {told : Noted} (topic : ℕ) where
   -- by the number of a sender, which is the sender itself

@@ -37,10 +37,11 @@ use Rattle.th_model.proofs.PlaceLemmas.{place-with_other}
 use Rattle.std.proofs.lemmas.Option.{none-some}
 use Rattle.th_log.specs.Machines as machines
 use Rattle.th_log.specs.MachineLaws.{broadcast-whole, broadcast-step, broadcast-answer, watch-whole, watch-step, watch-answer}
+use Rattle.th_log.specs.Calls.{broadcast_waits, watch_waits}
 use Rattle.th_registry.specs.declared.channel.Channel.TheVariants.{Broadcast, Watch}
 use Rattle.th_registry.specs.declared.outcome.NoEvent.{NoEvent}
 use Rattle.th_registry.specs.Calls.{Bytes, rx}
-use Rattle.th_registry.specs.Events.{Event, Binds, Subscribes, Sends, Asks, Receives, Resubscribes, DropsTx, DropsRx, Hub, Own, broadcast_call, broadcast_waits, is_hub, watch_call, watch_waits}
+use Rattle.th_registry.specs.Events.{Event, Binds, Subscribes, Sends, Asks, Receives, Resubscribes, DropsTx, DropsRx, Hub, Own, broadcast_call, is_hub, watch_call}
 use Rattle.th_registry.specs.History.{opened, recorded}
 use Rattle.th_registry.specs.Hub.{ChannelMachine, replies, if_live, broadcast_replies, broadcast_event, moved, watch_replies, watch_event, channel_event, cut_channel}
 use Rattle.th_registry.specs.Endless.{EndlessBroadcast, EndlessChannel, EndlessWatch, endless_broadcast, endless_watch, watch_step, IsProperChannel}

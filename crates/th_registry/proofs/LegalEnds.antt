@@ -20,10 +20,11 @@ use Rattle.th_model.specs.BroadcastPicture as broadcast_picture
 use Rattle.th_model.specs.WatchMachine.{reader_of}
 use Rattle.th_model.specs.WatchPicture as watch_picture
 use Rattle.th_log.specs.Machines as machines
+use Rattle.th_log.specs.Calls.{broadcast_waits, watch_waits}
 use Rattle.th_registry.specs.declared.channel.Channel.TheVariants.{Broadcast, Watch}
 use Rattle.th_registry.specs.declared.outcome.NoEvent.{NoEvent}
 use Rattle.th_registry.specs.Calls.{tx, Bytes}
-use Rattle.th_registry.specs.Events.{By, Event, Binds, Subscribes, Sends, Asks, Receives, Resubscribes, DropsTx, DropsRx, Hub, Own, sender_of, broadcast_outcome, broadcast_waits, watch_outcome, watch_waits}
+use Rattle.th_registry.specs.Events.{By, Event, Binds, Subscribes, Sends, Asks, Receives, Resubscribes, DropsTx, DropsRx, Hub, Own, sender_of, broadcast_outcome, watch_outcome}
 use Rattle.th_registry.specs.Hub.{ChannelMachine, replies, if_live, came, on_channel, broadcast_event, watch_event}
 use Rattle.th_registry.specs.Endless.{EndlessBroadcast, EndlessChannel, EndlessTopics, EndlessWatch, endless_broadcast, endless_watch, watch_step}
 use Rattle.th_registry.specs.Live.{Handle, Sender, Receiver, is_live, is_live_on}

@@ -1,7 +1,6 @@
 pub mod Events
 pub mod Noting
 pub mod Openings
-pub mod Spending
 pub mod Seeing
 pub mod LiveNumbers
 pub mod LiveBroadcast

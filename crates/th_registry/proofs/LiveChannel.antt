@@ -28,11 +28,12 @@ use Rattle.th_model.specs.Handles.{is_sender, is_full}
 use Rattle.th_model.specs.Places.{place_of, with_place}
 use Rattle.th_model.proofs.BroadcastProperness.{cond_case}
 use Rattle.th_model.proofs.BroadcastProperness as proper
+use Rattle.th_log.specs.Calls.{broadcast_asked, broadcast_by_receiver, broadcast_by_sender, broadcast_waits, watch_asked, watch_by_receiver, watch_by_sender, watch_waits}
 use Rattle.th_registry.specs.declared.channel.Channel.TheVariants.{Broadcast, Watch}
 use Rattle.th_registry.specs.declared.outcome.NoEvent.{NoEvent}
 use Rattle.th_registry.specs.declared.outcome.NoEvent.TheVariants as NoEvents
-use Rattle.th_registry.specs.Calls.{Bytes, tx, rx, broadcast_asked, broadcast_by_receiver, broadcast_by_sender, watch_asked, watch_by_receiver, watch_by_sender}
-use Rattle.th_registry.specs.Events.{Event, Binds, Subscribes, Sends, Asks, Receives, Resubscribes, DropsTx, DropsRx, Hub, Own, sender_of, is_hub, Told, broadcast_made_rx, broadcast_made_tx, broadcast_outcome, broadcast_waits, watch_made_rx, watch_made_tx, watch_outcome, watch_waits}
+use Rattle.th_registry.specs.Calls.{Bytes, tx, rx}
+use Rattle.th_registry.specs.Events.{Event, Binds, Subscribes, Sends, Asks, Receives, Resubscribes, DropsTx, DropsRx, Hub, Own, sender_of, is_hub, Told, broadcast_made_rx, broadcast_made_tx, broadcast_outcome, watch_made_rx, watch_made_tx, watch_outcome, ChannelReply, ended_or, is_broadcast_done, is_watch_done}
 use Rattle.th_registry.specs.History.{recorded}
 use Rattle.th_registry.specs.Hub.{came, if_live, broadcast_replies, broadcast_event, moved, watch_replies, watch_event, channel_event, cut_channel}
 use Rattle.th_registry.specs.Endless.{EndlessBroadcast, EndlessChannel, EndlessWatch, endless_broadcast, endless_watch, watch_step, IsProperChannel}
@@ -51,14 +52,14 @@ abbrev pub IsWatchCallBy : Option (WCall Bytes) → Handle → Type 0
 IsWatchCallBy None x = Unit {0}
 IsWatchCallBy (Some call) x = (w.speaker call ≡ x) × ((y : Handle) → w.Spends call y → ⊥)
 
-pub sent-by : (verb : SenderVerb) (t : TxId) → IsCallBy (broadcast_by_sender verb t) (Sender t)
+pub sent-by : (verb : SenderVerb Bytes) (t : TxId) → IsCallBy (broadcast_by_sender verb t) (Sender t)
 sent-by (SenderVerbs.Send v) t = (refl, λ y h. h)
 sent-by (SenderVerbs.Replace v) t = tt
 sent-by (SenderVerbs.Set v) t = tt
 sent-by (SenderVerbs.Differ v) t = tt
 sent-by (SenderVerbs.Quiet v) t = tt
 
-pub watch-sent-by : (verb : SenderVerb) (t : TxId) → IsWatchCallBy (watch_by_sender verb t) (Sender t)
+pub watch-sent-by : (verb : SenderVerb Bytes) (t : TxId) → IsWatchCallBy (watch_by_sender verb t) (Sender t)
 watch-sent-by (SenderVerbs.Send v) t = (refl, λ y h. h)
 watch-sent-by (SenderVerbs.Replace v) t = (refl, λ y h. h)
 watch-sent-by (SenderVerbs.Set v) t = (refl, λ y h. h)
@@ -165,6 +166,10 @@ watch-made-rx (WReplies.Count n) x e = absurd (none-some x e)
 watch-made-rx WReplies.TooMany x e = absurd (none-some x e)
 watch-made-rx (WReplies.NoHandle v) x e = absurd (none-some x e)
 
+ended-none : (done : Bool) (reply : ChannelReply) (x : Handle) → new_handle (Ok (ended_or done reply)) ≡ Some x → ⊥
+ended-none true reply x e = none-some x e
+ended-none false reply x e = none-some x e
+
 made-outcome : (event : Event) (reply : BReply Bytes) (x : Handle) → new_handle (Ok (broadcast_outcome event reply)) ≡ Some x → b.made_by reply ≡ Some x
 made-outcome Binds reply x e = made-tx reply x e
 made-outcome (Subscribes start by) reply x e = made-rx reply x e
@@ -172,8 +177,8 @@ made-outcome (Resubscribes r) reply x e = made-rx reply x e
 made-outcome (Sends t verb) reply x e = absurd (none-some x e)
 made-outcome (Asks by question) reply x e = absurd (none-some x e)
 made-outcome (Receives r verb) reply x e = absurd (none-some x e)
-made-outcome (DropsTx by) reply x e = absurd (none-some x e)
-made-outcome (DropsRx r) reply x e = absurd (none-some x e)
+made-outcome (DropsTx by) reply x e = absurd (ended-none (is_broadcast_done reply) (Broadcast reply) x e)
+made-outcome (DropsRx r) reply x e = absurd (ended-none (is_broadcast_done reply) (Broadcast reply) x e)
 
 watch-made-outcome : (event : Event) (reply : WReply Bytes) (x : Handle) → new_handle (Ok (watch_outcome event reply)) ≡ Some x → w.made_by reply ≡ Some x
 watch-made-outcome Binds reply x e = watch-made-tx reply x e
@@ -182,8 +187,8 @@ watch-made-outcome (Resubscribes r) reply x e = absurd (none-some x e)
 watch-made-outcome (Sends t verb) reply x e = absurd (none-some x e)
 watch-made-outcome (Asks by question) reply x e = absurd (none-some x e)
 watch-made-outcome (Receives r verb) reply x e = absurd (none-some x e)
-watch-made-outcome (DropsTx by) reply x e = absurd (none-some x e)
-watch-made-outcome (DropsRx r) reply x e = absurd (none-some x e)
+watch-made-outcome (DropsTx by) reply x e = absurd (ended-none (is_watch_done reply) (Watch reply) x e)
+watch-made-outcome (DropsRx r) reply x e = absurd (ended-none (is_watch_done reply) (Watch reply) x e)
 
 -- a resubscription, by what comes of its first call
 abbrev pub moved_on : EndlessBroadcast → RxId → BReply Bytes × broadcast.Endless Bytes → Result (BReply Bytes) NoEvent × EndlessBroadcast

@@ -19,11 +19,12 @@ use Rattle.th_model.specs.BroadcastMachine as broadcast
 use Rattle.th_model.specs.Handles.{is_full, is_sender}
 use Rattle.th_model.specs.Places.{place_of, with_place}
 use Rattle.th_model.proofs.BroadcastProperness.{cond_case}
+use Rattle.th_log.specs.Calls.{broadcast_asked, broadcast_by_receiver, broadcast_by_sender, broadcast_waits, watch_asked, watch_by_receiver, watch_by_sender, watch_waits}
+use Rattle.th_log.specs.Replies.{broadcast_made_rx, broadcast_made_tx, watch_made_rx, watch_made_tx}
 use Rattle.th_registry.specs.declared.channel.Channel.TheVariants.{Broadcast, Watch}
-use Rattle.th_registry.specs.declared.outcome.ChannelReply.TheVariants as ChannelReplies
 use Rattle.th_registry.specs.declared.outcome.NoEvent.{NoEvent}
-use Rattle.th_registry.specs.Calls.{Bytes, tx, rx, broadcast_asked, broadcast_by_receiver, broadcast_by_sender, watch_asked, watch_by_receiver, watch_by_sender}
-use Rattle.th_registry.specs.Events.{Event, Binds, Subscribes, Sends, Asks, Receives, Resubscribes, DropsTx, DropsRx, Hub, Own, Replied, broadcast_made_rx, broadcast_made_tx, broadcast_outcome, broadcast_waits, watch_made_rx, watch_made_tx, watch_outcome, watch_waits}
+use Rattle.th_registry.specs.Calls.{Bytes, tx, rx}
+use Rattle.th_registry.specs.Events.{Event, Binds, Subscribes, Sends, Asks, Receives, Resubscribes, DropsTx, DropsRx, Hub, Own, Replied, broadcast_outcome, watch_outcome, ChannelReply, NewRx, NewTx, Outcome, ended_or, is_broadcast_done, is_watch_done, made_or}
 use Rattle.th_registry.specs.Hub.{came, if_live, on_channel, broadcast_replies, broadcast_event, moved, watch_replies, watch_event, channel_event}
 use Rattle.th_registry.specs.Endless.{EndlessBroadcast, EndlessChannel, EndlessTopics, EndlessWatch, endless_broadcast, endless_watch, watch_step}
 use Rattle.th_registry.specs.Live.{Handle, Sender, Receiver, is_live, is_live_on, AskedBy, lacks_handle}
@@ -36,7 +37,7 @@ use Rattle.th_registry.proofs.LiveTopics.{step, hubs_sender}
 
 -- what comes of a reply
 
-plain-known : (reply : BReply Bytes) → b.no_handle reply ≡ false → lacks_handle (Ok (Replied (ChannelReplies.Broadcast reply))) ≡ false
+plain-known : (reply : BReply Bytes) → b.no_handle reply ≡ false → lacks_handle (Ok (Replied (Broadcast reply))) ≡ false
 plain-known (BReplies.Sent n) h = refl
 plain-known (BReplies.NoReceivers v) h = refl
 plain-known (BReplies.Exhausted v) h = refl
@@ -51,37 +52,7 @@ plain-known BReplies.Done h = refl
 plain-known BReplies.TooMany h = refl
 plain-known (BReplies.NoHandle v) h = h
 
-tx-known : (reply : BReply Bytes) → b.no_handle reply ≡ false → lacks_handle (Ok (broadcast_made_tx reply)) ≡ false
-tx-known (BReplies.Sent n) h = refl
-tx-known (BReplies.NoReceivers v) h = refl
-tx-known (BReplies.Exhausted v) h = refl
-tx-known (BReplies.Value v) h = refl
-tx-known BReplies.Empty h = refl
-tx-known BReplies.Closed h = refl
-tx-known (BReplies.Lagged n) h = refl
-tx-known (BReplies.NewRx r) h = refl
-tx-known (BReplies.NewTx t) h = refl
-tx-known (BReplies.Count n) h = refl
-tx-known BReplies.Done h = refl
-tx-known BReplies.TooMany h = refl
-tx-known (BReplies.NoHandle v) h = h
-
-rx-known : (reply : BReply Bytes) → b.no_handle reply ≡ false → lacks_handle (Ok (broadcast_made_rx reply)) ≡ false
-rx-known (BReplies.Sent n) h = refl
-rx-known (BReplies.NoReceivers v) h = refl
-rx-known (BReplies.Exhausted v) h = refl
-rx-known (BReplies.Value v) h = refl
-rx-known BReplies.Empty h = refl
-rx-known BReplies.Closed h = refl
-rx-known (BReplies.Lagged n) h = refl
-rx-known (BReplies.NewRx r) h = refl
-rx-known (BReplies.NewTx t) h = refl
-rx-known (BReplies.Count n) h = refl
-rx-known BReplies.Done h = refl
-rx-known BReplies.TooMany h = refl
-rx-known (BReplies.NoHandle v) h = h
-
-watch-plain-known : (reply : WReply Bytes) → w.no_handle reply ≡ false → lacks_handle (Ok (Replied (ChannelReplies.Watch reply))) ≡ false
+watch-plain-known : (reply : WReply Bytes) → w.no_handle reply ≡ false → lacks_handle (Ok (Replied (Watch reply))) ≡ false
 watch-plain-known WReplies.Done h = refl
 watch-plain-known (WReplies.NoReceivers v) h = refl
 watch-plain-known (WReplies.Exhausted v) h = refl
@@ -99,61 +70,34 @@ watch-plain-known (WReplies.Count n) h = refl
 watch-plain-known WReplies.TooMany h = refl
 watch-plain-known (WReplies.NoHandle v) h = h
 
-watch-tx-known : (reply : WReply Bytes) → w.no_handle reply ≡ false → lacks_handle (Ok (watch_made_tx reply)) ≡ false
-watch-tx-known WReplies.Done h = refl
-watch-tx-known (WReplies.NoReceivers v) h = refl
-watch-tx-known (WReplies.Exhausted v) h = refl
-watch-tx-known (WReplies.Was v) h = refl
-watch-tx-known (WReplies.Modified b) h = refl
-watch-tx-known (WReplies.Shown v b) h = refl
-watch-tx-known (WReplies.Changed b) h = refl
-watch-tx-known WReplies.Marked h = refl
-watch-tx-known WReplies.NotYet h = refl
-watch-tx-known WReplies.Closed h = refl
-watch-tx-known (WReplies.Gone b) h = refl
-watch-tx-known (WReplies.NewRx r) h = refl
-watch-tx-known (WReplies.NewTx t) h = refl
-watch-tx-known (WReplies.Count n) h = refl
-watch-tx-known WReplies.TooMany h = refl
-watch-tx-known (WReplies.NoHandle v) h = h
+made-known : {H : Type 0} (number : H → Outcome) (reply : ChannelReply) (made : Option H) → ((x : H) → lacks_handle (Ok (number x)) ≡ false) →
+    lacks_handle (Ok (Replied reply)) ≡ false → lacks_handle (Ok (made_or number reply made)) ≡ false
+made-known number reply (Some x) new plain = new x
+made-known number reply None new plain = plain
 
-watch-rx-known : (reply : WReply Bytes) → w.no_handle reply ≡ false → lacks_handle (Ok (watch_made_rx reply)) ≡ false
-watch-rx-known WReplies.Done h = refl
-watch-rx-known (WReplies.NoReceivers v) h = refl
-watch-rx-known (WReplies.Exhausted v) h = refl
-watch-rx-known (WReplies.Was v) h = refl
-watch-rx-known (WReplies.Modified b) h = refl
-watch-rx-known (WReplies.Shown v b) h = refl
-watch-rx-known (WReplies.Changed b) h = refl
-watch-rx-known WReplies.Marked h = refl
-watch-rx-known WReplies.NotYet h = refl
-watch-rx-known WReplies.Closed h = refl
-watch-rx-known (WReplies.Gone b) h = refl
-watch-rx-known (WReplies.NewRx r) h = refl
-watch-rx-known (WReplies.NewTx t) h = refl
-watch-rx-known (WReplies.Count n) h = refl
-watch-rx-known WReplies.TooMany h = refl
-watch-rx-known (WReplies.NoHandle v) h = h
+ended-known : (done : Bool) (reply : ChannelReply) → lacks_handle (Ok (Replied reply)) ≡ false → lacks_handle (Ok (ended_or done reply)) ≡ false
+ended-known true reply plain = refl
+ended-known false reply plain = plain
 
 outcome-known : (event : Event) (reply : BReply Bytes) → b.no_handle reply ≡ false → lacks_handle (Ok (broadcast_outcome event reply)) ≡ false
-outcome-known Binds reply h = tx-known reply h
-outcome-known (Subscribes start by) reply h = rx-known reply h
-outcome-known (Resubscribes r) reply h = rx-known reply h
+outcome-known Binds reply h = made-known (λ t. NewTx t) (Broadcast reply) (broadcast_made_tx reply) (λ t. refl) (plain-known reply h)
+outcome-known (Subscribes start by) reply h = made-known (λ r. NewRx r) (Broadcast reply) (broadcast_made_rx reply) (λ r. refl) (plain-known reply h)
+outcome-known (Resubscribes r) reply h = made-known (λ r. NewRx r) (Broadcast reply) (broadcast_made_rx reply) (λ r. refl) (plain-known reply h)
 outcome-known (Sends t verb) reply h = plain-known reply h
 outcome-known (Asks by question) reply h = plain-known reply h
 outcome-known (Receives r verb) reply h = plain-known reply h
-outcome-known (DropsTx by) reply h = plain-known reply h
-outcome-known (DropsRx r) reply h = plain-known reply h
+outcome-known (DropsTx by) reply h = ended-known (is_broadcast_done reply) (Broadcast reply) (plain-known reply h)
+outcome-known (DropsRx r) reply h = ended-known (is_broadcast_done reply) (Broadcast reply) (plain-known reply h)
 
 watch-outcome-known : (event : Event) (reply : WReply Bytes) → w.no_handle reply ≡ false → lacks_handle (Ok (watch_outcome event reply)) ≡ false
-watch-outcome-known Binds reply h = watch-tx-known reply h
-watch-outcome-known (Subscribes start by) reply h = watch-rx-known reply h
+watch-outcome-known Binds reply h = made-known (λ t. NewTx t) (Watch reply) (watch_made_tx reply) (λ t. refl) (watch-plain-known reply h)
+watch-outcome-known (Subscribes start by) reply h = made-known (λ r. NewRx r) (Watch reply) (watch_made_rx reply) (λ r. refl) (watch-plain-known reply h)
 watch-outcome-known (Resubscribes r) reply h = watch-plain-known reply h
 watch-outcome-known (Sends t verb) reply h = watch-plain-known reply h
 watch-outcome-known (Asks by question) reply h = watch-plain-known reply h
 watch-outcome-known (Receives r verb) reply h = watch-plain-known reply h
-watch-outcome-known (DropsTx by) reply h = watch-plain-known reply h
-watch-outcome-known (DropsRx r) reply h = watch-plain-known reply h
+watch-outcome-known (DropsTx by) reply h = ended-known (is_watch_done reply) (Watch reply) (watch-plain-known reply h)
+watch-outcome-known (DropsRx r) reply h = ended-known (is_watch_done reply) (Watch reply) (watch-plain-known reply h)
 
 -- an event that goes through the hub's own sender is none where that is not live
 hub-lives : (senders : List ℕ) → not (is_sender senders 1) ≡ false → is_sender senders 1 ≡ true

@@ -34,6 +34,7 @@ use Rattle.th_model.proofs.BroadcastProperness as broadcast_proper
 use Rattle.th_model.proofs.BroadcastProperness.{cond_case}
 use Rattle.th_model.proofs.WatchSeen as watch_seen
 use Rattle.th_model.proofs.WatchProperness as watch_proper
+use Rattle.th_log.specs.Calls.{broadcast_waits, watch_waits}
 use Rattle.th_registry.specs.declared.channel.Channel.TheVariants.{Broadcast, Watch}
 use Rattle.th_model.specs.declared.broadcast.BReply.TheVariants as BReplies
 use Rattle.th_registry.specs.declared.outcome.NoEvent.{NoEvent}
@@ -44,7 +45,7 @@ use Rattle.th_model.specs.declared.making.Making.TheVariants as Makings
 use Rattle.th_registry.specs.declared.opening.Refusal.{Refusal}
 use Rattle.th_registry.specs.declared.opening.Refusal.TheVariants as Refusals
 use Rattle.th_registry.specs.Calls.{Bytes}
-use Rattle.th_registry.specs.Events.{Event, Binds, Subscribes, Sends, Asks, Receives, Resubscribes, DropsTx, DropsRx, Hub, Own, broadcast_call, broadcast_waits, is_end, is_hub, watch_call, watch_waits}
+use Rattle.th_registry.specs.Events.{Event, Binds, Subscribes, Sends, Asks, Receives, Resubscribes, DropsTx, DropsRx, Hub, Own, broadcast_call, is_end, is_hub, watch_call}
 use Rattle.th_registry.specs.History.{History, is_full, recorded}
 use Rattle.th_registry.specs.Kinds.{kind_of}
 use Rattle.th_registry.specs.Hub.{ChannelMachine, Find, List, Open, On, Cut, most_topics, found_in, found_at, find, list, written, on_channel, at_topic, added, made_broadcast, made, open_topic, replies, if_live, broadcast_replies, moved, broadcast_event, watch_replies, watch_event, as_broadcast, as_watch, channel_event, channel_receipt, cut_channel, broadcast_receipt, watch_receipt, receipt, receipt_on, receipted}

@@ -1,5 +1,5 @@
 -- The events of a hub's topics, the channel call that each is, and what comes of it.
-use Rattle.std.specs.Prelude.{Bool, true, false, Option, Some, None, Result, Ok, Err}
+use Rattle.std.specs.Prelude.{Bool, true, false, if◌then◌else◌, Option, Some, None, Result, Ok, Err}
 use Rattle.th_model.specs.declared.handles.TxId.{TxId}
 use Rattle.th_model.specs.declared.handles.RxId.{RxId}
 use Rattle.th_model.specs.declared.broadcast.BCall.{BCall}
@@ -14,11 +14,12 @@ use Rattle.th_model.specs.declared.verb.Question.{Question}
 use Rattle.th_model.specs.declared.verb.ReceiverVerb.{ReceiverVerb}
 use Rattle.th_model.specs.declared.verb.SenderVerb.{SenderVerb}
 use Rattle.th_model.specs.declared.verb.Start.{Start}
-use Rattle.th_model.specs.declared.verb.Start.TheVariants.{Tail, Oldest}
-use Rattle.th_registry.specs.declared.outcome.ChannelReply.{ChannelReply}
-use Rattle.th_registry.specs.declared.outcome.ChannelReply.TheVariants.{Broadcast, Watch}
+use Rattle.th_log.specs.Calls.{broadcast_asked, broadcast_by_receiver, broadcast_by_sender, broadcast_subscribing, watch_asked, watch_by_receiver, watch_by_sender, watch_subscribing}
+use Rattle.th_log.specs.Replies as log
+use Rattle.th_registry.specs.declared.channel.Channel.{Channel}
+use Rattle.th_registry.specs.declared.channel.Channel.TheVariants.{Broadcast, Watch}
 use Rattle.th_registry.specs.declared.outcome.NoEvent.{NoEvent}
-use Rattle.th_registry.specs.Calls.{Bytes, tx, broadcast_by_sender, watch_by_sender, broadcast_asked, watch_asked, broadcast_by_receiver, watch_by_receiver}
+use Rattle.th_registry.specs.Calls.{Bytes, tx}
 
 -- by which sender: the hub's own, which is sender 1 of each topic, or the asker's
 pub data By : Type 0 where
@@ -44,7 +45,7 @@ pub data Event : Type 0 where
   Binds : Event
   -- a new receiver, which begins at the tail or at the oldest kept value
   Subscribes : Start → By → Event
-  Sends : TxId → SenderVerb → Event
+  Sends : TxId → SenderVerb Bytes → Event
   Asks : By → Question → Event
   Receives : RxId → ReceiverVerb → Event
   -- a new receiver for this one, which is spent then
@@ -70,8 +71,7 @@ is_end event = false
 -- the call of a broadcast channel, and of a watch channel, if it has one
 abbrev pub broadcast_call : Event → Option (BCall Bytes)
 broadcast_call Binds = Some (BCalls.CloneTx (tx 1))
-broadcast_call (Subscribes Tail by) = Some (BCalls.Subscribe (sender_of by))
-broadcast_call (Subscribes Oldest by) = Some (BCalls.SubscribeOldest (sender_of by))
+broadcast_call (Subscribes start by) = broadcast_subscribing start (sender_of by)
 broadcast_call (Sends t verb) = broadcast_by_sender verb t
 broadcast_call (Asks by question) = broadcast_asked question (sender_of by)
 broadcast_call (Receives r verb) = broadcast_by_receiver verb r
@@ -81,8 +81,7 @@ broadcast_call (DropsRx r) = Some (BCalls.DropRx r)
 
 abbrev pub watch_call : Event → Option (WCall Bytes)
 watch_call Binds = Some (WCalls.CloneTx (tx 1))
-watch_call (Subscribes Tail by) = Some (WCalls.Subscribe (sender_of by))
-watch_call (Subscribes Oldest by) = None
+watch_call (Subscribes start by) = watch_subscribing start (sender_of by)
 watch_call (Sends t verb) = watch_by_sender verb t
 watch_call (Asks by question) = watch_asked question (sender_of by)
 watch_call (Receives r verb) = watch_by_receiver verb r
@@ -90,47 +89,61 @@ watch_call (Resubscribes r) = None
 watch_call (DropsTx by) = Some (WCalls.DropTx (sender_of by))
 watch_call (DropsRx r) = Some (WCalls.DropRx r)
 
--- a blocking call waits where its reply would be that there is nothing to tell yet
-abbrev pub broadcast_waits : BCall Bytes → BReply Bytes → Bool
-broadcast_waits (BCalls.Recv r) BReplies.Empty = true
-broadcast_waits call reply = false
+-- what a channel replied
+abbrev pub ChannelReply : Type 0
+ChannelReply = Channel (BReply Bytes) (WReply Bytes)
 
-abbrev pub watch_waits : WCall Bytes → WReply Bytes → Bool
-watch_waits (WCalls.Changed r) WReplies.NotYet = true
-watch_waits call reply = false
-
--- what came of an event: a new handle, or another reply of the channel
+-- what came of an event: a new handle, the end of one, or another reply of the channel
 pub data Outcome : Type 0 where
   NewTx : TxId → Outcome
   NewRx : RxId → Outcome
+  Ended : Outcome
   Replied : ChannelReply → Outcome
+
+-- a handle of this number that was made, or else the reply
+abbrev pub made_or : {H : Type 0} → (H → Outcome) → ChannelReply → Option H → Outcome
+made_or number reply (Some handle) = number handle
+made_or number reply None = Replied reply
 
 -- by the reply: the handle of its side that the event was to make
 abbrev pub broadcast_made_tx : BReply Bytes → Outcome
-broadcast_made_tx (BReplies.NewTx t) = NewTx t
-broadcast_made_tx reply = Replied (Broadcast reply)
+broadcast_made_tx reply = made_or (λ t. NewTx t) (Broadcast reply) (log.broadcast_made_tx reply)
 
 abbrev pub broadcast_made_rx : BReply Bytes → Outcome
-broadcast_made_rx (BReplies.NewRx r) = NewRx r
-broadcast_made_rx reply = Replied (Broadcast reply)
+broadcast_made_rx reply = made_or (λ r. NewRx r) (Broadcast reply) (log.broadcast_made_rx reply)
 
 abbrev pub watch_made_tx : WReply Bytes → Outcome
-watch_made_tx (WReplies.NewTx t) = NewTx t
-watch_made_tx reply = Replied (Watch reply)
+watch_made_tx reply = made_or (λ t. NewTx t) (Watch reply) (log.watch_made_tx reply)
 
 abbrev pub watch_made_rx : WReply Bytes → Outcome
-watch_made_rx (WReplies.NewRx r) = NewRx r
-watch_made_rx reply = Replied (Watch reply)
+watch_made_rx reply = made_or (λ r. NewRx r) (Watch reply) (log.watch_made_rx reply)
 
+-- the end of a handle, where the channel is done with it, or else the reply
+abbrev pub ended_or : (is_done : Bool) → ChannelReply → Outcome
+ended_or is_done reply = if is_done then Ended else Replied reply
+
+abbrev pub is_broadcast_done : BReply Bytes → Bool
+is_broadcast_done BReplies.Done = true
+is_broadcast_done reply = false
+
+abbrev pub is_watch_done : WReply Bytes → Bool
+is_watch_done WReplies.Done = true
+is_watch_done reply = false
+
+-- what comes of an event, by the reply to its call
 abbrev pub broadcast_outcome : Event → BReply Bytes → Outcome
 broadcast_outcome Binds reply = broadcast_made_tx reply
 broadcast_outcome (Subscribes start by) reply = broadcast_made_rx reply
 broadcast_outcome (Resubscribes r) reply = broadcast_made_rx reply
+broadcast_outcome (DropsTx by) reply = ended_or (is_broadcast_done reply) (Broadcast reply)
+broadcast_outcome (DropsRx r) reply = ended_or (is_broadcast_done reply) (Broadcast reply)
 broadcast_outcome event reply = Replied (Broadcast reply)
 
 abbrev pub watch_outcome : Event → WReply Bytes → Outcome
 watch_outcome Binds reply = watch_made_tx reply
 watch_outcome (Subscribes start by) reply = watch_made_rx reply
+watch_outcome (DropsTx by) reply = ended_or (is_watch_done reply) (Watch reply)
+watch_outcome (DropsRx r) reply = ended_or (is_watch_done reply) (Watch reply)
 watch_outcome event reply = Replied (Watch reply)
 
 -- what is said of an event: what came of it, or why there was none

@@ -10,7 +10,6 @@ use Rattle.th_model.specs.declared.handles.RxId.{RxId}
 use Rattle.th_model.specs.declared.broadcast.BCall.{BCall}
 use Rattle.th_model.specs.declared.broadcast.BCall.TheVariants as BCalls
 use Rattle.th_model.specs.declared.broadcast.BReply.{BReply}
-use Rattle.th_model.specs.declared.broadcast.BReply.TheVariants.{NewRx}
 use Rattle.th_model.specs.declared.watch.WCall.{WCall}
 use Rattle.th_model.specs.declared.watch.WReply.{WReply}
 use Rattle.th_model.specs.declared.listing.Listed.{Listed}
@@ -18,6 +17,8 @@ use Rattle.th_model.specs.declared.making.Making.{Making}
 use Rattle.th_model.specs.declared.making.Making.TheVariants as Makings
 use Rattle.th_model.specs.declared.short.Short.{Short}
 use Rattle.th_model.specs.Limits.{capacity_of}
+use Rattle.th_log.specs.Calls.{broadcast_waits, watch_waits}
+use Rattle.th_log.specs.Replies.{broadcast_made_rx}
 use Rattle.th_registry.specs.declared.channel.Channel.{Channel}
 use Rattle.th_registry.specs.declared.channel.Channel.TheVariants.{Broadcast, Watch}
 use Rattle.th_registry.specs.declared.opening.Refusal.{Refusal}
@@ -29,7 +30,7 @@ use Rattle.th_registry.specs.Kinds.{kind_of}
 use Rattle.th_registry.specs.Calls.{Bytes, tx}
 use Rattle.th_registry.specs.History.{BroadcastSegment, WatchSegment, ChannelSegment}
 use Rattle.th_registry.specs.Receipts.{Receipt, BroadcastReceipt, WatchReceipt, ChannelReceipt}
-use Rattle.th_registry.specs.Events.{Event, Resubscribes, DropsTx, DropsRx, Own, Outcome, Told, broadcast_call, broadcast_outcome, broadcast_waits, watch_call, watch_outcome, watch_waits, is_by_hub, is_end, takes_memory}
+use Rattle.th_registry.specs.Events.{Event, Resubscribes, DropsTx, DropsRx, Own, Outcome, Told, broadcast_call, broadcast_outcome, watch_call, watch_outcome, is_by_hub, is_end, takes_memory}
 
 -- the most topics of a hub
 abbrev pub most_topics : ℕ
@@ -105,6 +106,19 @@ replies m waits no_sender c (Some call) =
     else if m.is_full c call then (Err NoEvents.LogFull, c)
     else (Ok (m.step c call).0, (m.step c call).1)
 
+-- the same of a call that goes through the hub's own sender or not
+abbrev pub hub_replies : {C K R P : Type 0} → ChannelMachine C K R P → (waits : K → R → Bool) →
+    C → (by_hub : Bool) → Option K → Result R NoEvent × C
+hub_replies m waits c by_hub call =
+    replies m waits (by_hub && not (m.has_sender c (tx 1))) c call
+
+-- once there is a new receiver, the old one is spent by its last call
+abbrev pub moved_by : {C K R P : Type 0} → ChannelMachine C K R P → (R → Option RxId) → K →
+    Result R NoEvent × C → Result R NoEvent × C
+moved_by m made_rx last (Ok reply, c) =
+    (Ok reply, if is_some (made_rx reply) then (m.step c last).1 else c)
+moved_by m made_rx last (Err why, c) = (Err why, c)
+
 -- a handle is spent only where it is live
 abbrev pub if_live : {C R : Type 0} → Bool → C → Result R NoEvent × C → Result R NoEvent × C
 if_live live c s = if live then s else (Err NoEvents.NotLive, c)
@@ -173,13 +187,11 @@ module _ {B : Type 0} (m : ChannelMachine B (BCall Bytes) (BReply Bytes) Broadca
   -- one call of a broadcast channel, through the hub's own sender or not
   abbrev pub broadcast_replies : B → (by_hub : Bool) → Option (BCall Bytes) →
       Result (BReply Bytes) NoEvent × B
-  broadcast_replies c by_hub call =
-      replies m broadcast_waits (by_hub && not (m.has_sender c (tx 1))) c call
+  broadcast_replies c by_hub call = hub_replies m broadcast_waits c by_hub call
 
   -- once there is a new receiver, the old one is spent
   abbrev pub moved : RxId → Result (BReply Bytes) NoEvent × B → Result (BReply Bytes) NoEvent × B
-  moved r (Ok (NewRx new), c) = (Ok (NewRx new), (m.step c (BCalls.DropRx r)).1)
-  moved r (said, c) = (said, c)
+  moved r s = moved_by m broadcast_made_rx (BCalls.DropRx r) s
 
   -- what a broadcast channel replies to an event
   abbrev pub broadcast_event : B → Event → Result (BReply Bytes) NoEvent × B
@@ -202,8 +214,7 @@ module _ {W : Type 0} (m : ChannelMachine W (WCall Bytes) (WReply Bytes) WatchSe
   -- one call of a watch channel
   abbrev pub watch_replies : W → (by_hub : Bool) → Option (WCall Bytes) →
       Result (WReply Bytes) NoEvent × W
-  watch_replies c by_hub call =
-      replies m watch_waits (by_hub && not (m.has_sender c (tx 1))) c call
+  watch_replies c by_hub call = hub_replies m watch_waits c by_hub call
 
   abbrev pub watch_event : W → Event → Result (WReply Bytes) NoEvent × W
   watch_event c (DropsTx (Own t)) =

@@ -5,13 +5,10 @@ use Rattle.std.specs.List.{AllByRecursion}
 use Rattle.std.specs.Cmp.Lexicographic.{pointwise}
 use Rattle.th_model.specs.BroadcastPicture as broadcast_picture
 use Rattle.th_model.specs.WatchPicture as watch_picture
-use Rattle.th_model.specs.declared.broadcast.BReply.TheVariants as BReplies
-use Rattle.th_model.specs.declared.watch.WReply.TheVariants as WReplies
 use Rattle.th_log.specs.History.{Machine, IsLegal, most}
 use Rattle.th_log.specs.Machines as machines
 use Rattle.th_registry.specs.declared.channel.Channel.TheVariants.{Broadcast, Watch}
-use Rattle.th_registry.specs.declared.outcome.ChannelReply.TheVariants as ChannelReplies
-use Rattle.th_registry.specs.Events.{Event, DropsTx, DropsRx, Replied, Told, sender_of}
+use Rattle.th_registry.specs.Events.{Event, DropsTx, DropsRx, Ended, Told, sender_of}
 use Rattle.th_registry.specs.History.{History, ChannelSegment, segment}
 use Rattle.th_registry.specs.Hub.{Query, On, Cut, say}
 use Rattle.th_registry.specs.Endless.{EndlessChannel, EndlessTopics, endless, AreProper}
@@ -69,10 +66,9 @@ IsEndOf (DropsTx by) x = x ≡ Sender (sender_of by)
 IsEndOf (DropsRx r) x = x ≡ Receiver r
 IsEndOf event x = ⊥
 
--- the channel replied that it is done
+-- it is said that the handle is at its end
 abbrev pub is_done : Told → Bool
-is_done (Ok (Replied (ChannelReplies.Broadcast BReplies.Done))) = true
-is_done (Ok (Replied (ChannelReplies.Watch WReplies.Done))) = true
+is_done (Ok Ended) = true
 is_done told = false
 
 -- the end of a live handle is never refused ("The limit")

@@ -9,7 +9,6 @@ use Rattle.th_model.specs.WatchMachine.{reader_of}
 use Rattle.th_model.specs.declared.broadcast.BReply.TheVariants as BReplies
 use Rattle.th_model.specs.declared.watch.WReply.TheVariants as WReplies
 use Rattle.th_registry.specs.declared.channel.Channel.TheVariants.{Broadcast, Watch}
-use Rattle.th_registry.specs.declared.outcome.ChannelReply.TheVariants as ChannelReplies
 use Rattle.th_registry.specs.declared.outcome.NoEvent.TheVariants as NoEvents
 use Rattle.th_registry.specs.Events.{Event, Subscribes, Sends, Asks, Receives, Resubscribes, DropsTx, DropsRx, Own, NewTx, NewRx, Replied, Told, sender_of}
 use Rattle.th_registry.specs.Hub.{Query, Find, List, Open, On, Cut, Said}
@@ -72,6 +71,6 @@ AskedBy event x = ⊥
 -- a channel said that there is no such handle, or that the handle to be spent is not live
 abbrev pub lacks_handle : Told → Bool
 lacks_handle (Err NoEvents.NotLive) = true
-lacks_handle (Ok (Replied (ChannelReplies.Broadcast (BReplies.NoHandle v)))) = true
-lacks_handle (Ok (Replied (ChannelReplies.Watch (WReplies.NoHandle v)))) = true
+lacks_handle (Ok (Replied (Broadcast (BReplies.NoHandle v)))) = true
+lacks_handle (Ok (Replied (Watch (WReplies.NoHandle v)))) = true
 lacks_handle told = false

@@ -1,9 +1,10 @@
 -- The hub as it is seen: of each channel its picture, and its history.
-use Rattle.std.specs.Prelude.{◌≡◌, ℕ, is_some, map, nat_eq}
+use Rattle.std.specs.Prelude.{◌≡◌, ℕ, Bool, is_some, map, nat_eq}
 use Rattle.std.specs.Cmp.Lexicographic.{pointwise}
 use Rattle.th_model.specs.Handles.{is_sender}
 use Rattle.th_model.specs.Places.{place_of}
-use Rattle.th_model.specs.Live.{live_handles, live_watchers}
+use Rattle.th_model.specs.declared.handles.TxId.{TxId}
+use Rattle.th_model.specs.declared.handles.RxId.{RxId}
 use Rattle.th_model.specs.declared.broadcast.BCall.{BCall}
 use Rattle.th_model.specs.declared.broadcast.BReply.{BReply}
 use Rattle.th_model.specs.declared.watch.WCall.{WCall}
@@ -13,6 +14,8 @@ use Rattle.th_model.specs.BroadcastPicture as broadcast
 use Rattle.th_model.specs.WatchMachine as watch_machine
 use Rattle.th_model.specs.WatchMachine.{reader_of}
 use Rattle.th_model.specs.WatchPicture as watch
+use Rattle.th_log.specs.History.{Machine, Piece, live_after}
+use Rattle.th_log.specs.Machines as machines
 use Rattle.th_registry.specs.declared.channel.Channel.{Channel}
 use Rattle.th_registry.specs.declared.channel.Channel.TheVariants.{Broadcast, Watch}
 use Rattle.th_registry.specs.Calls.{Bytes}
@@ -37,27 +40,26 @@ SeenTopics = Topics SeenBroadcast SeenWatch
 abbrev pub watch_answer : watch.Picture Bytes → WCall Bytes → WReply Bytes × watch.Picture Bytes
 watch_answer = watch.answer (pointwise nat_eq)
 
--- each event of a channel becomes an entry
-abbrev pub seen_broadcast :
-    ChannelMachine SeenBroadcast (BCall Bytes) (BReply Bytes) BroadcastSegment
-seen_broadcast = record {
-  step = λ h call. recorded h call (broadcast.answer h.state call);
-  is_full = λ h call. is_full h (live_handles (broadcast.answer h.state call).1);
-  has_sender = λ h tx. is_sender h.state.senders tx.0;
-  has_receiver = λ h rx. is_some (place_of h.state.window.places rx.0);
+-- a channel of any kind as it is seen: each event becomes an entry
+abbrev pub seen_by : {E S C R : Type 0} → Machine E S C R → (S → TxId → Bool) → (S → RxId → Bool)
+    → ChannelMachine (History S S C R) C R (Piece S C R)
+seen_by m has_sender has_receiver = record {
+  step = λ h call. recorded h call (m.answer h.state call);
+  is_full = λ h call. is_full h (live_after m h.state call);
+  has_sender = λ h tx. has_sender h.state tx;
+  has_receiver = λ h rx. has_receiver h.state rx;
   cut = λ h. (segment h h.state, cut h h.state);
   receipt = receipt_of;
 }
 
+abbrev pub seen_broadcast :
+    ChannelMachine SeenBroadcast (BCall Bytes) (BReply Bytes) BroadcastSegment
+seen_broadcast = seen_by machines.broadcast (λ p tx. is_sender p.senders tx.0)
+    (λ p rx. is_some (place_of p.window.places rx.0))
+
 abbrev pub seen_watch : ChannelMachine SeenWatch (WCall Bytes) (WReply Bytes) WatchSegment
-seen_watch = record {
-  step = λ h call. recorded h call (watch_answer h.state call);
-  is_full = λ h call. is_full h (live_watchers (watch_answer h.state call).1);
-  has_sender = λ h tx. is_sender h.state.senders tx.0;
-  has_receiver = λ h rx. is_some (reader_of h.state.readers rx.0);
-  cut = λ h. (segment h h.state, cut h h.state);
-  receipt = receipt_of;
-}
+seen_watch = seen_by (machines.watch (pointwise nat_eq)) (λ p tx. is_sender p.senders tx.0)
+    (λ p rx. is_some (reader_of p.readers rx.0))
 
 -- segments have at most `limit` entries
 abbrev pub pictures : (limit : ℕ) → Machines SeenBroadcast SeenWatch

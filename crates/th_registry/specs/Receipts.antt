@@ -7,9 +7,8 @@ use Rattle.th_model.specs.declared.watch.WReply.{WReply}
 use Rattle.th_log.specs.Outcome as log
 use Rattle.th_registry.specs.declared.channel.Channel.{Channel}
 use Rattle.th_registry.specs.declared.channel.Channel.TheVariants.{Broadcast, Watch}
-use Rattle.th_registry.specs.declared.outcome.ChannelReply.{ChannelReply}
-use Rattle.th_registry.specs.declared.outcome.ChannelReply.TheVariants as replies
 use Rattle.th_registry.specs.Calls.{Bytes}
+use Rattle.th_registry.specs.Events.{ChannelReply}
 use Rattle.th_registry.specs.History.{History}
 
 -- one event, as its caller was told of it: its place, the call, the reply and the channel's key
@@ -27,8 +26,8 @@ ChannelReceipt = Channel BroadcastReceipt WatchReceipt
 
 -- what the channel replied
 abbrev pub reply_in : ChannelReceipt → ChannelReply
-reply_in (Broadcast receipt) = replies.Broadcast receipt.reply
-reply_in (Watch receipt) = replies.Watch receipt.reply
+reply_in (Broadcast receipt) = Broadcast receipt.reply
+reply_in (Watch receipt) = Watch receipt.reply
 
 -- the receipt of the next event of a channel: of this call, which is replied so
 abbrev pub receipt_of : {E S C R : Type 0} → History E S C R → C → R → Receipt C R

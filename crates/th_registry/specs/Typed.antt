@@ -1,25 +1,20 @@
 -- What the calls of a desk answer, as what is said of their events: with the numbers of handles in place of the handles.
-use Rattle.std.specs.Prelude.{Option, Some, None, Result, Ok, Err}
+use Rattle.std.specs.Prelude.{Some, None, Result, Ok, Err}
 use Rattle.th_model.specs.declared.handles.TxId.{TxId}
 use Rattle.th_model.specs.declared.handles.RxId.{RxId}
-use Rattle.th_registry.specs.declared.outcome.ChannelReply.{ChannelReply}
 use Rattle.th_registry.specs.declared.outcome.Made.{Made}
 use Rattle.th_registry.specs.declared.outcome.NoEvent.{NoEvent}
 use Rattle.th_registry.specs.declared.outcome.Unspent.{Unspent}
-use Rattle.th_registry.specs.Events.{Outcome, NewTx, NewRx, Replied}
+use Rattle.th_registry.specs.Events.{Outcome, NewTx, NewRx, Ended, Replied, made_or}
 use Rattle.th_registry.specs.Hub.{Noted}
 use Rattle.th_registry.specs.Receipts.{ChannelReceipt, reply_in}
 
 module _ {H : Type 0} where
-  -- `number` of a handle that was made, or else the channel's reply
-  abbrev pub made_or : (H → Outcome) → ChannelReceipt → Option H → Outcome
-  made_or number receipt (Some handle) = number handle
-  made_or number receipt None = Replied (reply_in receipt)
-
+  -- what came of a call that makes a handle
   abbrev pub outcome_of : (H → Outcome) → Made H → Outcome
-  outcome_of number came = made_or number came.receipt came.handle
+  outcome_of number came = made_or number (reply_in came.receipt) came.handle
 
-  -- of a call that makes a handle
+  -- and what is said of it
   abbrev pub made : (H → Outcome) → Result (Made H) NoEvent → Noted
   made number (Ok came) = (Ok (outcome_of number came), Some came.receipt)
   made number (Err why) = (Err why, None)
@@ -31,13 +26,13 @@ module _ {H : Type 0} where
   made_rx rx said = made (λ h. NewRx (rx h)) said
 
   -- of one that spends a handle, which may come back
-  abbrev pub spent : Result ChannelReply (Unspent H) → Noted
-  spent (Ok reply) = (Ok (Replied reply), None)
+  abbrev pub spent : Result (Unit {0}) (Unspent H) → Noted
+  spent (Ok _) = (Ok Ended, None)
   spent (Err unspent) = (Err unspent.why, None)
 
 -- of one that ends the hub's own sender
-abbrev pub ended : Result ChannelReply NoEvent → Noted
-ended (Ok reply) = (Ok (Replied reply), None)
+abbrev pub ended : Result (Unit {0}) NoEvent → Noted
+ended (Ok _) = (Ok Ended, None)
 ended (Err why) = (Err why, None)
 
 -- of any other

@@ -9,8 +9,11 @@ ghost use Rattle.th_registry.specs.Typed.{ended, made_rx, made_tx, replied, spen
 
 use crate::channel::{TopicReceipt, TopicSegment};
 use crate::opening::{Found, Refusal, TopicId};
-use crate::outcome::{ChannelReply, Made, NoEvent, Unspent};
-use th_model::{Listing, Making, NameRef, Question, ReceiverVerb, SenderVerb, Short, Start};
+use crate::outcome::{Made, NoEvent, Unspent};
+use th_model::{Listing, Making, NameRef, Question, ReceiverVerb, SenderVerb, Short, Start, Value};
+
+/// The most calls of one receiver that a desk is asked to have ready at once ([`Desk::ready`]).
+pub const MOST_READY: usize = 64;
 
 /// Topics by name. Each call but `find`, `list`, `cut`, `wake` and `ready` is one event, on the topic of that number or of
 /// the registry, or none; `resubscribe` is both of its events, or none. By which side of handles an event is made
@@ -64,7 +67,7 @@ pub trait Desk: Drop {
         &mut self,
         topic: TopicId,
         sender: &mut Self::Tx,
-        verb: SenderVerb,
+        verb: SenderVerb<Value>,
     ) -> Result<TopicReceipt, NoEvent>
         ensures event { let event = Sends (tx sender.old) verb in
             says self.old (On topic.0 event) (replied result) self.new }
@@ -104,11 +107,7 @@ pub trait Desk: Drop {
         ensures receiver { rx receiver.new ≡ rx receiver.old };
 
     /// The last event of a sender. Where there was none, it comes back.
-    fn spend_sender(
-        &mut self,
-        topic: TopicId,
-        sender: Self::Tx,
-    ) -> Result<ChannelReply, Unspent<Self::Tx>>
+    fn spend_sender(&mut self, topic: TopicId, sender: Self::Tx) -> Result<(), Unspent<Self::Tx>>
         ensures event { let event = DropsTx (Own (tx sender)) in
             says self.old (On topic.0 event) (spent result) self.new }
         ensures back { IfErr result (λ unspent. tx unspent.handle ≡ tx sender) };
@@ -118,12 +117,12 @@ pub trait Desk: Drop {
         &mut self,
         topic: TopicId,
         receiver: Self::Rx,
-    ) -> Result<ChannelReply, Unspent<Self::Rx>>
+    ) -> Result<(), Unspent<Self::Rx>>
         ensures event { says self.old (On topic.0 (DropsRx (rx receiver))) (spent result) self.new }
         ensures back { IfErr result (λ unspent. rx unspent.handle ≡ rx receiver) };
 
     /// The last event of the hub's own sender.
-    fn end(&mut self, topic: TopicId) -> Result<ChannelReply, NoEvent>
+    fn end(&mut self, topic: TopicId) -> Result<(), NoEvent>
         ensures { says self.old (On topic.0 (DropsTx Hub)) (ended result) self.new };
 
     /// Hands out the topic's segment so far, and begins the next one. It is no event.
@@ -135,7 +134,7 @@ pub trait Desk: Drop {
         ensures { self.new ≡ self.old };
 
     /// Of this receiver's next calls by a verb that waits, how many have their answer now: 0 where the first would wait.
-    /// The caller makes `most` of them, at least one, before any other call by this receiver. So a desk may make their
+    /// The caller makes `most` of them, 1 to 64, before any other call by this receiver. So a desk may make their
     /// events here, as many as it answers, and then hands out the receipts to those calls, in their order. It saves writes
     /// and locks, and no clause rests on it. The receiver keeps its number.
     fn ready(&mut self, topic: TopicId, receiver: &mut Self::Rx, most: usize) -> usize

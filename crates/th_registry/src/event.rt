@@ -1,24 +1,16 @@
 //! The events of one channel.
-ghost use Rattle.std.specs.Prelude.{◌≡◌, ◌<◌, Some, true, nat_eq};
-ghost use Rattle.std.specs.Cmp.Lexicographic.{pointwise};
+ghost use Rattle.std.specs.Prelude.{◌≡◌, ◌<◌, true, false};
 ghost use Rattle.th_log.specs.History.{live_after};
-ghost use Rattle.th_log.specs.Machines.{broadcast, watch};
-ghost use Rattle.th_model.specs.Live.{live_handles, live_watchers};
-ghost use Rattle.th_registry.specs.Events.{Asks, Binds, DropsRx, DropsTx, Hub, NewRx, NewTx, Own, Receives, Resubscribes, Sends, Subscribes, any_sender, broadcast_call, broadcast_made_rx, broadcast_made_tx, sender_of, watch_call, watch_made_rx, watch_made_tx};
-ghost use Rattle.th_registry.specs.Outcomes.{BroadcastMoves, BroadcastSays, BroadcastSpends, BroadcastTells, ChannelCuts, ChannelTells, WatchSays, WatchSpends, WatchTells};
-ghost use Rattle.th_registry.specs.Typed.{ended, made_rx, made_tx, outcome_of, replied};
+ghost use Rattle.th_registry.specs.Events.{Asks, Binds, DropsRx, DropsTx, Hub, Own, Receives, Resubscribes, Sends, Subscribes, any_sender, sender_of};
+ghost use Rattle.th_registry.specs.History.{is_full, recorded};
+ghost use Rattle.th_registry.specs.Outcomes.{ChannelCuts, ChannelTells, KindEnds, KindMoves, KindSays};
+ghost use Rattle.th_registry.specs.Typed.{ended, made_rx, made_tx, replied};
 
-use crate::calls::{
-    broadcast_asked, broadcast_by_receiver, broadcast_by_sender, watch_asked, watch_by_receiver,
-    watch_by_sender,
-};
 use crate::channel::{Channel, HubBroadcast, HubWatch, LocalChannel, TopicReceipt, TopicSegment};
-use crate::outcome::{ChannelReply, Made, NoEvent};
+use crate::outcome::{Made, NoEvent};
 use crate::recorded::Recorded;
-use th_log::Receipt;
-use th_model::{
-    BCall, BReply, Question, ReceiverVerb, RxId, SenderVerb, Start, TxId, Value, WCall, WReply,
-};
+use th_log::{Kind, Receipt};
+use th_model::{Question, ReceiverVerb, RxId, SenderVerb, Start, TxId, Value};
 
 // The hub's own sender is the first handle of each topic.
 const HUB_SENDER: TxId = TxId(1);
@@ -32,12 +24,14 @@ fn sender_or_hub(sender: Option<TxId>) -> TxId
 
 // One call, through the hub's own sender or not; or the first reason why there is no event.
 #[inline(always)]
-fn call_broadcast(
-    channel: &mut Recorded<HubBroadcast>,
+fn event<K: Kind>(
+    channel: &mut Recorded<K>,
     by_hub: bool,
-    call: Option<BCall<Value>>,
-) -> Result<Receipt<HubBroadcast>, NoEvent>
-    ensures { BroadcastSays channel.old by_hub call result channel.new }
+    call: Option<K::Call>,
+) -> Result<Receipt<K>, NoEvent>
+    requires { K.lawful }
+    ensures { KindSays K.machine K.has_sender K.has_receiver K.waits
+        channel.old by_hub call result channel.new }
 {
     let Some(call) = call else {
         return Err(NoEvent::WrongKind);
@@ -45,92 +39,64 @@ fn call_broadcast(
     if by_hub && !channel.object().has_sender(HUB_SENDER) {
         return Err(NoEvent::NoSender);
     }
-    if !channel.object().ready(&call) {
+    if channel.object().waits(&call) {
         return Err(NoEvent::Blocked);
     }
     channel.record(call)
 }
 
-// One call of a watch channel.
-#[inline(always)]
-fn call_watch(
-    channel: &mut Recorded<HubWatch>,
-    by_hub: bool,
-    call: Option<WCall<Value>>,
-) -> Result<Receipt<HubWatch>, NoEvent>
-    ensures { WatchSays channel.old by_hub call result channel.new }
+// The end of a live handle by its last call. It takes no memory, and no room but what was kept for it.
+fn spend<K: Kind>(channel: &mut Recorded<K>, last: K::Call)
+    requires lawful { K.lawful }
+    requires ready { K.machine.ready channel.old.state last ≡ true }
+    requires spends { live_after K.machine channel.old.state last
+        < K.machine.live channel.old.state }
+    ensures after { channel.new
+        ≡ (recorded channel.old last (K.machine.answer channel.old.state last)).1 }
+    ensures room { is_full channel.old (live_after K.machine channel.old.state last) ≡ false }
 {
-    let Some(call) = call else {
-        return Err(NoEvent::WrongKind);
+    let Ok(_) = channel.record(last) else {
+        unreachable!()
     };
-    if by_hub && !channel.object().has_sender(HUB_SENDER) {
-        return Err(NoEvent::NoSender);
-    }
-    if !channel.object().ready(&call) {
-        return Err(NoEvent::Blocked);
-    }
-    channel.record(call)
 }
 
-// What the channel replies to a call that makes no handle.
-#[inline(always)]
-fn tell_broadcast(
-    channel: &mut Recorded<HubBroadcast>,
-    by_hub: bool,
-    call: Option<BCall<Value>>,
-) -> Result<TopicReceipt, NoEvent>
-    ensures { BroadcastTells channel.old by_hub call (replied result) channel.new }
+// The end of a sender; or `lacks`, where it is not live.
+fn spend_sender<K: Kind>(channel: &mut Recorded<K>, tx: TxId, lacks: NoEvent) -> Result<(), NoEvent>
+    requires { K.lawful }
+    ensures { KindEnds K.machine K.done (K.has_sender channel.old.state tx) (K.last_of_sender tx)
+        lacks channel.old result channel.new }
 {
-    match call_broadcast(channel, by_hub, call) {
-        Ok(receipt) => Ok(Channel::Broadcast(receipt)),
-        Err(why) => Err(why),
+    if !channel.object().has_sender(tx) {
+        return Err(lacks);
     }
+    spend(channel, K::last_of_sender(tx));
+    Ok(())
 }
 
-// The same of a watch channel.
-#[inline(always)]
-fn tell_watch(
-    channel: &mut Recorded<HubWatch>,
-    by_hub: bool,
-    call: Option<WCall<Value>>,
-) -> Result<TopicReceipt, NoEvent>
-    ensures { WatchTells channel.old by_hub call (replied result) channel.new }
+// The end of a receiver, where it is live.
+fn spend_receiver<K: Kind>(channel: &mut Recorded<K>, rx: RxId) -> Result<(), NoEvent>
+    requires { K.lawful }
+    ensures { KindEnds K.machine K.done (K.has_receiver channel.old.state rx)
+        (K.last_of_receiver rx) NoEvent.NotLive channel.old result channel.new }
 {
-    match call_watch(channel, by_hub, call) {
-        Ok(receipt) => Ok(Channel::Watch(receipt)),
-        Err(why) => Err(why),
+    if !channel.object().has_receiver(rx) {
+        return Err(NoEvent::NotLive);
     }
+    spend(channel, K::last_of_receiver(rx));
+    Ok(())
 }
 
-// The end of a live handle of a broadcast channel. It takes no memory, and no room but what was kept for it.
-fn spend_broadcast(
-    channel: &mut Recorded<HubBroadcast>,
-    call: BCall<Value>,
-) -> Result<ChannelReply, NoEvent>
-    requires ready { broadcast.ready channel.old.state call ≡ true }
-    requires spends { live_after broadcast channel.old.state call < live_handles channel.old.state }
-    ensures { BroadcastSpends channel.old call (ended result).0 channel.new }
+// A new receiver, and then the end of the old one, for which room was kept.
+fn move_receiver<K: Kind>(channel: &mut Recorded<K>, rx: RxId) -> Result<Receipt<K>, NoEvent>
+    requires { K.lawful }
+    ensures { KindMoves K.machine K.has_sender K.has_receiver K.waits K.made_rx
+        (K.last_of_receiver rx) channel.old (K.resubscribing rx) result channel.new }
 {
-    match channel.record(call) {
-        Ok(receipt) => Ok(ChannelReply::Broadcast(receipt.into_reply())),
-        Err(_) => unreachable!(),
+    let receipt = event(channel, false, K::resubscribing(rx))?;
+    if K::made_rx(receipt.reply()).is_some() {
+        spend(channel, K::last_of_receiver(rx));
     }
-}
-
-// The same of a watch channel.
-fn spend_watch(
-    channel: &mut Recorded<HubWatch>,
-    call: WCall<Value>,
-) -> Result<ChannelReply, NoEvent>
-    requires ready { (watch (pointwise nat_eq)).ready channel.old.state call ≡ true }
-    requires spends { live_after (watch (pointwise nat_eq)) channel.old.state call
-        < live_watchers channel.old.state }
-    ensures { WatchSpends channel.old call (ended result).0 channel.new }
-{
-    match channel.record(call) {
-        Ok(receipt) => Ok(ChannelReply::Watch(receipt.into_reply())),
-        Err(_) => unreachable!(),
-    }
+    Ok(receipt)
 }
 
 /// What a sender does.
@@ -138,15 +104,19 @@ fn spend_watch(
 pub fn by_sender(
     channel: &mut LocalChannel,
     tx: TxId,
-    verb: SenderVerb,
+    verb: SenderVerb<Value>,
 ) -> Result<TopicReceipt, NoEvent>
     ensures { ChannelTells channel.old (Sends tx verb) (replied result) channel.new }
 {
     match channel {
         Channel::Broadcast(channel) => {
-            tell_broadcast(channel, false, broadcast_by_sender(verb, tx))
+            let receipt = event(channel, false, HubBroadcast::by_sender(verb, tx))?;
+            Ok(Channel::Broadcast(receipt))
         }
-        Channel::Watch(channel) => tell_watch(channel, false, watch_by_sender(verb, tx)),
+        Channel::Watch(channel) => {
+            let receipt = event(channel, false, HubWatch::by_sender(verb, tx))?;
+            Ok(Channel::Watch(receipt))
+        }
     }
 }
 
@@ -161,9 +131,13 @@ pub fn by_receiver(
 {
     match channel {
         Channel::Broadcast(channel) => {
-            tell_broadcast(channel, false, broadcast_by_receiver(verb, rx))
+            let receipt = event(channel, false, HubBroadcast::by_receiver(verb, rx))?;
+            Ok(Channel::Broadcast(receipt))
         }
-        Channel::Watch(channel) => tell_watch(channel, false, watch_by_receiver(verb, rx)),
+        Channel::Watch(channel) => {
+            let receipt = event(channel, false, HubWatch::by_receiver(verb, rx))?;
+            Ok(Channel::Watch(receipt))
+        }
     }
 }
 
@@ -180,99 +154,43 @@ pub fn ask(
     let by_hub = sender.is_none();
     match channel {
         Channel::Broadcast(channel) => {
-            tell_broadcast(channel, by_hub, broadcast_asked(question, tx))
+            let receipt = event(channel, by_hub, HubBroadcast::asked(question, tx))?;
+            Ok(Channel::Broadcast(receipt))
         }
-        Channel::Watch(channel) => tell_watch(channel, by_hub, watch_asked(question, tx)),
+        Channel::Watch(channel) => {
+            let receipt = event(channel, by_hub, HubWatch::asked(question, tx))?;
+            Ok(Channel::Watch(receipt))
+        }
     }
 }
 
 /// The end of a sender, where it is live.
-pub fn drop_tx(channel: &mut LocalChannel, tx: TxId) -> Result<ChannelReply, NoEvent>
+pub fn drop_tx(channel: &mut LocalChannel, tx: TxId) -> Result<(), NoEvent>
     ensures { ChannelTells channel.old (DropsTx (Own tx)) (ended result) channel.new }
 {
     match channel {
-        Channel::Broadcast(channel) => {
-            if !channel.object().has_sender(tx) {
-                return Err(NoEvent::NotLive);
-            }
-            spend_broadcast(channel, BCall::DropTx(tx))
-        }
-        Channel::Watch(channel) => {
-            if !channel.object().has_sender(tx) {
-                return Err(NoEvent::NotLive);
-            }
-            spend_watch(channel, WCall::DropTx(tx))
-        }
+        Channel::Broadcast(channel) => spend_sender(channel, tx, NoEvent::NotLive),
+        Channel::Watch(channel) => spend_sender(channel, tx, NoEvent::NotLive),
     }
 }
 
 /// The end of a receiver, where it is live.
-pub fn drop_rx(channel: &mut LocalChannel, rx: RxId) -> Result<ChannelReply, NoEvent>
+pub fn drop_rx(channel: &mut LocalChannel, rx: RxId) -> Result<(), NoEvent>
     ensures { ChannelTells channel.old (DropsRx rx) (ended result) channel.new }
 {
     match channel {
-        Channel::Broadcast(channel) => {
-            if channel.object().place(rx).is_none() {
-                return Err(NoEvent::NotLive);
-            }
-            spend_broadcast(channel, BCall::DropRx(rx))
-        }
-        Channel::Watch(channel) => {
-            if channel.object().is_unseen(rx).is_none() {
-                return Err(NoEvent::NotLive);
-            }
-            spend_watch(channel, WCall::DropRx(rx))
-        }
+        Channel::Broadcast(channel) => spend_receiver(channel, rx),
+        Channel::Watch(channel) => spend_receiver(channel, rx),
     }
 }
 
 /// The end of the hub's own sender, where it is live.
-pub fn end(channel: &mut LocalChannel) -> Result<ChannelReply, NoEvent>
+pub fn end(channel: &mut LocalChannel) -> Result<(), NoEvent>
     ensures { ChannelTells channel.old (DropsTx Hub) (ended result) channel.new }
 {
     match channel {
-        Channel::Broadcast(channel) => {
-            if !channel.object().has_sender(HUB_SENDER) {
-                return Err(NoEvent::NoSender);
-            }
-            spend_broadcast(channel, BCall::DropTx(HUB_SENDER))
-        }
-        Channel::Watch(channel) => {
-            if !channel.object().has_sender(HUB_SENDER) {
-                return Err(NoEvent::NoSender);
-            }
-            spend_watch(channel, WCall::DropTx(HUB_SENDER))
-        }
-    }
-}
-
-// The sender that a call of a broadcast channel made, with the receipt.
-fn sender_of_broadcast(receipt: Receipt<HubBroadcast>) -> Made<TxId>
-    ensures made { outcome_of (λ t. NewTx t) result ≡ broadcast_made_tx receipt.reply }
-    ensures receipt { result.receipt ≡ Channel.Broadcast receipt }
-{
-    let handle = match receipt.reply() {
-        BReply::NewTx(tx) => Some(*tx),
-        _ => None,
-    };
-    Made {
-        handle,
-        receipt: Channel::Broadcast(receipt),
-    }
-}
-
-// The same of a watch channel.
-fn sender_of_watch(receipt: Receipt<HubWatch>) -> Made<TxId>
-    ensures made { outcome_of (λ t. NewTx t) result ≡ watch_made_tx receipt.reply }
-    ensures receipt { result.receipt ≡ Channel.Watch receipt }
-{
-    let handle = match receipt.reply() {
-        WReply::NewTx(tx) => Some(*tx),
-        _ => None,
-    };
-    Made {
-        handle,
-        receipt: Channel::Watch(receipt),
+        Channel::Broadcast(channel) => spend_sender(channel, HUB_SENDER, NoEvent::NoSender),
+        Channel::Watch(channel) => spend_sender(channel, HUB_SENDER, NoEvent::NoSender),
     }
 }
 
@@ -282,69 +200,19 @@ pub fn bind(channel: &mut LocalChannel) -> Result<Made<TxId>, NoEvent>
 {
     match channel {
         Channel::Broadcast(channel) => {
-            match call_broadcast(channel, true, Some(BCall::CloneTx(HUB_SENDER))) {
-                Ok(receipt) => Ok(sender_of_broadcast(receipt)),
-                Err(why) => Err(why),
-            }
+            let receipt = event(channel, true, Some(HubBroadcast::cloning(HUB_SENDER)))?;
+            Ok(Made {
+                handle: HubBroadcast::made_tx(receipt.reply()),
+                receipt: Channel::Broadcast(receipt),
+            })
         }
         Channel::Watch(channel) => {
-            match call_watch(channel, true, Some(WCall::CloneTx(HUB_SENDER))) {
-                Ok(receipt) => Ok(sender_of_watch(receipt)),
-                Err(why) => Err(why),
-            }
+            let receipt = event(channel, true, Some(HubWatch::cloning(HUB_SENDER)))?;
+            Ok(Made {
+                handle: HubWatch::made_tx(receipt.reply()),
+                receipt: Channel::Watch(receipt),
+            })
         }
-    }
-}
-
-// The receiver that a call of a broadcast channel made, with the receipt.
-fn receiver_of_broadcast(receipt: Receipt<HubBroadcast>) -> Made<RxId>
-    ensures made { outcome_of (λ r. NewRx r) result ≡ broadcast_made_rx receipt.reply }
-    ensures receipt { result.receipt ≡ Channel.Broadcast receipt }
-{
-    let handle = match receipt.reply() {
-        BReply::NewRx(rx) => Some(*rx),
-        _ => None,
-    };
-    Made {
-        handle,
-        receipt: Channel::Broadcast(receipt),
-    }
-}
-
-// The same of a watch channel.
-fn receiver_of_watch(receipt: Receipt<HubWatch>) -> Made<RxId>
-    ensures made { outcome_of (λ r. NewRx r) result ≡ watch_made_rx receipt.reply }
-    ensures receipt { result.receipt ≡ Channel.Watch receipt }
-{
-    let handle = match receipt.reply() {
-        WReply::NewRx(rx) => Some(*rx),
-        _ => None,
-    };
-    Made {
-        handle,
-        receipt: Channel::Watch(receipt),
-    }
-}
-
-// The call of a broadcast channel that makes a receiver which begins so.
-fn broadcast_subscribing(start: Start, sender: Option<TxId>) -> BCall<Value>
-    ensures { Some result ≡ broadcast_call (Subscribes start (any_sender sender)) }
-{
-    let tx = sender_or_hub(sender);
-    match start {
-        Start::Tail => BCall::Subscribe(tx),
-        Start::Oldest => BCall::SubscribeOldest(tx),
-    }
-}
-
-// The call of a watch channel, if it has one.
-fn watch_subscribing(start: Start, sender: Option<TxId>) -> Option<WCall<Value>>
-    ensures { result ≡ watch_call (Subscribes start (any_sender sender)) }
-{
-    let tx = sender_or_hub(sender);
-    match start {
-        Start::Tail => Some(WCall::Subscribe(tx)),
-        Start::Oldest => None,
     }
 }
 
@@ -357,38 +225,23 @@ pub fn subscribe(
     ensures { let event = Subscribes start (any_sender sender) in
         ChannelTells channel.old event (made_rx (λ r. r) result) channel.new }
 {
+    let tx = sender_or_hub(sender);
     let by_hub = sender.is_none();
     match channel {
         Channel::Broadcast(channel) => {
-            match call_broadcast(channel, by_hub, Some(broadcast_subscribing(start, sender))) {
-                Ok(receipt) => Ok(receiver_of_broadcast(receipt)),
-                Err(why) => Err(why),
-            }
+            let receipt = event(channel, by_hub, HubBroadcast::subscribing(start, tx))?;
+            Ok(Made {
+                handle: HubBroadcast::made_rx(receipt.reply()),
+                receipt: Channel::Broadcast(receipt),
+            })
         }
         Channel::Watch(channel) => {
-            match call_watch(channel, by_hub, watch_subscribing(start, sender)) {
-                Ok(receipt) => Ok(receiver_of_watch(receipt)),
-                Err(why) => Err(why),
-            }
+            let receipt = event(channel, by_hub, HubWatch::subscribing(start, tx))?;
+            Ok(Made {
+                handle: HubWatch::made_rx(receipt.reply()),
+                receipt: Channel::Watch(receipt),
+            })
         }
-    }
-}
-
-// A new receiver, and then the end of the old one, for which room was kept.
-fn move_receiver(
-    channel: &mut Recorded<HubBroadcast>,
-    rx: RxId,
-) -> Result<Receipt<HubBroadcast>, NoEvent>
-    ensures { BroadcastMoves channel.old rx result channel.new }
-{
-    match call_broadcast(channel, false, Some(BCall::Resubscribe(rx))) {
-        Ok(receipt) => {
-            if let BReply::NewRx(_) = receipt.reply() {
-                let _ = spend_broadcast(channel, BCall::DropRx(rx));
-            }
-            Ok(receipt)
-        }
-        Err(why) => Err(why),
     }
 }
 
@@ -397,11 +250,20 @@ pub fn resubscribe(channel: &mut LocalChannel, rx: RxId) -> Result<Made<RxId>, N
     ensures { ChannelTells channel.old (Resubscribes rx) (made_rx (λ r. r) result) channel.new }
 {
     match channel {
-        Channel::Broadcast(channel) => match move_receiver(channel, rx) {
-            Ok(receipt) => Ok(receiver_of_broadcast(receipt)),
-            Err(why) => Err(why),
-        },
-        Channel::Watch(_) => Err(NoEvent::WrongKind),
+        Channel::Broadcast(channel) => {
+            let receipt = move_receiver(channel, rx)?;
+            Ok(Made {
+                handle: HubBroadcast::made_rx(receipt.reply()),
+                receipt: Channel::Broadcast(receipt),
+            })
+        }
+        Channel::Watch(channel) => {
+            let receipt = move_receiver(channel, rx)?;
+            Ok(Made {
+                handle: HubWatch::made_rx(receipt.reply()),
+                receipt: Channel::Watch(receipt),
+            })
+        }
     }
 }
 

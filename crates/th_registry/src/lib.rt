@@ -20,7 +20,8 @@ pub mod recorded;
 pub mod topics;
 
 pub use channel::Channel;
-pub use desk::Desk;
+pub use desk::{Desk, MOST_READY};
 pub use local::{BadLimit, LocalDesk};
 pub use opening::{Found, Refusal, TopicId};
-pub use outcome::{ChannelReply, Made, NoEvent, Unspent};
+pub use outcome::{Made, NoEvent, Unspent};
+pub use topics::MOST_TOPICS;

@@ -6,14 +6,14 @@ use crate::channel::{TopicReceipt, TopicSegment};
 use crate::desk::Desk;
 use crate::event;
 use crate::opening::{Found, Refusal, TopicId};
-use crate::outcome::{ChannelReply, Made, NoEvent, Unspent};
+use crate::outcome::{Made, NoEvent, Unspent};
 use crate::topics::{Channels, list, open_broadcast, open_watch};
 use indexmap::IndexMap;
 use std::alloc::Global;
 use std::marker::Model;
 use th_log::MOST_ENTRIES;
 use th_model::{
-    Listing, Making, NameRef, Question, ReceiverVerb, RxId, SenderVerb, Short, Start, TxId,
+    Listing, Making, NameRef, Question, ReceiverVerb, RxId, SenderVerb, Short, Start, TxId, Value,
 };
 use thiserror::Error;
 
@@ -145,7 +145,7 @@ impl Desk for LocalDesk {
         &mut self,
         topic: TopicId,
         sender: &mut TxId,
-        verb: SenderVerb,
+        verb: SenderVerb<Value>,
     ) -> Result<TopicReceipt, NoEvent> {
         let Some(channel) = self.channels.get_index_mut(topic.0 as usize) else {
             return Err(NoEvent::NoTopic);
@@ -185,35 +185,27 @@ impl Desk for LocalDesk {
         event::resubscribe(channel, *receiver)
     }
 
-    fn spend_sender(
-        &mut self,
-        topic: TopicId,
-        sender: TxId,
-    ) -> Result<ChannelReply, Unspent<TxId>> {
+    fn spend_sender(&mut self, topic: TopicId, sender: TxId) -> Result<(), Unspent<TxId>> {
         let Some(channel) = self.channels.get_index_mut(topic.0 as usize) else {
             return Err(unspent(sender, NoEvent::NoTopic));
         };
         match event::drop_tx(channel, sender) {
-            Ok(reply) => Ok(reply),
+            Ok(()) => Ok(()),
             Err(why) => Err(unspent(sender, why)),
         }
     }
 
-    fn spend_receiver(
-        &mut self,
-        topic: TopicId,
-        receiver: RxId,
-    ) -> Result<ChannelReply, Unspent<RxId>> {
+    fn spend_receiver(&mut self, topic: TopicId, receiver: RxId) -> Result<(), Unspent<RxId>> {
         let Some(channel) = self.channels.get_index_mut(topic.0 as usize) else {
             return Err(unspent(receiver, NoEvent::NoTopic));
         };
         match event::drop_rx(channel, receiver) {
-            Ok(reply) => Ok(reply),
+            Ok(()) => Ok(()),
             Err(why) => Err(unspent(receiver, why)),
         }
     }
 
-    fn end(&mut self, topic: TopicId) -> Result<ChannelReply, NoEvent> {
+    fn end(&mut self, topic: TopicId) -> Result<(), NoEvent> {
         let Some(channel) = self.channels.get_index_mut(topic.0 as usize) else {
             return Err(NoEvent::NoTopic);
         };

@@ -1,16 +1,6 @@
 //! What comes of an event.
 use crate::channel::TopicReceipt;
-use th_model::{BReply, Value, WReply};
 use thiserror::Error;
-
-/// What a channel replied.
-#[derive(Drop)]
-pub enum ChannelReply {
-    /// A broadcast channel.
-    Broadcast(BReply<Value>),
-    /// A watch channel.
-    Watch(WReply<Value>),
-}
 
 /// What came of an event that is to make a handle.
 #[derive(Drop)]

@@ -8,7 +8,7 @@ ghost use Rattle.th_registry.specs.Refusals.{RefusesEvent};
 use crate::outcome::NoEvent;
 use std::alloc::Global;
 use std::marker::Model;
-use th_log::{Logged, MakeFault, Object, Receipt, Refused, Segment};
+use th_log::{Kind, Logged, MakeFault, Object, Receipt, Refused, Segment};
 use th_model::Short;
 use th_seats::Share;
 
@@ -51,6 +51,20 @@ impl<O: Object> Recorded<O> {
         self.log.object()
     }
 
+    /// Hands out the segment so far, and begins the next one.
+    pub fn cut(&mut self) -> Result<Segment<O>, Short<()>>
+        requires { O.lawful }
+        ensures segment { IfOk result (λ s. s ≡ segment self.old self.old.state) }
+        ensures next { OnOk result (self.new ≡ cut self.old self.old.state) }
+        ensures same { IfErr result (λ short. self.new ≡ self.old) }
+    {
+        // What is kept of every log is said here.
+        let _entries = self.log.len();
+        self.log.cut()
+    }
+}
+
+impl<O: Kind> Recorded<O> {
     /// Makes one event, and one entry of it: `LogFull` exactly where there is no room for it beside the entries that
     /// spend the handles live then, else `Short` where memory is refused. A call that spends a live handle is neither.
     pub fn record(&mut self, call: O::Call) -> Result<Receipt<O>, NoEvent>
@@ -77,17 +91,5 @@ impl<O: Object> Recorded<O> {
             Err(Refused::Short(_)) => Err(NoEvent::Short),
             Err(Refused::Foreign(_)) => unreachable!(),
         }
-    }
-
-    /// Hands out the segment so far, and begins the next one.
-    pub fn cut(&mut self) -> Result<Segment<O>, Short<()>>
-        requires { O.lawful }
-        ensures segment { IfOk result (λ s. s ≡ segment self.old self.old.state) }
-        ensures next { OnOk result (self.new ≡ cut self.old self.old.state) }
-        ensures same { IfErr result (λ short. self.new ≡ self.old) }
-    {
-        // What is kept of every log is said here.
-        let _entries = self.log.len();
-        self.log.cut()
     }
 }

@@ -11,7 +11,7 @@ use th_model::{Capacity, Listed, Listing, Making, Name, Short, Value};
 use th_watch::Watch;
 
 /// The most topics of a hub.
-const MOST_TOPICS: usize = 1024;
+pub const MOST_TOPICS: usize = 1024;
 
 /// At most 1,024 channels by the names of their topics, in order of opening.
 pub type Channels = IndexMap<Name, LocalChannel>;

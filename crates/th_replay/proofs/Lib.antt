@@ -1,6 +1,5 @@
 pub mod SessionLemmas
 pub mod Turning
-pub mod RunLemmas
 pub mod Endings
 pub mod OutcomeLemmas
 pub mod Holdings

@@ -24,7 +24,7 @@ use Rattle.th_registry.specs.Calls.{Bytes}
 use Rattle.th_registry.specs.Endless.{EndlessTopics}
 use Rattle.th_registry.specs.Hub.{find}
 use Rattle.th_registry.specs.Live.{Handle}
-use Rattle.th_session.specs.Held.{Holding, seat_at}
+use Rattle.th_session.specs.Held.{Holding, handles_at}
 use Rattle.th_session.specs.Laws.{Lacks}
 use Rattle.th_session.specs.Live.{Has, AllIsLive}
 use Rattle.th_session.specs.Script.{Answer, Replied, reply_of}
@@ -38,7 +38,7 @@ use Rattle.th_replay.specs.Laws.{WhatIsHeldIsLive, WhatIsHeldIsNotShared, NotHel
 
 -- no handle is held by both
 abbrev Apart : Holding → Holding → Type 0
-Apart h k = (n : ℕ) (x : Handle) → Has (seat_at h n) x → Has (seat_at k n) x → ⊥
+Apart h k = (n : ℕ) (x : Handle) → Has (handles_at h n) x → Has (handles_at k n) x → ⊥
 
 abbrev AllApart : Holding → Actors → Type 0
 AllApart h actors = AllByRecursion (λ b. Apart h b.1) actors
@@ -76,7 +76,7 @@ module _ {ts ts' : EndlessTopics} {h h' : Holding} (keeps : Keeps h ts h' ts') w
   -- what another holds is live then, and the two are apart
   other : (k : Holding) → Lives ts k → Apart h k → Lives ts' k × Apart h' k
   other k l apart =
-      let others : (n : ℕ) (x : Handle) → Has (seat_at k n) x → IsOthers ts' h' n x =
+      let others : (n : ℕ) (x : Handle) → Has (handles_at k n) x → IsOthers ts' h' n x =
       λ n x has. keeps.others n x (record { live = l.live n x has; own = l.own n x has; apart = λ mine. apart n x mine has }) in
       (record { rising = l.rising; live = λ n x has. (others n x has).live; own = l.own }, λ n x mine has. (others n x has).apart mine)
 
@@ -185,13 +185,13 @@ what_is_held_is_live lines marks =
     let hub = session_end machine start lines marks in all-live hub.topics hub.actors (end_living start start_living lines marks).living
 
 none-shared : (ts : EndlessTopics) (actors : Actors) → Living ts actors → (i j : ℕ) (h k : Holding) (n : ℕ) (x : Handle) →
-    holding_at actors i ≡ Some h → holding_at actors j ≡ Some k → Has (seat_at h n) x → Has (seat_at k n) x → i ≡ j
+    holding_at actors i ≡ Some h → holding_at actors j ≡ Some k → Has (handles_at h n) x → Has (handles_at k n) x → i ≡ j
 none-shared ts [] living i j h k n x at at' has also = absurd (none-some h at)
 none-shared ts (a ∷ actors) living zero zero h k n x at at' has also = refl
 none-shared ts (a ∷ actors) living zero (suc j) h k n x at at' has also =
-    absurd (apart-at a.1 k actors j living.1 at' n x (subst (λ held. Has (seat_at held n) x) (sym (same_Some a.1 h at)) has) also)
+    absurd (apart-at a.1 k actors j living.1 at' n x (subst (λ held. Has (handles_at held n) x) (sym (same_Some a.1 h at)) has) also)
 none-shared ts (a ∷ actors) living (suc i) zero h k n x at at' has also =
-    absurd (apart-at a.1 h actors i living.1 at n x (subst (λ held. Has (seat_at held n) x) (sym (same_Some a.1 k at')) also) has)
+    absurd (apart-at a.1 h actors i living.1 at n x (subst (λ held. Has (handles_at held n) x) (sym (same_Some a.1 k at')) also) has)
 none-shared ts (a ∷ actors) living (suc i) (suc j) h k n x at at' has also = ap suc (none-shared ts actors living.2 i j h k n x at at' has also)
 
 pub what_is_held_is_not_shared : WhatIsHeldIsNotShared
@@ -211,7 +211,7 @@ found-there actors name place e = there actors place (position-Some (pointwise n
 
 -- the answer is that the handle is not held exactly where it is lacking
 abbrev IsExact : Answer → Action → Holding → ℕ → Type 0
-IsExact answer action h n = (reply_of answer ≡ Some (Refused Codes.NotHeld)) ↔ Lacks action (seat_at h n)
+IsExact answer action h n = (reply_of answer ≡ Some (Refused Codes.NotHeld)) ↔ Lacks action (handles_at h n)
 
 module _ (hub : Hub EndlessTopics) (l : IsLiving hub) (name : Bytes) (action : Action) (t : Found)
     (e : find hub.topics name ≡ Some t) (right : is_for t.kind action ≡ true) where

@@ -2,7 +2,7 @@
 use Rattle.std.proofs.Common.{◌≡◌, ℕ, Bool, List, [], ◌∷◌, ◌++◌, length, refl, sym, ap, ◌∙◌, arith}
 use Rattle.std.specs.List.{concat}
 use Rattle.th_lines.specs.Lines.{Line}
-use Rattle.th_lines.specs.Standing.{Turned}
+use Rattle.th_lines.specs.Answering.{Turned}
 use Rattle.th_replay.specs.Session.{LineMachine, Turns, session_text, session_end}
 
 module _ {S : Type 0} (m : LineMachine S) where

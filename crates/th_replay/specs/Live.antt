@@ -5,7 +5,7 @@ use Rattle.std.specs.List.{AllByRecursion}
 use Rattle.std.specs.Map.{values_of}
 use Rattle.th_registry.specs.Endless.{EndlessTopics}
 use Rattle.th_registry.specs.Live.{Handle}
-use Rattle.th_session.specs.Held.{Holding, seat_at}
+use Rattle.th_session.specs.Held.{Holding, handles_at}
 use Rattle.th_session.specs.Live.{Has, AllIsLive}
 use Rattle.th_replay.specs.Schedule.{Hub, Actors, most_actors, place_of}
 
@@ -21,7 +21,7 @@ holding_at actors place = slice_get (values_of actors) place
 abbrev pub NoneIsShared : Hub EndlessTopics → Type 0
 NoneIsShared hub = (i j : ℕ) (h k : Holding) (n : ℕ) (x : Handle) →
     holding_at hub.actors i ≡ Some h → holding_at hub.actors j ≡ Some k →
-    Has (seat_at h n) x → Has (seat_at k n) x → i ≡ j
+    Has (handles_at h n) x → Has (handles_at k n) x → i ≡ j
 
 -- what the actor holds whose place this is; one that has not begun holds nothing
 abbrev pub held_at : Actors → Option ℕ → Holding

@@ -19,7 +19,7 @@ use th_lines::{
 use th_model::{Name, NameRef};
 use th_registry::LocalDesk;
 use th_session::local::step;
-use th_session::{Answer, Session};
+use th_session::{Answer, Keeping, Session};
 
 /// The most actors at one time.
 const MOST_ACTORS: usize = 1024;
@@ -166,7 +166,11 @@ impl Hub {
                 }
                 put
             }
-            told => session.put_answer(told, out, writer),
+            told => {
+                let put = session.put_answer(told, out, writer);
+                session.let_go(Keeping::Nothing);
+                put
+            }
         }
     }
 
@@ -206,6 +210,7 @@ impl Hub {
         if is_over {
             return put;
         }
+        session.let_go(Keeping::Nothing);
         let Ok(_) = self.actors.insert(name.to_name(), session) else {
             unreachable!();
         };

@@ -1,232 +1,133 @@
 //! A schedule that is being carried out.
-ghost use Rattle.std.specs.Prelude.{◌≡◌, ◌≤◌, ◌+◌, [], IfOk, OnOk};
-ghost use Rattle.th_lines.specs.Device.{failures_after, one_more};
+ghost use Rattle.std.specs.Prelude.{◌≡◌, ◌≤◌, ◌+◌, ℕ, IfOk};
+ghost use Rattle.th_lines.specs.Feeding as feeding;
+ghost use Rattle.th_lines.specs.Feeding.{failures_by};
 ghost use Rattle.th_replay.specs.Outcome.{Comes, devices, reader_failures, writer_failures};
-ghost use Rattle.th_lines.specs.Standing.{FlushesOn};
-ghost use Rattle.th_replay.specs.Progress.{AnswersAll, AnswersNext, ClosesOrFails, FillsOn, ReadsOn, beginning, stands};
+ghost use Rattle.th_replay.specs.Progress.{beginning, end_by, may_wait};
 ghost use Rattle.th_replay.specs.Schedule.{answers, seen_start};
 
 use crate::actors::Hub;
-use crate::fault::{ReplayFault, RunFault};
+use crate::fault::ReplayFault;
 use std::alloc::{AllocError, Global};
 use std::io::{Read, Write};
 use std::marker::Model;
-use th_lines::{Counted, Intake, Moved, WriteBuffer, WriteFailed};
+use th_lines::{Counted, Fed, Feeder, Intake, TakesLines, WriteBuffer, WriteFailed};
 
-/// The hub of a schedule, with the lines that came to it and the replies that wait to be written.
+/// The hub of a schedule, and the replies that wait to be written.
 #[derive(Drop)]
 pub struct Runner {
     // The topics and the actors. Each line that is answered changes them.
     hub: Hub,
-    // What was read and is not answered yet.
-    intake: Intake,
     // The answers' texts that are not written yet.
     out: WriteBuffer,
-    // How many lines were answered: one more with each.
-    answered: u64,
-    // How many lines may be answered. It never changes.
-    limit: u64,
 }
 
 impl Model for Runner {
-    ghost use Rattle.th_replay.specs.Progress.{Course, IsBounded};
+    ghost use Rattle.th_replay.specs.Progress.{Course};
 
     ghost Value = { Course };
 
-    ghost view = { λ r. record {
-      hub = r.hub;
-      came = r.intake.came;
-      waiting = r.out;
-      answered = r.answered;
-      limit = r.limit;
-    } };
+    ghost view = { λ r. record { hub = r.hub; waiting = r.out } };
+}
 
-    ghost invariant = { λ r. IsBounded r.intake.came r.answered r.limit };
+impl<W: Write> TakesLines<(), Counted<W>> for Runner {
+    ghost use Rattle.std.specs.Prelude.{◌≡◌, []};
+    ghost use Rattle.th_replay.specs.Progress.{IsBroken, Took};
+
+    type Stop = WriteFailed;
+
+    ghost took = { Took W.contents };
+
+    ghost halts = { IsBroken W.contents };
+
+    ghost is_settled = { λ p. p.0.waiting ≡ [] };
+
+    // Writes all replies that wait, and flushes the writer.
+    fn settle(
+        &mut self,
+        _desk: &mut (),
+        writer: &mut Counted<W>,
+        _taken: u64,
+    ) -> Result<(), WriteFailed> {
+        self.out.flush(writer)
+    }
+
+    // Answers a line.
+    #[inline(always)]
+    fn take(
+        &mut self,
+        alloc: Global,
+        _desk: &mut (),
+        writer: &mut Counted<W>,
+        _taken: u64,
+        line: Option<&[u8]>,
+        _intake: &Intake,
+    ) -> Result<(), WriteFailed> {
+        self.hub.answer(alloc, line, &mut self.out, writer)
+    }
 }
 
 impl Runner {
-    /// With an empty hub, and nothing read yet. It makes all buffers.
-    pub fn new(alloc: Global, limit: u64) -> Result<Runner, AllocError>
-        ensures { IfOk result (λ r. r ≡ beginning limit) }
+    /// With an empty hub. It makes the buffer of the replies.
+    pub fn new(alloc: Global) -> Result<Runner, AllocError>
+        ensures { IfOk result (λ r. r ≡ beginning) }
     {
         let hub = Hub::new(alloc)?;
-        let intake = Intake::new(alloc)?;
         let out = WriteBuffer::new(alloc)?;
-        Ok(Runner {
-            hub,
-            intake,
-            out,
-            answered: 0,
-            limit,
-        })
+        Ok(Runner { hub, out })
     }
 
     /// Reads on to the end of the input by at most so many reads, answers the lines as they come, and answers how many
     /// they were. Before each read all replies are written.
     pub fn run<R: Read, W: Write>(
         &mut self,
+        feeder: &mut Feeder,
         alloc: Global,
         reader: &mut Counted<R>,
         writer: &mut Counted<W>,
         reads: u64,
     ) -> Result<u64, ReplayFault>
-        requires { self.old ≡ beginning self.old.limit }
-        ensures comes { Comes answers seen_start self.old.limit reads
+        requires run { self.old ≡ beginning }
+        requires feeder { feeder.old ≡ feeding.beginning feeder.old.limit }
+        ensures comes { Comes answers seen_start feeder.old.limit reads
             (devices R.remaining reader.old W.contents writer.old)
             (devices R.remaining reader.new W.contents writer.new) result }
         ensures reads { reader.new.calls ≤ reader.old.calls + reads }
         ensures reader { reader.new.failures ≡ reader_failures reader.old.failures result }
         ensures writer { writer.new.failures ≡ writer_failures writer.old.failures result }
     {
-        for made in 0..reads {
-            match self.read_on(alloc, reader, writer) {
-                Ok(None) => {}
-                Ok(Some(count)) => return Ok(count),
-                Err(e) => return Err(e),
-            }
+        let fed = feeder.feed(self, alloc, &mut (), writer, reader, reads);
+        let end = end_by(fed, feeder.taken());
+        if !may_wait(&end) {
+            return end;
         }
-        match self.flush(writer) {
-            Ok(()) => Err(ReplayFault::TooLong),
+        match self.out.flush(writer) {
+            Ok(()) => end,
             Err(_) => Err(ReplayFault::Write),
         }
     }
+}
 
-    // Writes all replies that wait, makes one read, and answers the lines that came whole. At the end of the input it
-    // answers the number of all lines.
-    fn read_on<R: Read, W: Write>(
-        &mut self,
-        alloc: Global,
-        reader: &mut Counted<R>,
-        writer: &mut Counted<W>,
-    ) -> Result<Option<u64>, ReplayFault>
-        requires { self.old.came.ahead ≡ [] }
-        ensures read { ReadsOn answers
-            (R.remaining reader.old.device) (R.remaining reader.new.device)
-            (stands W.contents writer.old self.old) (stands W.contents writer.new self.new) result }
-        ensures calls { reader.new.calls ≤ reader.old.calls + 1 }
-        ensures call { OnOk result (reader.new.calls ≡ one_more reader.old.calls) }
-        ensures reader { reader.new.failures ≡ reader_failures reader.old.failures result }
-    {
-        match self.flush(writer) {
-            Ok(()) => {}
-            Err(_) => return Err(ReplayFault::Write),
-        }
-        match self.fill(reader) {
-            Moved::Bytes(0) => match self.finish(alloc, writer) {
-                Ok(count) => return Ok(Some(count)),
-                Err(_) => return Err(ReplayFault::Write),
-            },
-            Moved::Bytes(_) => {}
-            Moved::Again => return Ok(None),
-            Moved::Failed => return Err(ReplayFault::Read),
-        }
-        match self.answer_all(alloc, writer) {
-            Ok(()) => Ok(None),
-            Err(RunFault::Write) => Err(ReplayFault::Write),
-            Err(RunFault::TooLong) => match self.flush(writer) {
-                Ok(()) => Err(ReplayFault::TooLong),
-                Err(_) => Err(ReplayFault::Write),
-            },
-        }
+// What comes of a run after so many lines, by why no further line is fed.
+fn end_by(fed: Fed<WriteFailed>, count: u64) -> Result<u64, ReplayFault>
+    ensures end { result ≡ end_by fed count }
+    ensures reader { (n : ℕ) → failures_by n fed ≡ reader_failures n result }
+{
+    match fed {
+        Fed::Ended => Ok(count),
+        Fed::Stopped(_) => Err(ReplayFault::Write),
+        Fed::Failed => Err(ReplayFault::Read),
+        Fed::Full | Fed::Spent => Err(ReplayFault::TooLong),
     }
+}
 
-    // Writes all replies that wait, and flushes the writer.
-    fn flush<W: Write>(&mut self, writer: &mut Counted<W>) -> Result<(), WriteFailed>
-        ensures { FlushesOn
-            (stands W.contents writer.old self.old) (stands W.contents writer.new self.new) result }
-    {
-        self.out.flush(writer)
-    }
-
-    // Makes one read.
-    fn fill<R: Read>(&mut self, reader: &mut Counted<R>) -> Moved
-        requires { self.old.came.ahead ≡ [] }
-        ensures filled { FillsOn
-            (R.remaining reader.old.device) (R.remaining reader.new.device) result
-            self.old self.new }
-        ensures calls { reader.new.calls ≡ one_more reader.old.calls }
-        ensures failures { reader.new.failures ≡ failures_after reader.old.failures result }
-    {
-        self.intake.fill(reader)
-    }
-
-    // Answers all lines that came whole.
-    fn answer_all<W: Write>(
-        &mut self,
-        alloc: Global,
-        writer: &mut Counted<W>,
-    ) -> Result<(), RunFault>
-        ensures { AnswersAll answers
-            (stands W.contents writer.old self.old) (stands W.contents writer.new self.new) result }
-    {
-        loop {
-            match self.answer_next(alloc, writer) {
-                Ok(true) => {}
-                Ok(false) => return Ok(()),
-                Err(e) => return Err(e),
-            }
-        }
-    }
-
-    // Answers the next line, if it came whole.
-    #[inline(always)]
-    fn answer_next<W: Write>(
-        &mut self,
-        alloc: Global,
-        writer: &mut Counted<W>,
-    ) -> Result<bool, RunFault>
-        ensures { AnswersNext answers
-            (stands W.contents writer.old self.old) (stands W.contents writer.new self.new) result }
-    {
-        if self.answered >= self.limit {
-            if self.intake.is_empty() {
-                return Ok(false);
-            }
-            return Err(RunFault::TooLong);
-        }
-        if !self.intake.next_line() {
-            return Ok(false);
-        }
-        let line = self.intake.line(true);
-        self.answered += 1;
-        match self.hub.answer(alloc, line, &mut self.out, writer) {
-            Ok(()) => Ok(true),
-            Err(_) => Err(RunFault::Write),
-        }
-    }
-
-    // Answers what stands after the last LF, at the end of the input, writes all that waits, and answers the number of
-    // lines.
-    fn finish<W: Write>(
-        &mut self,
-        alloc: Global,
-        writer: &mut Counted<W>,
-    ) -> Result<u64, WriteFailed>
-        requires { self.old.came.ahead ≡ [] }
-        ensures { ClosesOrFails answers
-            (stands W.contents writer.old self.old) (stands W.contents writer.new self.new) result }
-    {
-        if !self.intake.last_line() {
-            return self.count_written(writer);
-        }
-        let line = self.intake.line(false);
-        self.answered += 1;
-        match self.hub.answer(alloc, line, &mut self.out, writer) {
-            Ok(()) => self.count_written(writer),
-            Err(e) => Err(e),
-        }
-    }
-
-    // Writes all that waits, and answers how many lines were answered.
-    fn count_written<W: Write>(&mut self, writer: &mut Counted<W>) -> Result<u64, WriteFailed>
-        ensures flushed { FlushesOn
-            (stands W.contents writer.old self.old) (stands W.contents writer.new self.new) result }
-        ensures count { IfOk result (λ count. count ≡ self.old.answered) }
-        ensures within { self.old.answered ≤ self.old.limit }
-    {
-        match self.out.flush(writer) {
-            Ok(()) => Ok(self.answered),
-            Err(e) => Err(e),
-        }
+// Whether replies may wait still where a run ended so.
+fn may_wait(end: &Result<u64, ReplayFault>) -> bool
+    ensures { result ≡ may_wait end.now }
+{
+    match end {
+        Ok(_) => true,
+        Err(ReplayFault::TooLong) => true,
+        Err(_) => false,
     }
 }

@@ -1,4 +1,4 @@
-pub mod Seating
+pub mod HoldLemmas
 pub mod Playing
 pub mod Runs
 pub mod Order

@@ -12,7 +12,7 @@ use Rattle.th_lines.specs.declared.reply.Code.TheVariants as Codes
 use Rattle.th_lines.specs.declared.reply.Reply.{Reply}
 use Rattle.th_lines.specs.declared.reply.Reply.TheVariants.{Refused}
 use Rattle.th_registry.specs.declared.opening.Found.{Found}
-use Rattle.th_registry.specs.declared.outcome.ChannelReply.TheVariants as ChannelReplies
+use Rattle.th_registry.specs.declared.channel.Channel.TheVariants.{Broadcast, Watch}
 use Rattle.th_registry.specs.declared.outcome.NoEvent.TheVariants as NoEvents
 use Rattle.th_registry.specs.Events.{Event, Binds, Subscribes, Sends, Asks, Receives, Resubscribes, DropsTx, DropsRx, Hub, Own, any_sender, Told, NewTx, NewRx}
 use Rattle.th_registry.specs.Events as events
@@ -20,9 +20,9 @@ use Rattle.th_registry.specs.Hub.{say, On}
 use Rattle.th_registry.specs.Endless.{EndlessTopics, endless}
 use Rattle.th_registry.specs.Live.{Handle, Sender, Receiver, AskedBy, lacks_handle}
 use Rattle.th_registry.proofs.LiveReplies.{live_handles_are_served}
-use Rattle.th_session.specs.declared.seats.Seats.{Seats}
+use Rattle.th_session.specs.declared.handles.Handles.{Handles}
 use Rattle.th_session.specs.Table.{is_for, judged, own, unless_held, replied}
-use Rattle.th_session.specs.Held.{Holding, seat_at}
+use Rattle.th_session.specs.Held.{Holding, handles_at}
 use Rattle.th_session.specs.Live.{Has, IsHeldLive}
 use Rattle.th_session.specs.Script.{Answer, Ask, Give, Say, Script, answered, at_topic, by_event, kept, reply_of, run}
 use Rattle.th_session.specs.Laws.{Lacks, WhatIsLackingIsExact}
@@ -38,39 +38,40 @@ is_not_held reply = false
 told-not-held : (told : Told) → is_not_held (Some (replied told)) ≡ lacks_handle told
 told-not-held (Ok (NewTx t)) = refl
 told-not-held (Ok (NewRx r)) = refl
-told-not-held (Ok (events.Replied (ChannelReplies.Broadcast (BReplies.Sent n)))) = refl
-told-not-held (Ok (events.Replied (ChannelReplies.Broadcast (BReplies.NoReceivers v)))) = refl
-told-not-held (Ok (events.Replied (ChannelReplies.Broadcast (BReplies.Exhausted v)))) = refl
-told-not-held (Ok (events.Replied (ChannelReplies.Broadcast (BReplies.Value v)))) = refl
-told-not-held (Ok (events.Replied (ChannelReplies.Broadcast BReplies.Empty))) = refl
-told-not-held (Ok (events.Replied (ChannelReplies.Broadcast BReplies.Closed))) = refl
-told-not-held (Ok (events.Replied (ChannelReplies.Broadcast (BReplies.Lagged n)))) = refl
-told-not-held (Ok (events.Replied (ChannelReplies.Broadcast (BReplies.NewRx r)))) = refl
-told-not-held (Ok (events.Replied (ChannelReplies.Broadcast (BReplies.NewTx t)))) = refl
-told-not-held (Ok (events.Replied (ChannelReplies.Broadcast (BReplies.Count n)))) = refl
-told-not-held (Ok (events.Replied (ChannelReplies.Broadcast BReplies.Done))) = refl
-told-not-held (Ok (events.Replied (ChannelReplies.Broadcast BReplies.TooMany))) = refl
-told-not-held (Ok (events.Replied (ChannelReplies.Broadcast (BReplies.NoHandle v)))) = refl
-told-not-held (Ok (events.Replied (ChannelReplies.Watch WReplies.Done))) = refl
-told-not-held (Ok (events.Replied (ChannelReplies.Watch (WReplies.NoReceivers v)))) = refl
-told-not-held (Ok (events.Replied (ChannelReplies.Watch (WReplies.Exhausted v)))) = refl
-told-not-held (Ok (events.Replied (ChannelReplies.Watch (WReplies.Was v)))) = refl
-told-not-held (Ok (events.Replied (ChannelReplies.Watch (WReplies.Modified true)))) = refl
-told-not-held (Ok (events.Replied (ChannelReplies.Watch (WReplies.Modified false)))) = refl
-told-not-held (Ok (events.Replied (ChannelReplies.Watch (WReplies.Shown v true)))) = refl
-told-not-held (Ok (events.Replied (ChannelReplies.Watch (WReplies.Shown v false)))) = refl
-told-not-held (Ok (events.Replied (ChannelReplies.Watch (WReplies.Changed true)))) = refl
-told-not-held (Ok (events.Replied (ChannelReplies.Watch (WReplies.Changed false)))) = refl
-told-not-held (Ok (events.Replied (ChannelReplies.Watch WReplies.Marked))) = refl
-told-not-held (Ok (events.Replied (ChannelReplies.Watch WReplies.NotYet))) = refl
-told-not-held (Ok (events.Replied (ChannelReplies.Watch WReplies.Closed))) = refl
-told-not-held (Ok (events.Replied (ChannelReplies.Watch (WReplies.Gone true)))) = refl
-told-not-held (Ok (events.Replied (ChannelReplies.Watch (WReplies.Gone false)))) = refl
-told-not-held (Ok (events.Replied (ChannelReplies.Watch (WReplies.NewRx r)))) = refl
-told-not-held (Ok (events.Replied (ChannelReplies.Watch (WReplies.NewTx t)))) = refl
-told-not-held (Ok (events.Replied (ChannelReplies.Watch (WReplies.Count n)))) = refl
-told-not-held (Ok (events.Replied (ChannelReplies.Watch WReplies.TooMany))) = refl
-told-not-held (Ok (events.Replied (ChannelReplies.Watch (WReplies.NoHandle v)))) = refl
+told-not-held (Ok events.Ended) = refl
+told-not-held (Ok (events.Replied (Broadcast (BReplies.Sent n)))) = refl
+told-not-held (Ok (events.Replied (Broadcast (BReplies.NoReceivers v)))) = refl
+told-not-held (Ok (events.Replied (Broadcast (BReplies.Exhausted v)))) = refl
+told-not-held (Ok (events.Replied (Broadcast (BReplies.Value v)))) = refl
+told-not-held (Ok (events.Replied (Broadcast BReplies.Empty))) = refl
+told-not-held (Ok (events.Replied (Broadcast BReplies.Closed))) = refl
+told-not-held (Ok (events.Replied (Broadcast (BReplies.Lagged n)))) = refl
+told-not-held (Ok (events.Replied (Broadcast (BReplies.NewRx r)))) = refl
+told-not-held (Ok (events.Replied (Broadcast (BReplies.NewTx t)))) = refl
+told-not-held (Ok (events.Replied (Broadcast (BReplies.Count n)))) = refl
+told-not-held (Ok (events.Replied (Broadcast BReplies.Done))) = refl
+told-not-held (Ok (events.Replied (Broadcast BReplies.TooMany))) = refl
+told-not-held (Ok (events.Replied (Broadcast (BReplies.NoHandle v)))) = refl
+told-not-held (Ok (events.Replied (Watch WReplies.Done))) = refl
+told-not-held (Ok (events.Replied (Watch (WReplies.NoReceivers v)))) = refl
+told-not-held (Ok (events.Replied (Watch (WReplies.Exhausted v)))) = refl
+told-not-held (Ok (events.Replied (Watch (WReplies.Was v)))) = refl
+told-not-held (Ok (events.Replied (Watch (WReplies.Modified true)))) = refl
+told-not-held (Ok (events.Replied (Watch (WReplies.Modified false)))) = refl
+told-not-held (Ok (events.Replied (Watch (WReplies.Shown v true)))) = refl
+told-not-held (Ok (events.Replied (Watch (WReplies.Shown v false)))) = refl
+told-not-held (Ok (events.Replied (Watch (WReplies.Changed true)))) = refl
+told-not-held (Ok (events.Replied (Watch (WReplies.Changed false)))) = refl
+told-not-held (Ok (events.Replied (Watch WReplies.Marked))) = refl
+told-not-held (Ok (events.Replied (Watch WReplies.NotYet))) = refl
+told-not-held (Ok (events.Replied (Watch WReplies.Closed))) = refl
+told-not-held (Ok (events.Replied (Watch (WReplies.Gone true)))) = refl
+told-not-held (Ok (events.Replied (Watch (WReplies.Gone false)))) = refl
+told-not-held (Ok (events.Replied (Watch (WReplies.NewRx r)))) = refl
+told-not-held (Ok (events.Replied (Watch (WReplies.NewTx t)))) = refl
+told-not-held (Ok (events.Replied (Watch (WReplies.Count n)))) = refl
+told-not-held (Ok (events.Replied (Watch WReplies.TooMany))) = refl
+told-not-held (Ok (events.Replied (Watch (WReplies.NoHandle v)))) = refl
 told-not-held (Err NoEvents.NoTopic) = refl
 told-not-held (Err NoEvents.WrongKind) = refl
 told-not-held (Err NoEvents.NoSender) = refl
@@ -82,10 +83,10 @@ told-not-held (Err NoEvents.Short) = refl
 -- which event it is
 
 -- an event is asked for by what is held
-abbrev IsOfHeld : Seats TxId RxId → Event → Type 0
+abbrev IsOfHeld : Handles TxId RxId → Event → Type 0
 IsOfHeld s event = (x : Handle) → AskedBy event x → Has s x
 
-own-held : {H : Type 0} (handle : H → Handle) (s : Seats TxId RxId) (o : Option H) (event : H → Event) (e : Event) →
+own-held : {H : Type 0} (handle : H → Handle) (s : Handles TxId RxId) (o : Option H) (event : H → Event) (e : Event) →
     ((h : H) (x : Handle) → AskedBy (event h) x → x ≡ handle h) → ((h : H) → o ≡ Some h → Has s (handle h)) → own o event ≡ Ok e → IsOfHeld s e
 own-held handle s None event e asks has is x k = absurd (let no : ⊥ = cc in no)
 own-held handle s (Some h) event e asks has is x k =
@@ -93,22 +94,22 @@ own-held handle s (Some h) event e asks has is x k =
     subst (Has s) (sym (asks h x (subst (λ (z : Event). AskedBy z x) (sym same) k))) (has h refl)
 
 -- of an event that may go through the hub's own sender
-by-any : (s : Seats TxId RxId) (o : Option TxId) (event : Option TxId → Event) → ((x : Handle) → AskedBy (event None) x → ⊥) → ((t : TxId) (x : Handle) → AskedBy (event (Some t)) x → x ≡ Sender t) →
+by-any : (s : Handles TxId RxId) (o : Option TxId) (event : Option TxId → Event) → ((x : Handle) → AskedBy (event None) x → ⊥) → ((t : TxId) (x : Handle) → AskedBy (event (Some t)) x → x ≡ Sender t) →
     ((t : TxId) → o ≡ Some t → Has s (Sender t)) → IsOfHeld s (event o)
 by-any s None event none some has x k = absurd (none x k)
 by-any s (Some t) event none some has x k = subst (Has s) (sym (some t x k)) (has t refl)
 
-unless-held : {H : Type 0} (s : Seats TxId RxId) (o : Option H) (event e : Event) → IsOfHeld s event → unless_held o event ≡ Ok e → IsOfHeld s e
+unless-held : {H : Type 0} (s : Handles TxId RxId) (o : Option H) (event e : Event) → IsOfHeld s event → unless_held o event ≡ Ok e → IsOfHeld s e
 unless-held s None event e h is = subst (IsOfHeld s) (let same : event ≡ e = cc in same) h
 unless-held s (Some x) event e h is = absurd (let no : ⊥ = cc in no)
 
 abbrev always : Event → Result Event Code
 always event = Ok event
 
-is-same : (s : Seats TxId RxId) (event e : Event) → IsOfHeld s event → always event ≡ Ok e → IsOfHeld s e
+is-same : (s : Handles TxId RxId) (event e : Event) → IsOfHeld s event → always event ≡ Ok e → IsOfHeld s e
 is-same s event e h is = subst (IsOfHeld s) (let same : event ≡ e = cc in same) h
 
-judged-held : (action : Action) (s : Seats TxId RxId) (e : Event) → judged action s ≡ Ok e → IsOfHeld s e
+judged-held : (action : Action) (s : Handles TxId RxId) (e : Event) → judged action s ≡ Ok e → IsOfHeld s e
 judged-held Actions.Bind s e is = unless-held s s.sender Binds e (λ x k. absurd k) is
 judged-held Actions.Unbind s e is = own-held (λ t. Sender t) s s.sender (λ t. DropsTx (Own t)) e (λ t x k. k) (λ t h. h) is
 judged-held (Actions.Subscribe start) s e is =
@@ -129,7 +130,7 @@ unless-lacks : {H : Type 0} (o : Option H) (event : Event) → unless_held o eve
 unless-lacks None event e = cc
 unless-lacks (Some h) event e = cc
 
-judged-lacks : (action : Action) (s : Seats TxId RxId) → judged action s ≡ Err Codes.NotHeld → Lacks action s
+judged-lacks : (action : Action) (s : Handles TxId RxId) → judged action s ≡ Err Codes.NotHeld → Lacks action s
 judged-lacks Actions.Bind s e = absurd (unless-lacks s.sender Binds e)
 judged-lacks Actions.Unbind s e = own-lacks s.sender (λ t. DropsTx (Own t)) e
 judged-lacks (Actions.Subscribe start) s e = absurd (unless-lacks s.receiver (Subscribes start (any_sender s.sender)) e)
@@ -146,16 +147,16 @@ asking action h n event = Ask (On n event) (λ noted. Give (answered n noted) (k
 
 module _ (limit : ℕ) (ts : EndlessTopics) (h : Holding) (action : Action) (n : ℕ) (live : IsHeldLive ts h n) where
   -- the reply where this is why there is no event, or which event it is
-  by-judgement : (j : Result Event Code) → judged action (seat_at h n) ≡ j → reply_of (run (endless limit) ts (by_event action n h j)).0 ≡ Some (Refused Codes.NotHeld) → Lacks action (seat_at h n)
-  by-judgement (Err code) j r = judged-lacks action (seat_at h n) (j ∙ ap (λ (k : Code). Err k) (let same : code ≡ Codes.NotHeld = cc in same))
+  by-judgement : (j : Result Event Code) → judged action (handles_at h n) ≡ j → reply_of (run (endless limit) ts (by_event action n h j)).0 ≡ Some (Refused Codes.NotHeld) → Lacks action (handles_at h n)
+  by-judgement (Err code) j r = judged-lacks action (handles_at h n) (j ∙ ap (λ (k : Code). Err k) (let same : code ≡ Codes.NotHeld = cc in same))
   by-judgement (Ok event) j r =
-      let held : IsOfHeld (seat_at h n) event = judged-held action (seat_at h n) event j in
+      let held : IsOfHeld (handles_at h n) event = judged-held action (handles_at h n) event j in
       let served : lacks_handle (say (endless limit) ts (On n event)).0.0 ≡ false = live_handles_are_served limit ts n event (λ x k. live x (held x k)) in
       let reply = sym (ap (λ (end : Answer × Holding × EndlessTopics). reply_of end.0) (run-in-room (endless limit) ts action h (asking action h n event))) ∙ r in
       absurd (false≢true (sym (told-not-held (say (endless limit) ts (On n event)).0.0 ∙ served) ∙ ap is_not_held (sym (event-told (endless limit) (λ c call reply. refl) (λ c call reply. refl) n ts event) ∙ reply)))
 
-  by-kind : (right : Bool) → right ≡ true → reply_of (run (endless limit) ts (cond right (by_event action n h (judged action (seat_at h n))) (Say (Refused Codes.WrongKind) h))).0 ≡ Some (Refused Codes.NotHeld) → Lacks action (seat_at h n)
-  by-kind true is r = by-judgement (judged action (seat_at h n)) refl r
+  by-kind : (right : Bool) → right ≡ true → reply_of (run (endless limit) ts (cond right (by_event action n h (judged action (handles_at h n))) (Say (Refused Codes.WrongKind) h))).0 ≡ Some (Refused Codes.NotHeld) → Lacks action (handles_at h n)
+  by-kind true is r = by-judgement (judged action (handles_at h n)) refl r
   by-kind false is r = absurd (false≢true is)
 
 pub what_is_lacking_is_exact : WhatIsLackingIsExact

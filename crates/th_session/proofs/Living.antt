@@ -32,14 +32,14 @@ use Rattle.th_registry.specs.Endless.{EndlessTopics, endless, AreProper}
 use Rattle.th_registry.specs.Live.{Handle, Sender, Receiver, IsLive, new_handle, Ends, EndsOn}
 use Rattle.th_registry.proofs.Seeing.{stays_proper}
 use Rattle.th_registry.proofs.LiveTopics.{AreNumbered, hubs_sender, handles_stay_live, new_handles_are_new, new_handles_are_not_the_hubs, stays_numbered}
-use Rattle.th_session.specs.declared.seats.Seats.{Seats}
+use Rattle.th_session.specs.declared.handles.Handles.{Handles}
 use Rattle.th_session.specs.Table.{is_for, judged, own, unless_held}
-use Rattle.th_session.specs.Held.{Holding, nothing, seats_of, seat_at, with_seats}
+use Rattle.th_session.specs.Held.{Holding, nothing, handles_of, handles_at, with_handles}
 use Rattle.th_session.specs.Live.{Has, AllIsLive}
 use Rattle.th_session.specs.Script.{Answer, Script, Say, Ask, run, by_event, acting, at_topic, kept, script, shown, traced, spend_sender, spend_receiver, spend_all}
 use Rattle.th_session.proofs.Live.{asking}
 use Rattle.th_session.proofs.Rooms.{run-in-room}
-use Rattle.th_session.proofs.Seating.{lookup-insert}
+use Rattle.th_session.proofs.HoldLemmas.{lookup-insert}
 
 -- entries by numbers
 
@@ -73,13 +73,13 @@ module _ {X : Type 0} where
   lookup-below [] n h = refl
   lookup-below (e ∷ es) n h = rw (not_at n e.0 (λ k. omega (arith, h.0, k))) (lookup-below es n h.1)
 
--- seats
+-- handles
 
-seat-here : (h : Holding) (n : ℕ) (s : Seats TxId RxId) → seat_at (with_seats h n s) n ≡ s
-seat-here h n s = ap (λ o. unwrap_or o nothing) (lookup-insert h n s)
+own-here : (h : Holding) (n : ℕ) (s : Handles TxId RxId) → handles_at (with_handles h n s) n ≡ s
+own-here h n s = ap (λ o. unwrap_or o nothing) (lookup-insert h n s)
 
-seat-elsewhere : (h : Holding) (n m : ℕ) (s : Seats TxId RxId) → (m ≡ n → ⊥) → seat_at (with_seats h n s) m ≡ seat_at h m
-seat-elsewhere h n m s ne = ap (λ o. unwrap_or o nothing) (lookup-elsewhere h n s m ne)
+own-elsewhere : (h : Holding) (n m : ℕ) (s : Handles TxId RxId) → (m ≡ n → ⊥) → handles_at (with_handles h n s) m ≡ handles_at h m
+own-elsewhere h n m s ne = ap (λ o. unwrap_or o nothing) (lookup-elsewhere h n s m ne)
 
 pub has-nothing : (x : Handle) → Has nothing x → ⊥
 has-nothing (Sender t) e = none-some t e
@@ -89,13 +89,13 @@ has-nothing (Receiver r) e = none-some r e
 pub record Lives (ts : EndlessTopics) (h : Holding) : Type 0 where
   pub rising : IsRising (keys_of h)
   pub live : AllIsLive ts h
-  pub own : (n : ℕ) (x : Handle) → Has (seat_at h n) x → x ≡ hubs_sender → ⊥
+  pub own : (n : ℕ) (x : Handle) → Has (handles_at h n) x → x ≡ hubs_sender → ⊥
 
 -- a live handle of topic n that is neither the hub's nor held by this actor
 pub record IsOthers (ts : EndlessTopics) (h : Holding) (n : ℕ) (x : Handle) : Type 0 where
   pub live : IsLive ts n x
   pub own : x ≡ hubs_sender → ⊥
-  pub apart : Has (seat_at h n) x → ⊥
+  pub apart : Has (handles_at h n) x → ⊥
 
 -- the topics are proper, and no new number is the hub's sender's
 pub record AreSound (ts : EndlessTopics) : Type 0 where
@@ -128,9 +128,9 @@ asked limit ts h q s l none = record {
 -- ended, and what was made; and what has ended was held, or was the hub's sender.
 pub record Changes (h : Holding) (n : ℕ) (event : Event) (told : Told) (h' : Holding) : Type 0 where
   pub rising : IsRising (keys_of h) → IsRising (keys_of h')
-  pub elsewhere : (m : ℕ) → (m ≡ n → ⊥) → seat_at h' m ≡ seat_at h m
-  pub held : (x : Handle) → Has (seat_at h' n) x → (Has (seat_at h n) x × ((x ≡ hubs_sender → ⊥) → Ends event told x → ⊥)) ⊎ (new_handle told ≡ Some x)
-  pub ended : (x : Handle) → Ends event told x → Has (seat_at h n) x ⊎ (x ≡ hubs_sender)
+  pub elsewhere : (m : ℕ) → (m ≡ n → ⊥) → handles_at h' m ≡ handles_at h m
+  pub held : (x : Handle) → Has (handles_at h' n) x → (Has (handles_at h n) x × ((x ≡ hubs_sender → ⊥) → Ends event told x → ⊥)) ⊎ (new_handle told ≡ Some x)
+  pub ended : (x : Handle) → Ends event told x → Has (handles_at h n) x ⊎ (x ≡ hubs_sender)
 
 module _ (limit : ℕ) (ts : EndlessTopics) (h : Holding) (n : ℕ) (event : Event) (h' : Holding) (s : AreSound ts) (l : Lives ts h)
     (c : Changes h n event (say (endless limit) ts (On n event)).0.0 h') where
@@ -143,35 +143,35 @@ module _ (limit : ℕ) (ts : EndlessTopics) (h : Holding) (n : ℕ) (event : Eve
   stays : (m : ℕ) (x : Handle) → ((m ≡ n) × Ends event answer x → ⊥) → IsLive ts m x → IsLive later m x
   stays m x kept live = handles_stay_live limit ts (On n event) m x s.proper kept live
 
-  still-here : (x : Handle) → Has (seat_at h' n) x → IsLive later n x × (x ≡ hubs_sender → ⊥)
+  still-here : (x : Handle) → Has (handles_at h' n) x → IsLive later n x × (x ≡ hubs_sender → ⊥)
   still-here x has = elim (c.held x has) [
     | inl k ↦ (stays n x (λ e. k.1 (l.own n x k.0) e.1) (l.live n x k.0), l.own n x k.0)
     | inr new ↦ ((new_handles_are_new limit ts n event x s.proper new).0, new_handles_are_not_the_hubs limit ts n event x s.proper s.numbered new)
   ]
 
-  still : (m : ℕ) (x : Handle) → Has (seat_at h' m) x → IsLive later m x × (x ≡ hubs_sender → ⊥)
+  still : (m : ℕ) (x : Handle) → Has (handles_at h' m) x → IsLive later m x × (x ≡ hubs_sender → ⊥)
   still m x has = elim (eqb_tells m n) [
-    | inl e ↦ (let here = still-here x (subst (λ k. Has (seat_at h' k) x) e.1 has) in (subst (λ k. IsLive later k x) (sym e.1) here.0, here.1))
-    | inr ne ↦ (let before : Has (seat_at h m) x = subst (λ seats. Has seats x) (c.elsewhere m ne.1) has in (stays m x (λ e. ne.1 e.0) (l.live m x before), l.own m x before))
+    | inl e ↦ (let here = still-here x (subst (λ k. Has (handles_at h' k) x) e.1 has) in (subst (λ k. IsLive later k x) (sym e.1) here.0, here.1))
+    | inr ne ↦ (let before : Has (handles_at h m) x = subst (λ handles. Has handles x) (c.elsewhere m ne.1) has in (stays m x (λ e. ne.1 e.0) (l.live m x before), l.own m x before))
   ]
 
   -- another's handle has not ended, and was not made
   not-ended : (m : ℕ) (x : Handle) → IsOthers ts h m x → (m ≡ n) × Ends event answer x → ⊥
   not-ended m x o e = elim (c.ended x e.1) [
-    | inl has ↦ o.apart (subst (λ k. Has (seat_at h k) x) (sym e.0) has)
+    | inl has ↦ o.apart (subst (λ k. Has (handles_at h k) x) (sym e.0) has)
     | inr is ↦ o.own is
   ]
 
-  apart-here : (x : Handle) → IsOthers ts h n x → Has (seat_at h' n) x → ⊥
+  apart-here : (x : Handle) → IsOthers ts h n x → Has (handles_at h' n) x → ⊥
   apart-here x o has = elim (c.held x has) [
     | inl k ↦ o.apart k.0
     | inr new ↦ (new_handles_are_new limit ts n event x s.proper new).1 o.live
   ]
 
-  apart : (m : ℕ) (x : Handle) → IsOthers ts h m x → Has (seat_at h' m) x → ⊥
+  apart : (m : ℕ) (x : Handle) → IsOthers ts h m x → Has (handles_at h' m) x → ⊥
   apart m x o has = elim (eqb_tells m n) [
-    | inl e ↦ apart-here x (subst (λ k. IsOthers ts h k x) e.1 o) (subst (λ k. Has (seat_at h' k) x) e.1 has)
-    | inr ne ↦ o.apart (subst (λ seats. Has seats x) (c.elsewhere m ne.1) has)
+    | inl e ↦ apart-here x (subst (λ k. IsOthers ts h k x) e.1 o) (subst (λ k. Has (handles_at h' k) x) e.1 has)
+    | inr ne ↦ o.apart (subst (λ handles. Has handles x) (c.elsewhere m ne.1) has)
   ]
 
   event-keeps : Keeps h ts h' later
@@ -205,61 +205,64 @@ same-held h n event told ends = record {
   ended = λ x e. inr (ends x e);
 }
 
--- these seats are held
-module _ (h : Holding) (n : ℕ) (event : Event) (told : Told) (s : Seats TxId RxId) where
-  new-seats : ((x : Handle) → Has s x → (Has (seat_at h n) x × ((x ≡ hubs_sender → ⊥) → Ends event told x → ⊥)) ⊎ (new_handle told ≡ Some x)) →
-      ((x : Handle) → Ends event told x → Has (seat_at h n) x ⊎ (x ≡ hubs_sender)) → Changes h n event told (with_seats h n s)
-  new-seats held ended = record {
+-- these handles are held
+module _ (h : Holding) (n : ℕ) (event : Event) (told : Told) (s : Handles TxId RxId) where
+  new-handles : ((x : Handle) → Has s x → (Has (handles_at h n) x × ((x ≡ hubs_sender → ⊥) → Ends event told x → ⊥)) ⊎ (new_handle told ≡ Some x)) →
+      ((x : Handle) → Ends event told x → Has (handles_at h n) x ⊎ (x ≡ hubs_sender)) → Changes h n event told (with_handles h n s)
+  new-handles held ended = record {
     rising = rising-insert h n s;
-    elsewhere = λ m ne. seat-elsewhere h n m s ne;
-    held = λ x has. held x (subst (λ seats. Has seats x) (seat-here h n s) has);
+    elsewhere = λ m ne. own-elsewhere h n m s ne;
+    held = λ x has. held x (subst (λ handles. Has handles x) (own-here h n s) has);
     ended = ended;
   }
 
 module _ (h : Holding) (n : ℕ) where
   bind-changes : (told : Told) → Changes h n Binds told (kept Actions.Bind told n h)
-  bind-changes (Ok (NewTx t)) = new-seats h n Binds (Ok (NewTx t)) (record { sender = Some t; receiver = (seat_at h n).receiver }) held (λ x e. absurd e)
+  bind-changes (Ok (NewTx t)) = new-handles h n Binds (Ok (NewTx t)) (record { sender = Some t; receiver = (handles_at h n).receiver }) held (λ x e. absurd e)
     where
-      held : (x : Handle) → Has (record { sender = Some t; receiver = (seat_at h n).receiver }) x → (Has (seat_at h n) x × ((x ≡ hubs_sender → ⊥) → Ends Binds (Ok (NewTx t)) x → ⊥)) ⊎ (new_handle (Ok (NewTx t)) ≡ Some x)
+      held : (x : Handle) → Has (record { sender = Some t; receiver = (handles_at h n).receiver }) x → (Has (handles_at h n) x × ((x ≡ hubs_sender → ⊥) → Ends Binds (Ok (NewTx t)) x → ⊥)) ⊎ (new_handle (Ok (NewTx t)) ≡ Some x)
       held (Sender q) e = inr (ap (λ z. Some (Sender z)) (same_Some t q e))
       held (Receiver q) e = inl (e, λ own k. k)
   bind-changes (Ok (NewRx r)) = same-held h n Binds (Ok (NewRx r)) (λ x e. absurd e)
+  bind-changes (Ok events.Ended) = same-held h n Binds (Ok events.Ended) (λ x e. absurd e)
   bind-changes (Ok (events.Replied reply)) = same-held h n Binds (Ok (events.Replied reply)) (λ x e. absurd e)
   bind-changes (Err why) = same-held h n Binds (Err why) (λ x e. absurd e)
 
-  unbind-changes : (told : Told) (t : TxId) → (seat_at h n).sender ≡ Some t → Changes h n (DropsTx (Own t)) told (kept Actions.Unbind told n h)
-  unbind-changes (Ok outcome) t has = new-seats h n (DropsTx (Own t)) (Ok outcome) (record { sender = None; receiver = (seat_at h n).receiver }) held (λ x e. inl (subst (Has (seat_at h n)) (sym e) has))
+  unbind-changes : (told : Told) (t : TxId) → (handles_at h n).sender ≡ Some t → Changes h n (DropsTx (Own t)) told (kept Actions.Unbind told n h)
+  unbind-changes (Ok outcome) t has = new-handles h n (DropsTx (Own t)) (Ok outcome) (record { sender = None; receiver = (handles_at h n).receiver }) held (λ x e. inl (subst (Has (handles_at h n)) (sym e) has))
     where
-      held : (x : Handle) → Has (record { sender = None; receiver = (seat_at h n).receiver }) x → (Has (seat_at h n) x × ((x ≡ hubs_sender → ⊥) → Ends (DropsTx (Own t)) (Ok outcome) x → ⊥)) ⊎ (new_handle (Ok outcome) ≡ Some x)
+      held : (x : Handle) → Has (record { sender = None; receiver = (handles_at h n).receiver }) x → (Has (handles_at h n) x × ((x ≡ hubs_sender → ⊥) → Ends (DropsTx (Own t)) (Ok outcome) x → ⊥)) ⊎ (new_handle (Ok outcome) ≡ Some x)
       held (Sender q) e = absurd (none-some q e)
       held (Receiver q) e = inl (e, λ own k. let no : ⊥ = cc in no)
   unbind-changes (Err why) t has = same-held h n (DropsTx (Own t)) (Err why) (λ x e. absurd e)
 
   subscribe-changes : (told : Told) (start : Start) (by : By) → Changes h n (Subscribes start by) told (kept (Actions.Subscribe start) told n h)
-  subscribe-changes (Ok (NewRx r)) start by = new-seats h n (Subscribes start by) (Ok (NewRx r)) (record { sender = (seat_at h n).sender; receiver = Some r }) held (λ x e. absurd e)
+  subscribe-changes (Ok (NewRx r)) start by = new-handles h n (Subscribes start by) (Ok (NewRx r)) (record { sender = (handles_at h n).sender; receiver = Some r }) held (λ x e. absurd e)
     where
-      held : (x : Handle) → Has (record { sender = (seat_at h n).sender; receiver = Some r }) x → (Has (seat_at h n) x × ((x ≡ hubs_sender → ⊥) → Ends (Subscribes start by) (Ok (NewRx r)) x → ⊥)) ⊎ (new_handle (Ok (NewRx r)) ≡ Some x)
+      held : (x : Handle) → Has (record { sender = (handles_at h n).sender; receiver = Some r }) x → (Has (handles_at h n) x × ((x ≡ hubs_sender → ⊥) → Ends (Subscribes start by) (Ok (NewRx r)) x → ⊥)) ⊎ (new_handle (Ok (NewRx r)) ≡ Some x)
       held (Sender q) e = inl (e, λ own k. k)
       held (Receiver q) e = inr (ap (λ z. Some (Receiver z)) (same_Some r q e))
   subscribe-changes (Ok (NewTx t)) start by = same-held h n (Subscribes start by) (Ok (NewTx t)) (λ x e. absurd e)
+  subscribe-changes (Ok events.Ended) start by = same-held h n (Subscribes start by) (Ok events.Ended) (λ x e. absurd e)
   subscribe-changes (Ok (events.Replied reply)) start by = same-held h n (Subscribes start by) (Ok (events.Replied reply)) (λ x e. absurd e)
   subscribe-changes (Err why) start by = same-held h n (Subscribes start by) (Err why) (λ x e. absurd e)
 
-  unsubscribe-changes : (told : Told) (r : RxId) → (seat_at h n).receiver ≡ Some r → Changes h n (DropsRx r) told (kept Actions.Unsubscribe told n h)
-  unsubscribe-changes (Ok outcome) r has = new-seats h n (DropsRx r) (Ok outcome) (record { sender = (seat_at h n).sender; receiver = None }) held (λ x e. inl (subst (Has (seat_at h n)) (sym e) has))
+  unsubscribe-changes : (told : Told) (r : RxId) → (handles_at h n).receiver ≡ Some r → Changes h n (DropsRx r) told (kept Actions.Unsubscribe told n h)
+  unsubscribe-changes (Ok outcome) r has = new-handles h n (DropsRx r) (Ok outcome) (record { sender = (handles_at h n).sender; receiver = None }) held (λ x e. inl (subst (Has (handles_at h n)) (sym e) has))
     where
-      held : (x : Handle) → Has (record { sender = (seat_at h n).sender; receiver = None }) x → (Has (seat_at h n) x × ((x ≡ hubs_sender → ⊥) → Ends (DropsRx r) (Ok outcome) x → ⊥)) ⊎ (new_handle (Ok outcome) ≡ Some x)
+      held : (x : Handle) → Has (record { sender = (handles_at h n).sender; receiver = None }) x → (Has (handles_at h n) x × ((x ≡ hubs_sender → ⊥) → Ends (DropsRx r) (Ok outcome) x → ⊥)) ⊎ (new_handle (Ok outcome) ≡ Some x)
       held (Sender q) e = inl (e, λ own k. let no : ⊥ = cc in no)
       held (Receiver q) e = absurd (none-some q e)
   unsubscribe-changes (Err why) r has = same-held h n (DropsRx r) (Err why) (λ x e. absurd e)
 
-  resubscribe-changes : (told : Told) (r : RxId) → (seat_at h n).receiver ≡ Some r → Changes h n (Resubscribes r) told (kept Actions.Resubscribe told n h)
-  resubscribe-changes (Ok (NewRx new)) r has = new-seats h n (Resubscribes r) (Ok (NewRx new)) (record { sender = (seat_at h n).sender; receiver = Some new }) held (λ x e. inl (subst (Has (seat_at h n)) (sym e) has))
+  resubscribe-changes : (told : Told) (r : RxId) → (handles_at h n).receiver ≡ Some r → Changes h n (Resubscribes r) told (kept Actions.Resubscribe told n h)
+  resubscribe-changes (Ok (NewRx new)) r has = new-handles h n (Resubscribes r) (Ok (NewRx new)) (record { sender = (handles_at h n).sender; receiver = Some new }) held (λ x e. inl (subst (Has (handles_at h n)) (sym e) has))
     where
-      held : (x : Handle) → Has (record { sender = (seat_at h n).sender; receiver = Some new }) x → (Has (seat_at h n) x × ((x ≡ hubs_sender → ⊥) → Ends (Resubscribes r) (Ok (NewRx new)) x → ⊥)) ⊎ (new_handle (Ok (NewRx new)) ≡ Some x)
+      held : (x : Handle) → Has (record { sender = (handles_at h n).sender; receiver = Some new }) x → (Has (handles_at h n) x × ((x ≡ hubs_sender → ⊥) → Ends (Resubscribes r) (Ok (NewRx new)) x → ⊥)) ⊎ (new_handle (Ok (NewRx new)) ≡ Some x)
       held (Sender q) e = inl (e, λ own k. let no : ⊥ = cc in no)
       held (Receiver q) e = inr (ap (λ z. Some (Receiver z)) (same_Some new q e))
   resubscribe-changes (Ok (NewTx t)) r has = same-held h n (Resubscribes r) (Ok (NewTx t)) (λ x e. absurd e)
+  resubscribe-changes (Ok events.Ended) r has = same-held h n (Resubscribes r) (Ok events.Ended) (λ x e. absurd e)
   resubscribe-changes (Ok (events.Replied reply)) r has = same-held h n (Resubscribes r) (Ok (events.Replied reply)) (λ x e. absurd e)
   resubscribe-changes (Err why) r has = same-held h n (Resubscribes r) (Err why) (λ x e. absurd e)
 
@@ -279,16 +282,16 @@ module _ (h : Holding) (n : ℕ) where
     always-changes : (e : Event) → Changes h n e told h' → always e ≡ Ok event → Changes h n event told h'
     always-changes e c is = subst (λ e. Changes h n e told h') (let same : e ≡ event = cc in same) c
 
-  action-changes : (action : Action) (event : Event) (told : Told) → judged action (seat_at h n) ≡ Ok event → Changes h n event told (kept action told n h)
-  action-changes Actions.Bind event told is = unless-changes told event (kept Actions.Bind told n h) (seat_at h n).sender Binds (bind-changes told) is
-  action-changes Actions.Unbind event told is = own-changes told event (kept Actions.Unbind told n h) (seat_at h n).sender (λ t. DropsTx (Own t)) (unbind-changes told) is
+  action-changes : (action : Action) (event : Event) (told : Told) → judged action (handles_at h n) ≡ Ok event → Changes h n event told (kept action told n h)
+  action-changes Actions.Bind event told is = unless-changes told event (kept Actions.Bind told n h) (handles_at h n).sender Binds (bind-changes told) is
+  action-changes Actions.Unbind event told is = own-changes told event (kept Actions.Unbind told n h) (handles_at h n).sender (λ t. DropsTx (Own t)) (unbind-changes told) is
   action-changes (Actions.Subscribe start) event told is =
-      unless-changes told event (kept (Actions.Subscribe start) told n h) (seat_at h n).receiver (Subscribes start (any_sender (seat_at h n).sender)) (subscribe-changes told start (any_sender (seat_at h n).sender)) is
-  action-changes Actions.Unsubscribe event told is = own-changes told event (kept Actions.Unsubscribe told n h) (seat_at h n).receiver (λ r. DropsRx r) (unsubscribe-changes told) is
-  action-changes Actions.Resubscribe event told is = own-changes told event (kept Actions.Resubscribe told n h) (seat_at h n).receiver (λ r. Resubscribes r) (resubscribe-changes told) is
-  action-changes (Actions.BySender verb) event told is = own-changes told event h (seat_at h n).sender (λ t. Sends t verb) (λ t e. same-held h n (Sends t verb) told (λ x k. absurd k)) is
-  action-changes (Actions.Ask question) event told is = always-changes told event h (Asks (any_sender (seat_at h n).sender) question) (same-held h n (Asks (any_sender (seat_at h n).sender) question) told (λ x k. absurd k)) is
-  action-changes (Actions.ByReceiver verb) event told is = own-changes told event h (seat_at h n).receiver (λ r. Receives r verb) (λ r e. same-held h n (Receives r verb) told (λ x k. absurd k)) is
+      unless-changes told event (kept (Actions.Subscribe start) told n h) (handles_at h n).receiver (Subscribes start (any_sender (handles_at h n).sender)) (subscribe-changes told start (any_sender (handles_at h n).sender)) is
+  action-changes Actions.Unsubscribe event told is = own-changes told event (kept Actions.Unsubscribe told n h) (handles_at h n).receiver (λ r. DropsRx r) (unsubscribe-changes told) is
+  action-changes Actions.Resubscribe event told is = own-changes told event (kept Actions.Resubscribe told n h) (handles_at h n).receiver (λ r. Resubscribes r) (resubscribe-changes told) is
+  action-changes (Actions.BySender verb) event told is = own-changes told event h (handles_at h n).sender (λ t. Sends t verb) (λ t e. same-held h n (Sends t verb) told (λ x k. absurd k)) is
+  action-changes (Actions.Ask question) event told is = always-changes told event h (Asks (any_sender (handles_at h n).sender) question) (same-held h n (Asks (any_sender (handles_at h n).sender) question) told (λ x k. absurd k)) is
+  action-changes (Actions.ByReceiver verb) event told is = own-changes told event h (handles_at h n).receiver (λ r. Receives r verb) (λ r e. same-held h n (Receives r verb) told (λ x k. absurd k)) is
   action-changes Actions.End event told is = always-changes told event h (DropsTx Hub) (end-changes told) is
 
 -- scripts
@@ -301,7 +304,7 @@ abbrev RunKeepsTo : (limit : ℕ) → EndlessTopics → Holding → EndlessTopic
 RunKeepsTo limit ts h later s = Keeps h ts (run (endless limit) later s).1 (run (endless limit) later s).2
 
 module _ (limit : ℕ) (ts : EndlessTopics) (h : Holding) (s : AreSound ts) (l : Lives ts h) where
-  event-run : (action : Action) (n : ℕ) (j : Result Event Code) → judged action (seat_at h n) ≡ j → RunKeeps limit ts h (by_event action n h j)
+  event-run : (action : Action) (n : ℕ) (j : Result Event Code) → judged action (handles_at h n) ≡ j → RunKeeps limit ts h (by_event action n h j)
   event-run action n (Err code) is = nothing-changed ts h s l
   event-run action n (Ok event) is =
       let told : Told = (say (endless limit) ts (On n event)).0.0 in
@@ -316,7 +319,7 @@ module _ (limit : ℕ) (ts : EndlessTopics) (h : Holding) (s : AreSound ts) (l :
   topic-run action None = nothing-changed ts h s l
   topic-run action (Some t) =
       if-run (is_for t.kind action) (acting action t.topic.0 h) (Say (Refused Codes.WrongKind) h)
-      (event-run action t.topic.0 (judged action (seat_at h t.topic.0)) refl) (nothing-changed ts h s l)
+      (event-run action t.topic.0 (judged action (handles_at h t.topic.0)) refl) (nothing-changed ts h s l)
 
   shown-run : (n : ℕ) (said : Result ChannelSegment NoEvent) (after : EndlessTopics) → Keeps h ts h after → RunKeepsTo limit ts h after (shown n h said)
   shown-run n (Ok segment) after k = k
@@ -362,26 +365,26 @@ module _ (limit : ℕ) (Q : ℕ → Handle → Type 0) (n : ℕ) (next : Script)
 
 -- not held
 abbrev IsNotHeld : Holding → ℕ → Handle → Type 0
-IsNotHeld h m x = Has (seat_at h m) x → ⊥
+IsNotHeld h m x = Has (handles_at h m) x → ⊥
 
-seat-first : (n : ℕ) (s : Seats TxId RxId) (h : Holding) → seat_at ((n, s) ∷ h) n ≡ s
-seat-first n s h = ap (λ b. unwrap_or (cond b (Some s) (seats_of h n)) nothing) (is_at_self n)
+own-first : (n : ℕ) (s : Handles TxId RxId) (h : Holding) → handles_at ((n, s) ∷ h) n ≡ s
+own-first n s h = ap (λ b. unwrap_or (cond b (Some s) (handles_of h n)) nothing) (is_at_self n)
 
 -- what the first entry's actor does not hold, the rest has not either
-not-in-rest : (n : ℕ) (s : Seats TxId RxId) (h : Holding) → AllByRecursion (λ k. n < k) (keys_of h) → (m : ℕ) (x : Handle) → IsNotHeld ((n, s) ∷ h) m x → IsNotHeld h m x
+not-in-rest : (n : ℕ) (s : Handles TxId RxId) (h : Holding) → AllByRecursion (λ k. n < k) (keys_of h) → (m : ℕ) (x : Handle) → IsNotHeld ((n, s) ∷ h) m x → IsNotHeld h m x
 not-in-rest n s h above m x not has = elim (eqb_tells m n) [
-  | inl e ↦ has-nothing x (subst (λ seats. Has seats x) (ap (seat_at h) e.1 ∙ ap (λ o. unwrap_or o nothing) (lookup-below h n above)) has)
-  | inr ne ↦ not (subst (λ seats. Has seats x) (ap (λ b. unwrap_or (cond b (Some s) (seats_of h m)) nothing) (sym (not_at m n ne.1))) has)
+  | inl e ↦ has-nothing x (subst (λ handles. Has handles x) (ap (handles_at h) e.1 ∙ ap (λ o. unwrap_or o nothing) (lookup-below h n above)) has)
+  | inr ne ↦ not (subst (λ handles. Has handles x) (ap (λ b. unwrap_or (cond b (Some s) (handles_of h m)) nothing) (sym (not_at m n ne.1))) has)
 ]
 
 all-leaves : (limit : ℕ) (h : Holding) → IsRising (keys_of h) → Leaves limit (IsNotHeld h) (spend_all h)
 all-leaves limit [] r = λ ts s. (s, λ m x q live. live, refl)
-all-leaves limit ((n, seats) ∷ h) r =
-    sender-leaves limit (IsNotHeld ((n, seats) ∷ h)) n (spend_receiver n seats.receiver (spend_all h))
-    (receiver-leaves limit (IsNotHeld ((n, seats) ∷ h)) n (spend_all h)
-    (λ ts s. let later = all-leaves limit h r.1 ts s in (later.0, λ m x q live. later.1 m x (not-in-rest n seats h r.0 m x q) live, later.2))
-    seats.receiver (λ q e not. not (ap (λ s. s.receiver) (seat-first n seats h) ∙ e)))
-    seats.sender (λ t e not. not (ap (λ s. s.sender) (seat-first n seats h) ∙ e))
+all-leaves limit ((n, handles) ∷ h) r =
+    sender-leaves limit (IsNotHeld ((n, handles) ∷ h)) n (spend_receiver n handles.receiver (spend_all h))
+    (receiver-leaves limit (IsNotHeld ((n, handles) ∷ h)) n (spend_all h)
+    (λ ts s. let later = all-leaves limit h r.1 ts s in (later.0, λ m x q live. later.1 m x (not-in-rest n handles h r.0 m x q) live, later.2))
+    handles.receiver (λ q e not. not (ap (λ s. s.receiver) (own-first n handles h) ∙ e)))
+    handles.sender (λ t e not. not (ap (λ s. s.sender) (own-first n handles h) ∙ e))
 
 pub lives-nothing : (ts : EndlessTopics) (h : Holding) → h ≡ [] → Lives ts h
 lives-nothing ts h e = subst (Lives ts) (sym e) (record { rising = tt; live = λ n x has. absurd (has-nothing x has); own = λ n x has. absurd (has-nothing x has) })
@@ -395,7 +398,7 @@ quit-run limit ts h s l =
       others = λ n x o. record {
         live = later.1 n x o.apart o.live;
         own = o.own;
-        apart = λ has. has-nothing x (subst (λ held. Has (seat_at held n) x) later.2 has);
+        apart = λ has. has-nothing x (subst (λ held. Has (handles_at held n) x) later.2 has);
       };
     }
 

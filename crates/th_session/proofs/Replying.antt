@@ -9,102 +9,74 @@ use Rattle.th_model.specs.declared.broadcast.BReply.TheVariants as BReplies
 use Rattle.th_model.specs.declared.watch.WCall.{WCall}
 use Rattle.th_model.specs.declared.watch.WReply.{WReply}
 use Rattle.th_model.specs.declared.watch.WReply.TheVariants as WReplies
+use Rattle.th_lines.specs.declared.reply.Reply.{Reply}
 use Rattle.th_registry.specs.declared.channel.Channel.{Channel}
 use Rattle.th_registry.specs.declared.channel.Channel.TheVariants.{Broadcast, Watch}
 use Rattle.th_registry.specs.declared.outcome.NoEvent.{NoEvent}
 use Rattle.th_registry.specs.Calls.{Bytes}
-use Rattle.th_registry.specs.Events.{Event, Binds, Subscribes, Sends, Asks, Receives, Resubscribes, DropsTx, DropsRx, broadcast_call, broadcast_made_tx, broadcast_made_rx, broadcast_outcome, is_end, watch_call, watch_made_tx, watch_made_rx, watch_outcome}
+use Rattle.th_registry.specs.Events.{Event, Outcome, Binds, Subscribes, Sends, Asks, Receives, Resubscribes, DropsTx, DropsRx, broadcast_call, broadcast_made_tx, broadcast_made_rx, broadcast_outcome, ended_or, is_broadcast_done, is_end, is_watch_done, watch_call, watch_made_tx, watch_made_rx, watch_outcome}
 use Rattle.th_registry.specs.Hub.{Machines, Noted, On, Topics, broadcast_event, came, channel_event, channel_receipt, on_channel, receipt_on, receipted, say, watch_event}
 use Rattle.th_session.specs.Script.{answered, reply_of}
 use Rattle.th_session.specs.Table.{replied, replied_broadcast, replied_watch}
 
--- whatever handle an event was to make
+-- what is told, whatever the event was to come to: a sender, a receiver, or the end of a handle
+abbrev AreTold : Outcome → Outcome → Outcome → Reply → Type 0
+AreTold sender receiver end reply = (replied (Ok sender) ≡ reply) × (replied (Ok receiver) ≡ reply) × (replied (Ok end) ≡ reply)
 
-made-tx : (r : BReply Bytes) → replied (Ok (broadcast_made_tx r)) ≡ replied_broadcast r
-made-tx (BReplies.Sent n) = refl
-made-tx (BReplies.NoReceivers v) = refl
-made-tx (BReplies.Exhausted v) = refl
-made-tx (BReplies.Value v) = refl
-made-tx BReplies.Empty = refl
-made-tx BReplies.Closed = refl
-made-tx (BReplies.Lagged n) = refl
-made-tx (BReplies.NewRx r) = refl
-made-tx (BReplies.NewTx t) = refl
-made-tx (BReplies.Count n) = refl
-made-tx BReplies.Done = refl
-made-tx BReplies.TooMany = refl
-made-tx (BReplies.NoHandle v) = refl
+made : (r : BReply Bytes) →
+    AreTold (broadcast_made_tx r) (broadcast_made_rx r) (ended_or (is_broadcast_done r) (Broadcast r)) (replied_broadcast r)
+made (BReplies.Sent n) = (refl, refl, refl)
+made (BReplies.NoReceivers v) = (refl, refl, refl)
+made (BReplies.Exhausted v) = (refl, refl, refl)
+made (BReplies.Value v) = (refl, refl, refl)
+made BReplies.Empty = (refl, refl, refl)
+made BReplies.Closed = (refl, refl, refl)
+made (BReplies.Lagged n) = (refl, refl, refl)
+made (BReplies.NewRx r) = (refl, refl, refl)
+made (BReplies.NewTx t) = (refl, refl, refl)
+made (BReplies.Count n) = (refl, refl, refl)
+made BReplies.Done = (refl, refl, refl)
+made BReplies.TooMany = (refl, refl, refl)
+made (BReplies.NoHandle v) = (refl, refl, refl)
 
-made-rx : (r : BReply Bytes) → replied (Ok (broadcast_made_rx r)) ≡ replied_broadcast r
-made-rx (BReplies.Sent n) = refl
-made-rx (BReplies.NoReceivers v) = refl
-made-rx (BReplies.Exhausted v) = refl
-made-rx (BReplies.Value v) = refl
-made-rx BReplies.Empty = refl
-made-rx BReplies.Closed = refl
-made-rx (BReplies.Lagged n) = refl
-made-rx (BReplies.NewRx r) = refl
-made-rx (BReplies.NewTx t) = refl
-made-rx (BReplies.Count n) = refl
-made-rx BReplies.Done = refl
-made-rx BReplies.TooMany = refl
-made-rx (BReplies.NoHandle v) = refl
-
-watch_made-tx : (r : WReply Bytes) → replied (Ok (watch_made_tx r)) ≡ replied_watch r
-watch_made-tx WReplies.Done = refl
-watch_made-tx (WReplies.NoReceivers v) = refl
-watch_made-tx (WReplies.Exhausted v) = refl
-watch_made-tx (WReplies.Was v) = refl
-watch_made-tx (WReplies.Modified b) = refl
-watch_made-tx (WReplies.Shown v b) = refl
-watch_made-tx (WReplies.Changed b) = refl
-watch_made-tx WReplies.Marked = refl
-watch_made-tx WReplies.NotYet = refl
-watch_made-tx WReplies.Closed = refl
-watch_made-tx (WReplies.Gone b) = refl
-watch_made-tx (WReplies.NewRx r) = refl
-watch_made-tx (WReplies.NewTx t) = refl
-watch_made-tx (WReplies.Count n) = refl
-watch_made-tx WReplies.TooMany = refl
-watch_made-tx (WReplies.NoHandle v) = refl
-
-watch_made-rx : (r : WReply Bytes) → replied (Ok (watch_made_rx r)) ≡ replied_watch r
-watch_made-rx WReplies.Done = refl
-watch_made-rx (WReplies.NoReceivers v) = refl
-watch_made-rx (WReplies.Exhausted v) = refl
-watch_made-rx (WReplies.Was v) = refl
-watch_made-rx (WReplies.Modified b) = refl
-watch_made-rx (WReplies.Shown v b) = refl
-watch_made-rx (WReplies.Changed b) = refl
-watch_made-rx WReplies.Marked = refl
-watch_made-rx WReplies.NotYet = refl
-watch_made-rx WReplies.Closed = refl
-watch_made-rx (WReplies.Gone b) = refl
-watch_made-rx (WReplies.NewRx r) = refl
-watch_made-rx (WReplies.NewTx t) = refl
-watch_made-rx (WReplies.Count n) = refl
-watch_made-rx WReplies.TooMany = refl
-watch_made-rx (WReplies.NoHandle v) = refl
+watch-made : (r : WReply Bytes) →
+    AreTold (watch_made_tx r) (watch_made_rx r) (ended_or (is_watch_done r) (Watch r)) (replied_watch r)
+watch-made WReplies.Done = (refl, refl, refl)
+watch-made (WReplies.NoReceivers v) = (refl, refl, refl)
+watch-made (WReplies.Exhausted v) = (refl, refl, refl)
+watch-made (WReplies.Was v) = (refl, refl, refl)
+watch-made (WReplies.Modified b) = (refl, refl, refl)
+watch-made (WReplies.Shown v b) = (refl, refl, refl)
+watch-made (WReplies.Changed b) = (refl, refl, refl)
+watch-made WReplies.Marked = (refl, refl, refl)
+watch-made WReplies.NotYet = (refl, refl, refl)
+watch-made WReplies.Closed = (refl, refl, refl)
+watch-made (WReplies.Gone b) = (refl, refl, refl)
+watch-made (WReplies.NewRx r) = (refl, refl, refl)
+watch-made (WReplies.NewTx t) = (refl, refl, refl)
+watch-made (WReplies.Count n) = (refl, refl, refl)
+watch-made WReplies.TooMany = (refl, refl, refl)
+watch-made (WReplies.NoHandle v) = (refl, refl, refl)
 
 broadcast-outcome : (event : Event) (reply : BReply Bytes) → replied (Ok (broadcast_outcome event reply)) ≡ replied_broadcast reply
-broadcast-outcome Binds reply = made-tx reply
-broadcast-outcome (Subscribes start by) reply = made-rx reply
+broadcast-outcome Binds reply = (made reply).0
+broadcast-outcome (Subscribes start by) reply = (made reply).1
 broadcast-outcome (Sends t verb) reply = refl
 broadcast-outcome (Asks by question) reply = refl
 broadcast-outcome (Receives r verb) reply = refl
-broadcast-outcome (Resubscribes r) reply = made-rx reply
-broadcast-outcome (DropsTx by) reply = refl
-broadcast-outcome (DropsRx r) reply = refl
+broadcast-outcome (Resubscribes r) reply = (made reply).1
+broadcast-outcome (DropsTx by) reply = (made reply).2
+broadcast-outcome (DropsRx r) reply = (made reply).2
 
 watch-outcome : (event : Event) (reply : WReply Bytes) → replied (Ok (watch_outcome event reply)) ≡ replied_watch reply
-watch-outcome Binds reply = watch_made-tx reply
-watch-outcome (Subscribes start by) reply = watch_made-rx reply
+watch-outcome Binds reply = (watch-made reply).0
+watch-outcome (Subscribes start by) reply = (watch-made reply).1
 watch-outcome (Sends t verb) reply = refl
 watch-outcome (Asks by question) reply = refl
 watch-outcome (Receives r verb) reply = refl
 watch-outcome (Resubscribes r) reply = refl
-watch-outcome (DropsTx by) reply = refl
-watch-outcome (DropsRx r) reply = refl
+watch-outcome (DropsTx by) reply = (watch-made reply).2
+watch-outcome (DropsRx r) reply = (watch-made reply).2
 
 -- of what is said of an event, the reply that its answer tells
 abbrev TellsSame : ℕ → Noted → Type 0

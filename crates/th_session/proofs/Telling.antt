@@ -14,7 +14,7 @@ use Rattle.th_registry.specs.Events.{Event}
 use Rattle.th_registry.specs.History.{ChannelSegment}
 use Rattle.th_registry.specs.Receipts.{ChannelReceipt}
 use Rattle.th_registry.specs.Hub.{Query, Find, Noted, On, Said}
-use Rattle.th_session.specs.Held.{Holding, seat_at}
+use Rattle.th_session.specs.Held.{Holding, handles_at}
 use Rattle.th_session.specs.Kept.{with_receipt, with_segment}
 use Rattle.th_session.specs.Script.{Answer, Replied, Told, Traced, Script, Ask, Give, Room, Say, answered, at_topic, acting, by_event, kept, shown, traced, with_room, Plays}
 use Rattle.th_session.specs.Table.{is_for, judged}
@@ -65,7 +65,7 @@ module _ {D : Type 0} (says : D → (q : Query) → Said q → D → Type 0) (an
   topic-no action h None old p = ap is_trace p.0
   topic-no action h (Some t) old p =
       if-no (is_for t.kind action) (acting action t.topic.0 h) (Say (Refused Codes.WrongKind) h)
-      (event-no action t.topic.0 h (judged action (seat_at h t.topic.0))) (λ old p. ap is_trace p.0) old p
+      (event-no action t.topic.0 h (judged action (handles_at h t.topic.0))) (λ old p. ap is_trace p.0) old p
 
   -- so the segments that are kept stay the same
   pub no-segment : (action : Action) (h : Holding) (name : Bytes) (old : D) (segments : List (TopicId × ChannelSegment)) →

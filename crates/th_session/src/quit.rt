@@ -4,7 +4,7 @@ ghost use Rattle.std.specs.Option.{option_map};
 ghost use Rattle.th_session.specs.Held.{Holding, held, numbers};
 ghost use Rattle.th_session.specs.Script.{Answer, Plays, Replied, Script, spend_all, spend_receiver, spend_sender};
 
-use crate::seats::Seats;
+use crate::handles::Handles;
 use std::collections::BTreeMap;
 use th_lines::Reply;
 use th_registry::{Desk, TopicId};
@@ -34,24 +34,24 @@ fn leave_receiver<D: Desk>(desk: &mut D, topic: TopicId, receiver: Option<D::Rx>
 }
 
 // The last events of the handles on one topic, the sender's first.
-fn leave<D: Desk>(desk: &mut D, topic: TopicId, seats: Seats<D::Tx, D::Rx>)
+fn leave<D: Desk>(desk: &mut D, topic: TopicId, handles: Handles<D::Tx, D::Rx>)
     ensures { (next : Script) (answer : Answer) (after : Holding) (end : D) →
-        let s = numbers D.tx D.rx seats in
+        let s = numbers D.tx D.rx handles in
         let both = spend_sender topic.0 s.sender (spend_receiver topic.0 s.receiver next) in
         Plays D.says next desk.new answer after end → Plays D.says both desk.old answer after end }
 {
-    let Seats { sender, receiver } = seats;
+    let Handles { sender, receiver } = handles;
     leave_sender(desk, topic, sender);
     leave_receiver(desk, topic, receiver);
 }
 
 // Spends each handle, topics in order of opening, whatever is said of it.
-pub(crate) fn quit<D: Desk>(seats: &mut BTreeMap<u64, Seats<D::Tx, D::Rx>>, desk: &mut D)
-    ensures spent { Plays D.says (spend_all (held D.tx D.rx seats.old.entries)) desk.old
+pub(crate) fn quit<D: Desk>(handles: &mut BTreeMap<u64, Handles<D::Tx, D::Rx>>, desk: &mut D)
+    ensures spent { Plays D.says (spend_all (held D.tx D.rx handles.old.entries)) desk.old
         (Replied Reply.Bye) [] desk.new }
-    ensures none { seats.new.entries ≡ [] }
+    ensures none { handles.new.entries ≡ [] }
 {
-    while let Some((topic, both)) = seats.pop_first() {
+    while let Some((topic, both)) = handles.pop_first() {
         leave(desk, TopicId(topic), both);
     }
 }

@@ -13,13 +13,10 @@ use std::thread::sleep;
 use std::time::{Clock, Duration};
 use th_lines::{Action, Command, Counted, Intake, Reply, WriteBuffer, WriteFailed};
 use th_model::ReceiverVerb;
-use th_registry::Desk;
+use th_registry::{Desk, MOST_READY};
 
 /// How often a gate is asked for one line.
 const MOST_ASKS: u32 = 1000;
-
-/// Of how many lines that are the same the desk is asked at once, beside the first: so many events it makes under one lock.
-const MOST_AHEAD: usize = 63;
 
 /// How long a session sleeps at a gate before it asks again, in milliseconds.
 const PAUSE: u64 = 10;
@@ -140,7 +137,7 @@ impl<'a, C: Clock, G: Gate> Replies<'a, C, G> {
     // be carried out before anything else. So many lines were answered.
     fn same_ahead(&self, intake: &Intake, answered: u64) -> usize {
         let allowed = self.limit.saturating_sub(answered).saturating_sub(1);
-        let most = MOST_AHEAD.min(allowed as usize);
+        let most = (MOST_READY - 1).min(allowed as usize);
         let same = intake.repeats(most);
         let_through(self.gate, self.session, answered, same)
     }

@@ -1,9 +1,9 @@
 //! A session's run: lines are read, carried out one by one, and answered.
 ghost use Rattle.std.specs.Prelude.{◌≡◌, [], IfOk, true};
+ghost use Rattle.th_lines.specs.Feeding as feeding;
 ghost use Rattle.th_lines.specs.Intake.{line_given};
 ghost use Rattle.th_lines.specs.Output.{output};
-ghost use Rattle.th_lines.specs.Standing.{FlushesOn};
-ghost use Rattle.th_session.specs.Run.{AnswersInTime, FillsOn, Finishes, Goes, GoesNext, Halted, Ran, ReadsOn, Served, Serves, beginning, is_whole, stands};
+ghost use Rattle.th_session.specs.Run.{AnswersInTime, Ran, Served, Serves, beginning, fault_by, is_whole};
 
 use crate::answer::refused;
 use crate::fault::SessionFault;
@@ -15,37 +15,21 @@ use std::alloc::{AllocError, Global};
 use std::io::{Read, Write};
 use std::marker::Model;
 use std::time::Clock;
-use th_lines::{Code, Counted, Intake, Moved, Reply, WriteBuffer, WriteFailed, read_command};
+use th_lines::{
+    Code, Counted, Fed, Feeder, Intake, MOST_LINES, MOST_READS, Reply, TakesLines, WriteBuffer,
+    WriteFailed, read_command,
+};
 use th_registry::Desk;
-
-/// The most lines of a run.
-const MOST_LINES: u64 = 1_000_000;
-
-/// The most reads of a run.
-const MOST_READS: u64 = 1 << 32;
-
-/// Whether a run goes on.
-#[derive(Clone, Copy, Debug, Drop, PartialEq, Eq)]
-pub(crate) enum After {
-    /// All lines that came whole are answered.
-    More,
-    /// The last line was answered `BYE`, or all lines are answered and the input has ended.
-    Over,
-}
 
 /// How far a session's run has got.
 #[derive(Drop)]
 struct Run<'a, D: Desk, C, G> {
     // The actor. Each line that is answered changes it.
     session: Session<D>,
-    // What was read and is not answered yet.
-    intake: Intake,
     // The replies that are not written yet.
     replies: Replies<'a, C, G>,
-    // How many lines were answered: one more with each.
-    answered: u64,
-    // How many lines may be answered. It never changes.
-    limit: u64,
+    // What is kept of the answers. It never changes.
+    keeping: Keeping,
 }
 
 impl<'a, D: Desk, C, G> Model for Run<'a, D, C, G> {
@@ -55,10 +39,8 @@ impl<'a, D: Desk, C, G> Model for Run<'a, D, C, G> {
 
     ghost view = { λ r. record {
       kept = r.session;
-      came = r.intake.came;
       waiting = r.replies;
-      answered = r.answered;
-      limit = r.limit;
+      keeping = r.keeping;
     } };
 }
 
@@ -101,7 +83,7 @@ fn answer_in_time<C: Clock, G: Gate, D: Desk, W: Write>(
 }
 
 // Carries out the next line once the gate lets it through, puts its reply behind those that wait, and lets go of what is
-// not kept. Answers whether the reply is `BYE`. So many lines were answered.
+// not kept. The run is to end without a fault where the reply is `BYE`. So many lines were answered.
 #[inline(always)]
 fn serve<C: Clock, G: Gate, D: Desk, W: Write>(
     session: &mut Session<D>,
@@ -113,15 +95,14 @@ fn serve<C: Clock, G: Gate, D: Desk, W: Write>(
     answered: u64,
     line: Option<&[u8]>,
     intake: &Intake,
-) -> Result<bool, SessionFault>
+) -> Result<(), Option<SessionFault>>
     ensures { Serves keeping D.says (line_given line.entry)
-        (session.old, desk.old) (session.new, desk.new)
-        (output W.contents writer.old replies.old) (output W.contents writer.new replies.new)
-        result }
+        ((session.old, desk.old), output W.contents writer.old replies.old)
+        ((session.new, desk.new), output W.contents writer.new replies.new) result }
 {
     match replies.enter(desk, writer, answered) {
         Ok(()) => {}
-        Err(e) => return Err(e),
+        Err(e) => return Err(Some(e)),
     }
     match answer_in_time(
         session, replies, alloc, desk, writer, answered, line, intake,
@@ -131,33 +112,81 @@ fn serve<C: Clock, G: Gate, D: Desk, W: Write>(
             let put = replies.put(session, answer, desk, writer);
             session.let_go(keeping);
             match put {
-                Ok(()) => Ok(quits),
-                Err(_) => Err(SessionFault::Write),
+                Ok(()) if quits => Err(None),
+                Ok(()) => Ok(()),
+                Err(_) => Err(Some(SessionFault::Write)),
             }
         }
-        Err(_) => Err(SessionFault::Write),
+        Err(_) => Err(Some(SessionFault::Write)),
+    }
+}
+
+impl<'a, D: Desk, C: Clock, G: Gate, W: Write> TakesLines<D, Counted<W>> for Run<'a, D, C, G> {
+    ghost use Rattle.th_session.specs.Run.{IsOver, Took};
+
+    type Stop = Option<SessionFault>;
+
+    ghost took = { Took D.says W.contents };
+
+    ghost halts = { IsOver D.says W.contents };
+
+    ghost is_settled = { λ p. Unit {0} };
+
+    // Wakes who waits, writes all that waits, and tells the gate.
+    fn settle(
+        &mut self,
+        desk: &mut D,
+        writer: &mut Counted<W>,
+        taken: u64,
+    ) -> Result<(), Option<SessionFault>> {
+        match self.replies.settle(desk, writer, taken) {
+            Ok(()) => Ok(()),
+            Err(_) => Err(Some(SessionFault::Write)),
+        }
+    }
+
+    // Answers a line.
+    #[inline(always)]
+    fn take(
+        &mut self,
+        alloc: Global,
+        desk: &mut D,
+        writer: &mut Counted<W>,
+        taken: u64,
+        line: Option<&[u8]>,
+        intake: &Intake,
+    ) -> Result<(), Option<SessionFault>> {
+        serve(
+            &mut self.session,
+            &mut self.replies,
+            alloc,
+            self.keeping,
+            desk,
+            writer,
+            taken,
+            line,
+            intake,
+        )
     }
 }
 
 impl<'a, D: Desk, C: Clock, G: Gate> Run<'a, D, C, G> {
-    // With an actor that has nothing, and nothing read yet. It makes all buffers.
+    // With an actor that has nothing. It makes the buffer of the replies.
     fn new(
         clock: &'a C,
         alloc: Global,
         gate: &'a G,
         number: u64,
         limit: u64,
+        keeping: Keeping,
     ) -> Result<Run<'a, D, C, G>, AllocError>
-        ensures { IfOk result (λ r. r ≡ beginning limit) }
+        ensures { IfOk result (λ r. r ≡ beginning keeping) }
     {
-        let intake = Intake::new(alloc)?;
         let waiting = WriteBuffer::new(alloc)?;
         Ok(Run {
             session: Session::new(alloc),
-            intake,
             replies: Replies::new(clock, gate, number, waiting, limit),
-            answered: 0,
-            limit,
+            keeping,
         })
     }
 
@@ -169,206 +198,52 @@ impl<'a, D: Desk, C: Clock, G: Gate> Run<'a, D, C, G> {
         session
     }
 
-    // Wakes who waits, writes all that waits, and tells the gate.
-    fn settle<W: Write>(&mut self, desk: &mut D, writer: &mut Counted<W>) -> Result<(), WriteFailed>
-        ensures { FlushesOn (stands W.contents writer.old desk.old self.old)
-            (stands W.contents writer.new desk.new self.new) result }
-    {
-        let answered = self.answered;
-        self.replies.settle(desk, writer, answered)
-    }
-
-    // Makes one read.
-    fn fill<R: Read>(&mut self, reader: &mut Counted<R>) -> Moved
-        requires { self.old.came.ahead ≡ [] }
-        ensures { FillsOn (R.remaining reader.old.device) (R.remaining reader.new.device) result
-            self.old self.new }
-    {
-        self.intake.fill(reader)
-    }
-
-    // Answers the next line, if it came whole: `None` where it did.
-    #[inline(always)]
-    fn answer_next<W: Write>(
-        &mut self,
-        alloc: Global,
-        keeping: Keeping,
-        desk: &mut D,
-        writer: &mut Counted<W>,
-    ) -> Result<Option<After>, SessionFault>
-        ensures { GoesNext keeping D.says (stands W.contents writer.old desk.old self.old)
-            (stands W.contents writer.new desk.new self.new) result }
-    {
-        if self.answered >= self.limit {
-            if self.intake.is_empty() {
-                return Ok(Some(After::More));
-            }
-            return Err(SessionFault::TooLong);
-        }
-        if !self.intake.next_line() {
-            return Ok(Some(After::More));
-        }
-        let line = self.intake.line(true);
-        let answered = self.answered;
-        match serve(
-            &mut self.session,
-            &mut self.replies,
-            alloc,
-            keeping,
-            desk,
-            writer,
-            answered,
-            line,
-            &self.intake,
-        ) {
-            Ok(quits) => {
-                self.answered = answered + 1;
-                if quits {
-                    return Ok(Some(After::Over));
-                }
-                Ok(None)
-            }
-            Err(e) => Err(e),
-        }
-    }
-
-    // Answers all lines that came whole.
-    fn answer_all<W: Write>(
-        &mut self,
-        alloc: Global,
-        keeping: Keeping,
-        desk: &mut D,
-        writer: &mut Counted<W>,
-    ) -> Result<After, SessionFault>
-        ensures { Goes keeping D.says (stands W.contents writer.old desk.old self.old)
-            (stands W.contents writer.new desk.new self.new) result }
-    {
-        loop {
-            match self.answer_next(alloc, keeping, desk, writer) {
-                Ok(None) => {}
-                Ok(Some(after)) => return Ok(after),
-                Err(e) => return Err(e),
-            }
-        }
-    }
-
-    // Answers what stands after the last LF, at the end of the input.
-    fn finish<W: Write>(
-        &mut self,
-        alloc: Global,
-        keeping: Keeping,
-        desk: &mut D,
-        writer: &mut Counted<W>,
-    ) -> Result<(), SessionFault>
-        requires { self.old.came.ahead ≡ [] }
-        ensures { Finishes keeping D.says (stands W.contents writer.old desk.old self.old)
-            (stands W.contents writer.new desk.new self.new) result }
-    {
-        if !self.intake.last_line() {
-            return Ok(());
-        }
-        let line = self.intake.line(false);
-        let answered = self.answered;
-        match serve(
-            &mut self.session,
-            &mut self.replies,
-            alloc,
-            keeping,
-            desk,
-            writer,
-            answered,
-            line,
-            &self.intake,
-        ) {
-            Ok(_) => {
-                self.answered = answered.saturating_add(1);
-                Ok(())
-            }
-            Err(e) => Err(e),
-        }
-    }
-
-    // Settles, makes one read, and answers the lines that came.
-    fn read_on<R: Read, W: Write>(
-        &mut self,
-        alloc: Global,
-        keeping: Keeping,
-        reader: &mut Counted<R>,
-        writer: &mut Counted<W>,
-        desk: &mut D,
-    ) -> Result<After, SessionFault>
-        requires { self.old.came.ahead ≡ [] }
-        ensures { ReadsOn keeping D.says
-            (R.remaining reader.old.device) (R.remaining reader.new.device)
-            (stands W.contents writer.old desk.old self.old)
-            (stands W.contents writer.new desk.new self.new) result }
-    {
-        match self.settle(desk, writer) {
-            Ok(()) => {}
-            Err(_) => return Err(SessionFault::Write),
-        }
-        match self.fill(reader) {
-            Moved::Bytes(0) => match self.finish(alloc, keeping, desk, writer) {
-                Ok(()) => Ok(After::Over),
-                Err(e) => Err(e),
-            },
-            Moved::Bytes(_) => self.answer_all(alloc, keeping, desk, writer),
-            Moved::Again => Ok(After::More),
-            Moved::Failed => Err(SessionFault::Read),
-        }
-    }
-
-    // Reads on until the run is over, by at most so many reads, and answers the lines as they come. Replies may wait
-    // then.
-    fn read_all<R: Read, W: Write>(
-        &mut self,
-        alloc: Global,
-        keeping: Keeping,
-        reader: &mut Counted<R>,
-        writer: &mut Counted<W>,
-        desk: &mut D,
-        reads: u64,
-    ) -> Option<SessionFault>
-        requires { self.old.came.ahead ≡ [] }
-        ensures { Halted keeping D.says
-            (R.remaining reader.old.device) (R.remaining reader.new.device)
-            (stands W.contents writer.old desk.old self.old)
-            result (self.new.kept, desk.new) (output W.contents writer.new self.new.waiting) }
-    {
-        for _ in 0..reads {
-            match self.read_on(alloc, keeping, reader, writer, desk) {
-                Ok(After::More) => {}
-                Ok(After::Over) => return None,
-                Err(e) => return Some(e),
-            }
-        }
-        Some(SessionFault::TooLong)
-    }
-
-    // The same from the beginning on, and then it settles.
+    // Reads on until the run is over, by at most so many reads, answers the lines as they come, and then settles.
     fn go<R: Read, W: Write>(
         &mut self,
+        feeder: &mut Feeder,
         alloc: Global,
-        keeping: Keeping,
         reader: &mut Counted<R>,
         writer: &mut Counted<W>,
         desk: &mut D,
         reads: u64,
     ) -> Option<SessionFault>
-        requires { self.old ≡ beginning self.old.limit }
-        ensures { Ran keeping D.says
+        requires feeder { feeder.old ≡ feeding.beginning feeder.old.limit }
+        requires run { self.old ≡ beginning self.old.keeping }
+        ensures { Ran self.old.keeping D.says
             (R.remaining reader.old.device) (R.remaining reader.new.device)
             (output W.contents writer.old []) (output W.contents writer.new [])
             desk.old (self.new.kept, desk.new) result }
     {
-        let fault = self.read_all(alloc, keeping, reader, writer, desk, reads);
+        let fault = fault_by(feeder.feed(self, alloc, desk, writer, reader, reads));
         if !is_whole(fault) {
             return fault;
         }
-        match self.settle(desk, writer) {
+        let answered = answered_of(fault, feeder.taken());
+        match self.replies.settle(desk, writer, answered) {
             Ok(()) => fault,
             Err(_) => Some(SessionFault::Write),
         }
+    }
+}
+
+// The fault by which a run ends, by why no further line is fed.
+fn fault_by(fed: Fed<Option<SessionFault>>) -> Option<SessionFault>
+    ensures { result ≡ fault_by fed }
+{
+    match fed {
+        Fed::Ended => None,
+        Fed::Stopped(fault) => fault,
+        Fed::Failed => Some(SessionFault::Read),
+        Fed::Full | Fed::Spent => Some(SessionFault::TooLong),
+    }
+}
+
+// How many lines were answered, of so many that were handed out: a line that the gate did not let through was not.
+fn answered_of(fault: Option<SessionFault>, taken: u64) -> u64 {
+    match fault {
+        Some(SessionFault::Gate) => taken.saturating_sub(1),
+        _ => taken,
     }
 }
 
@@ -422,10 +297,13 @@ pub fn run_session<C: Clock, R: Read, W: Write, D: Desk, G: Gate>(
         (output W.contents writer.old []) (output W.contents writer.new [])
         desk.old desk.new result.0 result.1 }
 {
-    let Ok(mut run) = Run::new(rt, alloc, gate, number, MOST_LINES) else {
+    let Ok(mut feeder) = Feeder::new(alloc, MOST_LINES) else {
         return (Session::new(alloc), Some(SessionFault::Short));
     };
-    let fault = run.go(alloc, keeping, reader, writer, desk, MOST_READS);
+    let Ok(mut run) = Run::new(rt, alloc, gate, number, MOST_LINES, keeping) else {
+        return (Session::new(alloc), Some(SessionFault::Short));
+    };
+    let fault = run.go(&mut feeder, alloc, reader, writer, desk, MOST_READS);
     let mut session = run.into_session();
     session.spend_all(desk);
     desk.wake();

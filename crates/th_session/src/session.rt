@@ -7,9 +7,9 @@ ghost use Rattle.th_session.specs.Script.{Ask, Plays, Replied, at_topic, spend_a
 ghost use Rattle.th_session.specs.Step.{IsStep};
 
 use crate::action::act;
+use crate::handles::Handles;
 use crate::keeping::Keeping;
 use crate::quit::quit;
-use crate::seats::Seats;
 use crate::table::{is_for, replied_list, replied_none, replied_opening};
 use std::alloc::Global;
 use std::collections::BTreeMap;
@@ -38,7 +38,7 @@ pub enum Answer {
 #[derive(Drop)]
 pub struct Session<D: Desk> {
     // What is held, by the numbers of the topics.
-    seats: BTreeMap<u64, Seats<D::Tx, D::Rx>>,
+    handles: BTreeMap<u64, Handles<D::Tx, D::Rx>>,
     // In the order of the answers, of all topics: so a receipt costs no look-up.
     receipts: Vec<(TopicId, TopicReceipt)>,
     // In the order of the answers.
@@ -52,7 +52,7 @@ impl<D: Desk> Model for Session<D> {
     ghost Value = { Kept };
 
     ghost view = { λ s. record {
-      handles = held D.tx D.rx s.seats.entries;
+      handles = held D.tx D.rx s.handles.entries;
       receipts = s.receipts.items;
       segments = s.segments.items;
     } };
@@ -61,15 +61,15 @@ impl<D: Desk> Model for Session<D> {
 // An action on the topic of this name.
 #[inline(always)]
 fn on_topic<D: Desk>(
-    seats: &mut BTreeMap<u64, Seats<D::Tx, D::Rx>>,
+    handles: &mut BTreeMap<u64, Handles<D::Tx, D::Rx>>,
     receipts: &mut Vec<(TopicId, TopicReceipt)>,
     desk: &mut D,
     name: &NameRef<'_>,
     action: Action,
 ) -> Answer
     ensures { Tells result (λ answer.
-        Plays D.says (Ask (Find name.now) (at_topic action (held D.tx D.rx seats.old.entries)))
-        desk.old answer (held D.tx D.rx seats.new.entries) desk.new
+        Plays D.says (Ask (Find name.now) (at_topic action (held D.tx D.rx handles.old.entries)))
+        desk.old answer (held D.tx D.rx handles.new.entries) desk.new
         × (receipts.new.items ≡ with_receipt receipts.old.items answer)) }
 {
     let Some(found) = desk.find(name) else {
@@ -78,7 +78,7 @@ fn on_topic<D: Desk>(
     if !is_for(found.kind, &action) {
         return Answer::Reply(Reply::Refused(Code::WrongKind));
     }
-    act(seats, receipts, desk, found.topic, action)
+    act(handles, receipts, desk, found.topic, action)
 }
 
 // The trace of the topic of this name. There is room for its segment before the desk hands it out.
@@ -109,18 +109,18 @@ fn trace<D: Desk>(
 // Of so many next calls by the actor's own receiver of this topic, how many have their answer now: all, where there is no
 // such receiver.
 fn ready<D: Desk>(
-    seats: &mut BTreeMap<u64, Seats<D::Tx, D::Rx>>,
+    handles: &mut BTreeMap<u64, Handles<D::Tx, D::Rx>>,
     desk: &mut D,
     topic: TopicId,
     most: usize,
 ) -> usize
-    ensures held { held D.tx D.rx seats.new.entries ≡ held D.tx D.rx seats.old.entries }
+    ensures held { held D.tx D.rx handles.new.entries ≡ held D.tx D.rx handles.old.entries }
     ensures desk { desk.new ≡ desk.old }
 {
-    let Some(seat) = seats.get_mut(&topic.0) else {
+    let Some(own) = handles.get_mut(&topic.0) else {
         return most;
     };
-    let Some(receiver) = &mut seat.receiver else {
+    let Some(receiver) = &mut own.receiver else {
         return most;
     };
     desk.ready(topic, receiver, most)
@@ -132,7 +132,7 @@ impl<D: Desk> Session<D> {
         ensures { result ≡ record { handles = []; receipts = []; segments = [] } }
     {
         Session {
-            seats: BTreeMap::new(alloc),
+            handles: BTreeMap::new(alloc),
             receipts: Vec::new(alloc),
             segments: Vec::new(alloc),
         }
@@ -192,12 +192,12 @@ impl<D: Desk> Session<D> {
                 Answer::Reply(replied_opening(desk.open_topic(name, making)))
             }
             Command::On(name, action) => {
-                on_topic(&mut self.seats, &mut self.receipts, desk, &name, action)
+                on_topic(&mut self.handles, &mut self.receipts, desk, &name, action)
             }
             Command::Trace(name) => trace(&mut self.segments, desk, &name),
             Command::List => Answer::Reply(replied_list(desk.list())),
             Command::Quit => {
-                quit(&mut self.seats, desk);
+                quit(&mut self.handles, desk);
                 Answer::Reply(Reply::Bye)
             }
         }
@@ -210,7 +210,7 @@ impl<D: Desk> Session<D> {
             (Replied Reply.Bye) [] desk.new }
         ensures none { self.new ≡ record self.old { handles = [] } }
     {
-        quit(&mut self.seats, desk);
+        quit(&mut self.handles, desk);
     }
 
     /// What the actor was told, without the actor: the receipts and the segments, each with its topic, in the order of
@@ -230,7 +230,7 @@ impl<D: Desk> Session<D> {
 
     /// Lets go of what a run does not keep that keeps so much.
     #[inline(always)]
-    pub(crate) fn let_go(&mut self, keeping: Keeping)
+    pub fn let_go(&mut self, keeping: Keeping)
         ensures { self.new ≡ kept_by keeping self.old }
     {
         match keeping {
@@ -259,7 +259,7 @@ impl<D: Desk> Session<D> {
             return most;
         }
         match self.receipts.reserve(most) {
-            Ok(()) => ready(&mut self.seats, desk, found.topic, most),
+            Ok(()) => ready(&mut self.handles, desk, found.topic, most),
             Err(_) => 0,
         }
     }

@@ -1,1 +1,1 @@
-pub mod Spending
+pub mod Tables

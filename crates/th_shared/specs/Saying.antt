@@ -7,7 +7,6 @@ use Rattle.th_model.specs.declared.making.Making.{Making}
 use Rattle.th_registry.specs.declared.channel.Channel.TheVariants.{Broadcast, Watch}
 use Rattle.th_registry.specs.declared.opening.Refusal.{Refusal}
 use Rattle.th_registry.specs.declared.opening.Refusal.TheVariants as Refusals
-use Rattle.th_registry.specs.declared.outcome.ChannelReply.{ChannelReply}
 use Rattle.th_registry.specs.Events.{Event, Outcome, Told, broadcast_call, broadcast_outcome, is_end, watch_call, watch_outcome}
 use Rattle.th_registry.specs.Hub.{Query, Said, Find, Open, On, Cut, made}
 use Rattle.th_registry.specs.Legal.{IsLegalSegment}
@@ -31,11 +30,6 @@ Notes n e (Ok outcome) None =
     (receipt : ChannelReceipt) × IsEvent n e outcome receipt × (is_end e ≡ true)
 Notes n e (Err why) receipt = receipt ≡ None
 
--- the last event of a handle on this topic was this call, and was replied so; its receipt is given up
-abbrev pub IsLast : {C R : Type 0} → ℕ → C → (R → ChannelReply) → ChannelReply → Type 0
-IsLast {C} {R} n call of reply =
-    (receipt : Receipt C R) × IsOf n (Some call) receipt × (reply ≡ of receipt.reply)
-
 -- of what is said of a new receiver in the place of an old one: without the old one's share
 abbrev pub first : {A B E : Type 0} → Result (A × B) E → Result A E
 first (Ok r) = Ok r.0
@@ -44,6 +38,11 @@ first (Err why) = Err why
 -- the handle beside a reply that tells of this number, or of none
 abbrev pub IsNumbered : Option ℕ → Option Holder → Type 0
 IsNumbered number handle = MatchOption handle (number ≡ None) (λ h. number ≡ Some h.number)
+
+-- a receipt of this call, and the handle of which its reply tells
+abbrev pub Makes : {C R : Type 0} → ℕ → Option C → (R → Option ℕ) → Receipt C R × Option Holder
+    → Type 0
+Makes n call made r = IsOf n call r.0 × IsNumbered (made r.0.reply) r.1
 
 -- what is said of an opening, for which this would be told: the capacity in force, or 1
 abbrev pub IsOpened : Option ℕ → Result ℕ Refusal → Type 0

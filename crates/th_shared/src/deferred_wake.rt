@@ -1,20 +1,19 @@
 //! A wake that is put off, so that it is one for many events.
+use crate::handles::TopicOwner;
 use std::sync::Wait;
-use th_block::Shared;
-use th_registry::Channel;
-use th_registry::channel::{HubBroadcast, HubWatch};
+use th_registry::{Channel, TopicId};
 
-/// A channel with events of which nobody was woken yet.
+/// A topic with events of which nobody was woken yet.
 #[derive(Drop)]
 pub(crate) struct DeferredWake {
-    key: u64,
-    owner: Channel<Shared<HubBroadcast>, Shared<HubWatch>>,
+    topic: TopicId,
+    owner: TopicOwner,
 }
 
-/// Whether this channel is the one.
-pub(crate) fn is_deferred(deferred: &Option<DeferredWake>, key: u64) -> bool {
+/// Whether this topic is the one.
+pub(crate) fn is_deferred(deferred: &Option<DeferredWake>, topic: TopicId) -> bool {
     match deferred {
-        Some(deferred) => deferred.key == key,
+        Some(deferred) => deferred.topic == topic,
         None => false,
     }
 }
@@ -30,13 +29,13 @@ pub(crate) fn wake<R: Wait>(rt: &R, deferred: &mut Option<DeferredWake>) {
     }
 }
 
-/// From now on this channel is the one. Who waits for the last one is woken.
+/// From now on this topic is the one. Who waits for the last one is woken.
 pub(crate) fn defer<R: Wait>(
     rt: &R,
     deferred: &mut Option<DeferredWake>,
-    key: u64,
-    owner: Channel<Shared<HubBroadcast>, Shared<HubWatch>>,
+    topic: TopicId,
+    owner: TopicOwner,
 ) {
     wake(rt, deferred);
-    *deferred = Some(DeferredWake { key, owner });
+    *deferred = Some(DeferredWake { topic, owner });
 }

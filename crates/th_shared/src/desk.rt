@@ -4,18 +4,19 @@ use crate::deferred_wake::{DeferredWake, defer, is_deferred, wake};
 use crate::ended::{Ended, end_of};
 use crate::handles::{TopicReceiver, TopicSender};
 use crate::received_ahead::ReceivedAhead;
-use crate::registry::{Topics, ask, bind, end, open, owner_of, subscribe};
+use crate::registry::{Topics, another_owner, ask, bind, end, open, subscribe};
+use crate::shares::Shares;
+use crate::told;
 use crate::topic_cache::TopicCache;
-use crate::{broadcast, watch};
 use std::alloc::Global;
 use std::marker::Model;
 use std::mem::replace;
 use std::sync::{Arc, Mutex, Wait};
 use th_model::{
-    Listing, Making, NameRef, Question, ReceiverVerb, RxId, SenderVerb, Short, Start, WCall,
+    Listing, Making, NameRef, Question, ReceiverVerb, RxId, SenderVerb, Short, Start, Value, WCall,
 };
 use th_registry::channel::{TopicReceipt, TopicSegment};
-use th_registry::{Channel, ChannelReply, Desk, Found, Made, NoEvent, Refusal, TopicId, Unspent};
+use th_registry::{Channel, Desk, Found, Made, NoEvent, Refusal, TopicId, Unspent};
 use th_seats::Share;
 
 /// An owner of topics that threads share. Each thread has its own, made by `another`.
@@ -35,11 +36,9 @@ pub struct SharedDesk<R: Wait + Clone> {
     // By which it waits.
     rt: R,
     topics: Arc<Mutex<Topics>>,
-    // Of the handles that were spent through this desk. There is room for those that are live.
-    shares: Vec<(TopicId, Share)>,
-    // How many handles were made through this desk, and not spent through it.
-    live: usize,
-    // The channel of which it made events that woke nobody yet.
+    // Of the handles that were made through this desk.
+    shares: Shares,
+    // The topic of which it made events that woke nobody yet.
     deferred: Option<DeferredWake>,
     // Topics that it finds without their lock.
     cache: TopicCache,
@@ -72,8 +71,7 @@ impl<R: Wait + Clone> SharedDesk<R> {
         SharedDesk {
             rt,
             topics,
-            shares: Vec::new(alloc),
-            live: 0,
+            shares: Shares::new(alloc),
             deferred: None,
             cache: TopicCache::new(alloc),
             ahead: ReceivedAhead::new(alloc),
@@ -90,7 +88,7 @@ impl<R: Wait + Clone> SharedDesk<R> {
             return Err(Short { call: () });
         };
         match Arc::try_clone(&self.topics) {
-            Ok(topics) => Ok(SharedDesk::owning(rt, *self.shares.allocator(), topics)),
+            Ok(topics) => Ok(SharedDesk::owning(rt, self.shares.allocator(), topics)),
             Err(_) => Err(Short { call: () }),
         }
     }
@@ -99,7 +97,7 @@ impl<R: Wait + Clone> SharedDesk<R> {
     pub fn into_shares(mut self) -> Vec<(TopicId, Share)> {
         wake(&self.rt, &mut self.deferred);
         let SharedDesk { shares, .. } = self;
-        shares
+        shares.into_vec()
     }
 
     // An empty list with room for what is left of each topic; `None` where another owner is left, or there was no memory.
@@ -129,7 +127,6 @@ impl<R: Wait + Clone> SharedDesk<R> {
             rt,
             topics,
             shares,
-            live,
             deferred,
             cache,
             ahead,
@@ -140,39 +137,18 @@ impl<R: Wait + Clone> SharedDesk<R> {
                 for (name, topic) in rows {
                     let _ = list.push(end_of(name, topic));
                 }
-                Ok((list, shares))
+                Ok((list, shares.into_vec()))
             }
             Err(topics) => Err(SharedDesk {
                 rt,
                 topics,
                 shares,
-                live,
                 deferred,
                 cache,
                 ahead,
             }),
         }
     }
-}
-
-// Makes room for the share of one handle more.
-fn make_room(shares: &mut Vec<(TopicId, Share)>, live: usize) -> bool {
-    shares.reserve(live.saturating_add(1)).is_ok()
-}
-
-// One handle more, where one was made.
-fn count<H>(live: &mut usize, made: &Result<Made<H>, NoEvent>) {
-    if let Ok(made) = made {
-        if made.handle.is_some() {
-            *live = live.saturating_add(1);
-        }
-    }
-}
-
-// Keeps the share of a handle that is spent. There is room for it.
-fn keep(shares: &mut Vec<(TopicId, Share)>, live: &mut usize, topic: TopicId, share: Share) {
-    *live = live.saturating_sub(1);
-    let _ = shares.push((topic, share));
 }
 
 impl<R: Wait + Clone> Desk for SharedDesk<R> {
@@ -214,17 +190,14 @@ impl<R: Wait + Clone> Desk for SharedDesk<R> {
             rt,
             topics,
             shares,
-            live,
             cache,
             ..
         } = self;
-        if !make_room(shares, *live) {
-            return Err(NoEvent::Short);
-        }
+        shares.make_room()?;
         let mut topics = topics.lock(rt);
-        let made = bind(rt, &mut *topics, topic);
         cache.add(&*topics, topic);
-        count(live, &made);
+        let made = bind(rt, &mut *topics, topic);
+        shares.count(&made);
         made
     }
 
@@ -238,23 +211,19 @@ impl<R: Wait + Clone> Desk for SharedDesk<R> {
             rt,
             topics,
             shares,
-            live,
             cache,
             ..
         } = self;
-        if !make_room(shares, *live) {
-            return Err(NoEvent::Short);
-        }
+        shares.make_room()?;
         let made = match sender {
-            Some(Channel::Broadcast(sender)) => broadcast::subscribe(rt, topic, start, sender),
-            Some(Channel::Watch(sender)) => watch::subscribe(rt, topic, start, sender),
+            Some(sender) => told::subscribe(rt, topic, start, sender),
             None => {
                 let mut topics = topics.lock(rt);
                 cache.add(&*topics, topic);
                 subscribe(rt, &mut *topics, topic, start)
             }
         };
-        count(live, &made);
+        shares.count(&made);
         made
     }
 
@@ -263,29 +232,16 @@ impl<R: Wait + Clone> Desk for SharedDesk<R> {
         &mut self,
         topic: TopicId,
         sender: &mut TopicSender,
-        verb: SenderVerb,
+        verb: SenderVerb<Value>,
     ) -> Result<TopicReceipt, NoEvent> {
         let SharedDesk { rt, deferred, .. } = self;
-        match sender {
-            Channel::Broadcast(sender) => {
-                let told = broadcast::send(rt, topic, sender, verb);
-                if told.is_ok() && !is_deferred(deferred, sender.key()) {
-                    if let Ok(owner) = sender.shared() {
-                        defer(rt, deferred, sender.key(), Channel::Broadcast(owner));
-                    }
-                }
-                told
-            }
-            Channel::Watch(sender) => {
-                let told = watch::send(rt, topic, sender, verb);
-                if told.is_ok() && !is_deferred(deferred, sender.key()) {
-                    if let Ok(owner) = sender.shared() {
-                        defer(rt, deferred, sender.key(), Channel::Watch(owner));
-                    }
-                }
-                told
+        let receipt = told::send(rt, topic, sender, verb)?;
+        if !is_deferred(deferred, topic) {
+            if let Ok(owner) = told::owner_of(sender) {
+                defer(rt, deferred, topic, owner);
             }
         }
+        Ok(receipt)
     }
 
     fn ask(
@@ -296,8 +252,7 @@ impl<R: Wait + Clone> Desk for SharedDesk<R> {
     ) -> Result<TopicReceipt, NoEvent> {
         let SharedDesk { rt, topics, .. } = self;
         match sender {
-            Some(Channel::Broadcast(sender)) => broadcast::ask(rt, topic, sender, question),
-            Some(Channel::Watch(sender)) => watch::ask(rt, topic, sender, question),
+            Some(sender) => told::ask(rt, topic, sender, question),
             None => {
                 let mut topics = topics.lock(rt);
                 ask(rt, &mut *topics, topic, question)
@@ -323,10 +278,7 @@ impl<R: Wait + Clone> Desk for SharedDesk<R> {
             _ => {}
         }
         match receiver {
-            TopicReceiver::Live(Channel::Broadcast(receiver)) => {
-                broadcast::receive(rt, topic, ahead, receiver, verb)
-            }
-            TopicReceiver::Live(Channel::Watch(reader)) => watch::receive(rt, topic, reader, verb),
+            TopicReceiver::Live(receiver) => told::receive(rt, topic, ahead, receiver, verb),
             TopicReceiver::Spent(_) => Err(NoEvent::NotLive),
         }
     }
@@ -339,71 +291,37 @@ impl<R: Wait + Clone> Desk for SharedDesk<R> {
         let SharedDesk {
             rt,
             shares,
-            live,
             ahead,
             ..
         } = self;
-        if !make_room(shares, *live) {
-            return Err(NoEvent::Short);
-        }
+        shares.make_room()?;
         let (after, said) = match replace(receiver, TopicReceiver::Spent(0)) {
-            TopicReceiver::Live(Channel::Broadcast(old)) => {
+            TopicReceiver::Live(old) => {
                 ahead.forget(topic, &old);
-                broadcast::resubscribe(rt, topic, old)
+                told::resubscribe(rt, topic, old)
             }
-            TopicReceiver::Live(Channel::Watch(reader)) => (
-                TopicReceiver::Live(Channel::Watch(reader)),
-                Err(NoEvent::WrongKind),
-            ),
-            TopicReceiver::Spent(number) => {
-                (TopicReceiver::Spent(number), Err(NoEvent::NotLive))
-            }
+            TopicReceiver::Spent(number) => (TopicReceiver::Spent(number), Err(NoEvent::NotLive)),
         };
         *receiver = after;
-        match said {
-            Ok((made, share)) => {
-                if let Some(share) = share {
-                    *live = live.saturating_add(1);
-                    keep(shares, live, topic, share);
-                }
-                Ok(made)
-            }
-            Err(why) => Err(why),
+        let (made, share) = said?;
+        if let Some(share) = share {
+            shares.replace(topic, share);
         }
+        Ok(made)
     }
 
     fn spend_sender(
         &mut self,
         topic: TopicId,
         sender: TopicSender,
-    ) -> Result<ChannelReply, Unspent<TopicSender>> {
-        let SharedDesk {
-            rt,
-            shares,
-            live,
-            ..
-        } = self;
-        match sender {
-            Channel::Broadcast(sender) => match broadcast::spend(rt, topic, sender) {
-                Ok((share, reply)) => {
-                    keep(shares, live, topic, share);
-                    Ok(reply)
-                }
-                Err((sender, why)) => Err(Unspent {
-                    handle: Channel::Broadcast(sender),
-                    why,
-                }),
-            },
-            Channel::Watch(sender) => match watch::spend(rt, topic, sender) {
-                Ok((share, reply)) => {
-                    keep(shares, live, topic, share);
-                    Ok(reply)
-                }
-                Err((sender, why)) => Err(Unspent {
-                    handle: Channel::Watch(sender),
-                    why,
-                }),
-            },
+    ) -> Result<(), Unspent<TopicSender>> {
+        let SharedDesk { rt, shares, .. } = self;
+        match told::end_sender(rt, topic, sender) {
+            Ok(share) => {
+                shares.keep(topic, share);
+                Ok(())
+            }
+            Err(unspent) => Err(unspent),
         }
     }
 
@@ -411,38 +329,24 @@ impl<R: Wait + Clone> Desk for SharedDesk<R> {
         &mut self,
         topic: TopicId,
         receiver: TopicReceiver,
-    ) -> Result<ChannelReply, Unspent<TopicReceiver>> {
+    ) -> Result<(), Unspent<TopicReceiver>> {
         let SharedDesk {
             rt,
             shares,
-            live,
             ahead,
             ..
         } = self;
         match receiver {
-            TopicReceiver::Live(Channel::Broadcast(receiver)) => {
+            TopicReceiver::Live(receiver) => {
                 ahead.forget(topic, &receiver);
-                match broadcast::spend(rt, topic, receiver) {
-                    Ok((share, reply)) => {
-                        keep(shares, live, topic, share);
-                        Ok(reply)
+                match told::end_receiver(rt, topic, receiver) {
+                    Ok(share) => {
+                        shares.keep(topic, share);
+                        Ok(())
                     }
-                    Err((receiver, why)) => Err(Unspent {
-                        handle: TopicReceiver::Live(Channel::Broadcast(receiver)),
-                        why,
-                    }),
+                    Err(unspent) => Err(unspent),
                 }
             }
-            TopicReceiver::Live(Channel::Watch(reader)) => match watch::spend(rt, topic, reader) {
-                Ok((share, reply)) => {
-                    keep(shares, live, topic, share);
-                    Ok(reply)
-                }
-                Err((reader, why)) => Err(Unspent {
-                    handle: TopicReceiver::Live(Channel::Watch(reader)),
-                    why,
-                }),
-            },
             TopicReceiver::Spent(number) => Err(Unspent {
                 handle: TopicReceiver::Spent(number),
                 why: NoEvent::NotLive,
@@ -450,7 +354,7 @@ impl<R: Wait + Clone> Desk for SharedDesk<R> {
         }
     }
 
-    fn end(&mut self, topic: TopicId) -> Result<ChannelReply, NoEvent> {
+    fn end(&mut self, topic: TopicId) -> Result<(), NoEvent> {
         let SharedDesk { rt, topics, .. } = self;
         let mut topics = topics.lock(rt);
         end(rt, &mut *topics, topic)
@@ -460,18 +364,17 @@ impl<R: Wait + Clone> Desk for SharedDesk<R> {
         let SharedDesk { rt, topics, .. } = self;
         let owner = {
             let topics = topics.lock(rt);
-            owner_of(&*topics, topic)
+            another_owner(&*topics, topic)?
         };
         match owner {
-            Ok(Channel::Broadcast(owner)) => match owner.cut(rt) {
+            Channel::Broadcast(owner) => match owner.cut(rt) {
                 Ok(segment) => Ok(Channel::Broadcast(segment)),
                 Err(_) => Err(NoEvent::Short),
             },
-            Ok(Channel::Watch(owner)) => match owner.cut(rt) {
+            Channel::Watch(owner) => match owner.cut(rt) {
                 Ok(segment) => Ok(Channel::Watch(segment)),
                 Err(_) => Err(NoEvent::Short),
             },
-            Err(why) => Err(why),
         }
     }
 

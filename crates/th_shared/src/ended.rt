@@ -1,8 +1,7 @@
 //! What is left of a topic once nobody serves it any more.
 ghost use Rattle.std.specs.Prelude.{◌≡◌, is_some, not};
 
-use crate::topic::{First, SharedTopic, Topic};
-use th_block::Side;
+use crate::topic::{Own, Topic};
 use th_log::Logged;
 use th_model::Name;
 use th_registry::Channel;
@@ -21,14 +20,14 @@ pub enum Ended {
 }
 
 // The share of the hub's own sender.
-fn own_share<O: th_block::Channel, S: Side<O>>(
-    own: Option<First<O, S>>,
-    share: Option<Share>,
-) -> Share
+fn own_share(own: Option<Own>, share: Option<Share>) -> Share
     requires { is_some share ≡ not (is_some own) }
 {
     match own {
-        Some(First { handle }) => handle.release(),
+        Some(Own { sender }) => match sender {
+            Channel::Broadcast(sender) => sender.release(),
+            Channel::Watch(sender) => sender.release(),
+        },
         None => match share {
             Some(share) => share,
             None => unreachable!(),
@@ -36,32 +35,18 @@ fn own_share<O: th_block::Channel, S: Side<O>>(
     }
 }
 
-// That share, and the log, where no handle is left elsewhere.
-fn end<O: th_block::Channel, S: Side<O>>(topic: Topic<O, S>) -> (Option<Logged<O>>, Share) {
+/// What is left of the topic of this name: its log too, where no handle is left elsewhere.
+pub(crate) fn end_of(name: Name, topic: Topic) -> Ended {
     let Topic { owner, own, share } = topic;
     let share = own_share(own, share);
-    match owner.finish() {
-        Ok(log) => (Some(log), share),
-        Err(_) => (None, share),
-    }
-}
-
-/// What is left of the topic of this name.
-pub(crate) fn end_of(name: Name, topic: SharedTopic) -> Ended {
-    match topic {
-        Channel::Broadcast(topic) => {
-            let (log, share) = end(topic);
-            match log {
-                Some(log) => Ended::Broadcast(name, log, share),
-                None => Ended::Held(name, share),
-            }
-        }
-        Channel::Watch(topic) => {
-            let (log, share) = end(topic);
-            match log {
-                Some(log) => Ended::Watch(name, log, share),
-                None => Ended::Held(name, share),
-            }
-        }
+    match owner {
+        Channel::Broadcast(owner) => match owner.finish() {
+            Ok(log) => Ended::Broadcast(name, log, share),
+            Err(_) => Ended::Held(name, share),
+        },
+        Channel::Watch(owner) => match owner.finish() {
+            Ok(log) => Ended::Watch(name, log, share),
+            Err(_) => Ended::Held(name, share),
+        },
     }
 }

@@ -22,19 +22,20 @@
 //! ```
 #![tactic(auto)]
 
-mod broadcast;
 mod deferred_wake;
 pub mod desk;
 pub mod ended;
 mod event;
 pub mod handles;
+mod new_handle;
 pub mod observer;
 mod received_ahead;
 mod registry;
 pub mod serve;
+mod shares;
+mod told;
 mod topic;
 mod topic_cache;
-mod watch;
 
 pub use desk::SharedDesk;
 pub use ended::Ended;

@@ -1,30 +1,26 @@
 //! The topics that threads share, as they stand under their lock.
-ghost use Rattle.std.specs.Prelude.{◌≡◌};
+ghost use Rattle.std.specs.Prelude.{◌≡◌, ◌⊎◌, Err, Ok, IfErr};
 ghost use Rattle.th_registry.specs.Events.{Asks, Binds, DropsTx, Hub, Subscribes};
 ghost use Rattle.th_registry.specs.Hub.{On, Open};
 ghost use Rattle.th_registry.specs.Typed.{ended, made_rx, made_tx, replied};
-ghost use Rattle.th_shared.specs.Numbers.{receiver, sender};
+ghost use Rattle.th_shared.specs.Numbers.{number_of, receiver, sender};
 ghost use Rattle.th_shared.specs.Saying.{MaySay};
 
-use crate::handles::{TopicReceiver, TopicSender};
-use crate::topic::{First, SharedTopic, Topic};
-use crate::{broadcast, watch};
+use crate::handles::{TopicOwner, TopicReceiver, TopicSender};
+use crate::told;
+use crate::topic::{Own, Topic};
 use std::alloc::Global;
 use std::collections::HashMap;
 use std::sync::Wait;
-use th_block::{Handle, Shared, Side};
 use th_log::MOST_ENTRIES;
 use th_model::{Capacity, Listed, Listing, Making, Name, NameRef, Question, Short, Start, Value};
-use th_registry::channel::{HubBroadcast, HubWatch, TopicReceipt};
-use th_registry::{Channel, ChannelReply, Found, Made, NoEvent, Refusal, TopicId};
-
-/// The most topics of a hub.
-const MOST_TOPICS: usize = 1024;
+use th_registry::channel::TopicReceipt;
+use th_registry::{Channel, Found, MOST_TOPICS, Made, NoEvent, Refusal, TopicId, Unspent};
 
 /// Topics in order of opening, and the number of each by its name.
 #[derive(Drop)]
 pub(crate) struct Topics {
-    pub(crate) rows: Vec<(Name, SharedTopic)>,
+    pub(crate) rows: Vec<(Name, Topic)>,
     numbers: HashMap<Name, u64>,
 }
 
@@ -41,9 +37,9 @@ impl Topics {
     pub(crate) fn find(&self, name: &NameRef<'_>) -> Option<Found> {
         let number = *self.numbers.get(&name.to_name())?;
         match self.rows.get(number as usize) {
-            Some((_, channel)) => Some(Found {
+            Some((_, topic)) => Some(Found {
                 topic: TopicId(number),
-                kind: channel.kind(),
+                kind: topic.owner.kind(),
             }),
             None => None,
         }
@@ -55,11 +51,11 @@ impl Topics {
         let Ok(mut rows) = Vec::with_capacity(alloc, self.rows.len()) else {
             return Err(Short { call: () });
         };
-        for (name, channel) in &self.rows {
+        for (name, topic) in &self.rows {
             let Ok(name) = name.clone() else {
                 return Err(Short { call: () });
             };
-            let kind = channel.kind();
+            let kind = topic.owner.kind();
             let Ok(()) = rows.push(Listed { name, kind }) else {
                 return Err(Short { call: () });
             };
@@ -70,32 +66,44 @@ impl Topics {
         }
     }
 
-    // A topic at the end, under a name that is not there. Answers whether there was memory for it.
-    fn add(&mut self, name: Name, topic: SharedTopic) -> bool {
+    // The key of a new topic's channel, if there may be one more topic.
+    fn next_key(&self) -> Result<u64, Refusal>
+        ensures { IfErr result (λ why. why ≡ Refusal.TooManyTopics) }
+    {
+        if self.rows.len() >= MOST_TOPICS {
+            return Err(Refusal::TooManyTopics);
+        }
+        Ok(self.rows.len() as u64 + 1)
+    }
+
+    // A topic at the end, under a name that is not there, behind the first sender of its channel, which is the hub's own.
+    // Answers the number that is told of it.
+    fn add(&mut self, name: Name, handle: TopicSender, told: u64) -> Result<u64, Refusal>
+        requires { number_of handle ≡ 1 }
+        ensures { (result ≡ Ok told) ⊎ (result ≡ Err Refusal.Short) }
+    {
+        let Ok(owner) = told::owner_of(&handle) else {
+            return Err(Refusal::Short);
+        };
         let Ok(key) = name.clone() else {
-            return false;
+            return Err(Refusal::Short);
         };
         let Ok(()) = self.rows.reserve(1) else {
-            return false;
+            return Err(Refusal::Short);
         };
         let Ok(_) = self.numbers.insert(key, self.rows.len() as u64) else {
-            return false;
+            return Err(Refusal::Short);
         };
-        self.rows.push((name, topic)).is_ok()
-    }
-}
-
-// A topic behind the first sender of its channel, which is the hub's own.
-fn opened<O: th_block::Channel, S: Side<O>>(handle: Handle<O, S>) -> Option<Topic<O, S>>
-    requires { handle.number ≡ 1 }
-{
-    match handle.shared() {
-        Ok(owner) => Some(Topic {
+        let own = Some(Own { sender: handle });
+        let topic = Topic {
             owner,
-            own: Some(First { handle }),
+            own,
             share: None,
-        }),
-        Err(_) => None,
+        };
+        match self.rows.push((name, topic)) {
+            Ok(()) => Ok(told),
+            Err(_) => Err(Refusal::Short),
+        }
     }
 }
 
@@ -106,43 +114,24 @@ fn open_broadcast(topics: &mut Topics, name: Name, asked: u64, base: u64) -> Res
     let Ok(capacity) = Capacity::new(asked) else {
         return Err(Refusal::BadCapacity);
     };
-    if topics.rows.len() >= MOST_TOPICS {
-        return Err(Refusal::TooManyTopics);
-    }
+    let key = topics.next_key()?;
     let alloc = *topics.rows.allocator();
-    let key = topics.rows.len() as u64 + 1;
-    let Ok(sender) = th_block::broadcast_at::<Value>(alloc, capacity, base, MOST_ENTRIES, key)
-    else {
-        return Err(Refusal::Short);
-    };
-    let Some(topic) = opened(sender) else {
-        return Err(Refusal::Short);
-    };
-    if !topics.add(name, Channel::Broadcast(topic)) {
-        return Err(Refusal::Short);
+    match th_block::broadcast_at::<Value>(alloc, capacity, base, MOST_ENTRIES, key) {
+        Ok(sender) => topics.add(name, Channel::Broadcast(sender), capacity.in_force()),
+        Err(_) => Err(Refusal::Short),
     }
-    Ok(capacity.in_force())
 }
 
 // The same of a watch topic, for which 1 is told.
 fn open_watch(topics: &mut Topics, name: Name, value: Value) -> Result<u64, Refusal>
     ensures { MaySay (Open name (Making.Watch value)) result }
 {
-    if topics.rows.len() >= MOST_TOPICS {
-        return Err(Refusal::TooManyTopics);
-    }
+    let key = topics.next_key()?;
     let alloc = *topics.rows.allocator();
-    let key = topics.rows.len() as u64 + 1;
-    let Ok(sender) = th_block::watch::<Value>(alloc, value, MOST_ENTRIES, key) else {
-        return Err(Refusal::Short);
-    };
-    let Some(topic) = opened(sender) else {
-        return Err(Refusal::Short);
-    };
-    if !topics.add(name, Channel::Watch(topic)) {
-        return Err(Refusal::Short);
+    match th_block::watch::<Value>(alloc, value, MOST_ENTRIES, key) {
+        Ok(sender) => topics.add(name, Channel::Watch(sender), 1),
+        Err(_) => Err(Refusal::Short),
     }
-    Ok(1)
 }
 
 /// Opens a topic, and answers the number that is told of it.
@@ -170,12 +159,8 @@ pub(crate) fn bind<R: Wait>(
 {
     match topics.rows.get_mut(topic.0 as usize) {
         None => Err(NoEvent::NoTopic),
-        Some((_, Channel::Broadcast(at))) => match &mut at.own {
-            Some(first) => broadcast::bind(rt, topic, &mut first.handle),
-            None => Err(NoEvent::NoSender),
-        },
-        Some((_, Channel::Watch(at))) => match &mut at.own {
-            Some(first) => watch::bind(rt, topic, &mut first.handle),
+        Some((_, at)) => match &mut at.own {
+            Some(own) => told::bind(rt, topic, &mut own.sender),
             None => Err(NoEvent::NoSender),
         },
     }
@@ -192,12 +177,8 @@ pub(crate) fn subscribe<R: Wait>(
 {
     match topics.rows.get_mut(topic.0 as usize) {
         None => Err(NoEvent::NoTopic),
-        Some((_, Channel::Broadcast(at))) => match &mut at.own {
-            Some(first) => broadcast::subscribe(rt, topic, start, &mut first.handle),
-            None => Err(NoEvent::NoSender),
-        },
-        Some((_, Channel::Watch(at))) => match &mut at.own {
-            Some(first) => watch::subscribe(rt, topic, start, &mut first.handle),
+        Some((_, at)) => match &mut at.own {
+            Some(own) => told::subscribe(rt, topic, start, &mut own.sender),
             None => Err(NoEvent::NoSender),
         },
     }
@@ -214,46 +195,42 @@ pub(crate) fn ask<R: Wait>(
 {
     match topics.rows.get_mut(topic.0 as usize) {
         None => Err(NoEvent::NoTopic),
-        Some((_, Channel::Broadcast(at))) => match &mut at.own {
-            Some(first) => broadcast::ask(rt, topic, &mut first.handle, question),
-            None => Err(NoEvent::NoSender),
-        },
-        Some((_, Channel::Watch(at))) => match &mut at.own {
-            Some(first) => watch::ask(rt, topic, &mut first.handle, question),
+        Some((_, at)) => match &mut at.own {
+            Some(own) => told::ask(rt, topic, &mut own.sender, question),
             None => Err(NoEvent::NoSender),
         },
     }
 }
 
 /// The end of the hub's own sender.
-pub(crate) fn end<R: Wait>(
-    rt: &R,
-    topics: &mut Topics,
-    topic: TopicId,
-) -> Result<ChannelReply, NoEvent>
+pub(crate) fn end<R: Wait>(rt: &R, topics: &mut Topics, topic: TopicId) -> Result<(), NoEvent>
     ensures { MaySay (On topic.0 (DropsTx Hub)) (ended result) }
 {
-    match topics.rows.get_mut(topic.0 as usize) {
-        None => Err(NoEvent::NoTopic),
-        Some((_, Channel::Broadcast(at))) => broadcast::end(rt, topic, at),
-        Some((_, Channel::Watch(at))) => watch::end(rt, topic, at),
+    let Some((_, at)) = topics.rows.get_mut(topic.0 as usize) else {
+        return Err(NoEvent::NoTopic);
+    };
+    let Some(Own { sender }) = at.own.take() else {
+        return Err(NoEvent::NoSender);
+    };
+    match told::end_sender(rt, topic, sender) {
+        Ok(share) => {
+            at.share = Some(share);
+            Ok(())
+        }
+        Err(Unspent { handle, why }) => {
+            at.own = Some(Own { sender: handle });
+            Err(why)
+        }
     }
 }
 
 /// An owner of a topic's channel, by which its log is cut.
-pub(crate) fn owner_of(
-    topics: &Topics,
-    topic: TopicId,
-) -> Result<Channel<Shared<HubBroadcast>, Shared<HubWatch>>, NoEvent> {
+pub(crate) fn another_owner(topics: &Topics, topic: TopicId) -> Result<TopicOwner, NoEvent> {
     match topics.rows.get(topic.0 as usize) {
+        Some((_, at)) => match told::another(&at.owner) {
+            Ok(owner) => Ok(owner),
+            Err(_) => Err(NoEvent::Short),
+        },
         None => Err(NoEvent::NoTopic),
-        Some((_, Channel::Broadcast(topic))) => match topic.owner.another() {
-            Ok(owner) => Ok(Channel::Broadcast(owner)),
-            Err(_) => Err(NoEvent::Short),
-        },
-        Some((_, Channel::Watch(topic))) => match topic.owner.another() {
-            Ok(owner) => Ok(Channel::Watch(owner)),
-            Err(_) => Err(NoEvent::Short),
-        },
     }
 }

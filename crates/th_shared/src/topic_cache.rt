@@ -27,8 +27,8 @@ impl TopicCache {
 
     /// Puts this topic into the cache; without memory for it, it is left out.
     pub(crate) fn add(&mut self, topics: &Topics, topic: TopicId) {
-        if let Some((name, channel)) = topics.rows.get(topic.0 as usize) {
-            let kind = channel.kind();
+        if let Some((name, at)) = topics.rows.get(topic.0 as usize) {
+            let kind = at.owner.kind();
             if let Ok(name) = name.clone() {
                 let _ = self.topics.insert(name, Found { topic, kind });
             }

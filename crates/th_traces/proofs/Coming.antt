@@ -1,12 +1,12 @@
 -- Which line of a picture is the next, and what is left after it.
 use Rattle.std.proofs.Common.{◌≡◌, ℕ, List, [], ◌∷◌, length, refl, arith}
-use Rattle.th_traces.specs.Spelled.{Bytes, Told, kept_line, sender_line, receiver_line}
+use Rattle.th_traces.specs.Spelled.{Bytes, PictureFields, kept_line, sender_line, receiver_line}
 use Rattle.th_traces.specs.ToCome.{to_come}
 use Rattle.th_traces.specs.declared.stage.Stage.{Stage}
 use Rattle.th_traces.specs.declared.stage.Stage.TheVariants.{Body}
 
 module _ (head start : List Bytes) (next : ℕ) where
-  abbrev pub tells : List Bytes → List ℕ → List (ℕ × Bytes) → Told
+  abbrev pub tells : List Bytes → List ℕ → List (ℕ × Bytes) → PictureFields
   tells kept senders receivers = record {
     head = head;
     start = start;

@@ -13,7 +13,8 @@ use Rattle.th_traces.specs.Tables.{behind}
 use Rattle.th_traces.proofs.Entries.{behind-found}
 
 -- the words are there, and bytes behind them
-pub there : (line words rest bytes : List ℕ) (b : Bool) → line ≡ words ++ rest → Decides b (rest ≡ bytes) → Decides b (line ≡ words ++ bytes)
+pub there : (line words rest bytes : List ℕ) (b : Bool) → line ≡ words ++ rest → Decides b (rest ≡ bytes)
+    → Decides b (line ≡ words ++ bytes)
 there line words rest bytes b e d = (
   λ t. e ∙ ap (λ (l : List ℕ). words ++ l) (d.0 t),
   λ s. d.1 (append_cancel_left words rest bytes (sym e ∙ s)),

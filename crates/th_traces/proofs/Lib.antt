@@ -1,7 +1,6 @@
 mod Coming
 pub mod Entries
 pub mod Fronts
-pub mod Forms
 pub mod BroadcastSpelling
 pub mod WatchSpelling
 pub mod Further

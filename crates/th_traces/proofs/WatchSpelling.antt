@@ -4,8 +4,6 @@ use Rattle.std.specs.Prelude.{codes}
 use Rattle.std.specs.Str.{bytes_eq}
 use Rattle.std.proofs.lemmas.Slice.Eq.{bytes_eq-Decides}
 use Rattle.std.proofs.lemmas.Option.{none-some}
-use Rattle.th_model.specs.declared.handles.TxId.{TxId}
-use Rattle.th_model.specs.declared.handles.RxId.{RxId}
 use Rattle.th_model.specs.declared.watch.Edit.TheVariants.{Set, Differ, Quiet}
 use Rattle.th_model.specs.declared.watch.WCall.{WCall}
 use Rattle.th_model.specs.declared.watch.WCall.TheVariants.{Send, Replace, EditBy, Borrow, Take, HasChanged, TryChanged, Changed, MarkChanged, MarkUnchanged, Subscribe, CloneRx, CloneTx, DropTx, DropRx, IsClosed, Readers}
@@ -16,17 +14,12 @@ use Rattle.th_lines.specs.Fields.{Rest, by_word, ended, field_then}
 use Rattle.th_lines.proofs.Grammar.{joined, Finds, table-finds, ended-finds, ended-found, field-found, mapped, value_last-finds, number_last-finds, value-again, number_last-again}
 use Rattle.th_lines.proofs.Tables.{◌&◌}
 use Rattle.th_traces.specs.Spelled.{Bytes, call_line, line, reply_line}
-use Rattle.th_traces.specs.Tables.{by_table}
+use Rattle.th_traces.specs.Tables.{by_table, rx, tx}
 use Rattle.th_traces.specs.Watch.{call_fields, reply_fields}
 use Rattle.th_traces.specs.Watch.{yes_or_no as answer_word}
-use Rattle.th_traces.specs.WatchWords.{IsCall, IsReplyTo, answer_last, bare_replies, call_of, calls, differ, handle_calls, number_calls, plain_replies, quiet, replace, replies, reply_of, send, set, shown, value_given, yes_or_no}
-use Rattle.th_traces.proofs.Entries.{number_value-finds, number_value-again, handing-finds, handing-again, table-entry, by_table-found, behind-found}
-
-abbrev tx : ℕ → TxId
-tx n = record { 0 = n }
-
-abbrev rx : ℕ → RxId
-rx n = record { 0 = n }
+use Rattle.th_traces.specs.WatchWords.{IsCall, IsReplyTo, answer_last, call_of, calls, differ, grammar, handle_calls, number_calls, own_replies, quiet, replace, reply_of, send, set, shown, value_given, yes_or_no}
+use Rattle.th_traces.specs.Grammars.{replies, reply_of as said_reply}
+use Rattle.th_traces.proofs.Entries.{number_value-finds, number_value-again, handing-finds, handing-again, spelled-found, table-entry}
 
 abbrev SpellsCall : List ℕ → WCall Bytes → Type 0
 SpellsCall bytes call = IsCall call × (bytes ≡ line (call_fields call))
@@ -81,10 +74,7 @@ call-again (Readers k) h = number_last-again (λ n. Readers (tx n)) k.0 h
 -- what is read is a call, and the line its spelling
 pub call_of-found : (text : List ℕ) (call : WCall Bytes) → call_of text ≡ Some call → IsCall call × (text ≡ call_line (call_fields call))
 unfolding call_of
-call_of-found text call h =
-    let b = behind-found (codes "C") (by_table calls) text call h in
-    let s = by_table-found SpellsCall calls calls-find b.0 call b.2 in
-    (s.0, b.1 ∙ ap (λ (bytes : List ℕ). codes "C" ++ 32 ∷ bytes) s.1)
+call_of-found = spelled-found (codes "C") IsCall (λ c. line (call_fields c)) calls calls-find
 
 -- and a call's spelling is read as that call
 pub call_of-again : (call : WCall Bytes) → IsCall call → call_of (call_line (call_fields call)) ≡ Some call
@@ -100,16 +90,20 @@ answer-found rest b h =
     same : (word spelled : List ℕ) → bytes_eq word spelled ≡ true → word ≡ spelled
     same word spelled t = (bytes_eq-Decides word spelled).0 t
 
-    at : (word : List ℕ) (after : Rest) (y : Bool) → bytes_eq word (codes "yes") ≡ y → (n : Bool) → bytes_eq word (codes "no") ≡ n → cond y (ended true after) (cond n (ended false after) None) ≡ Some b → joined word after ≡ answer_word b
+    at : (word : List ℕ) (after : Rest) (y : Bool) → bytes_eq word (codes "yes") ≡ y → (n : Bool) → bytes_eq word (codes "no") ≡ n
+        → cond y (ended true after) (cond n (ended false after) None) ≡ Some b → joined word after ≡ answer_word b
     at word after true yes_eq n no_eq k =
         let e = ended-found true b after k in
-        subst (λ (c : Bool). joined word after ≡ answer_word c) e.1 (subst (λ (r : Rest). joined word r ≡ codes "yes") (sym e.0) (same word (codes "yes") yes_eq))
+        subst (λ (c : Bool). joined word after ≡ answer_word c) e.1
+        (subst (λ (r : Rest). joined word r ≡ codes "yes") (sym e.0) (same word (codes "yes") yes_eq))
     at word after false yes_eq true no_eq k =
         let e = ended-found false b after k in
-        subst (λ (c : Bool). joined word after ≡ answer_word c) e.1 (subst (λ (r : Rest). joined word r ≡ codes "no") (sym e.0) (same word (codes "no") no_eq))
+        subst (λ (c : Bool). joined word after ≡ answer_word c) e.1
+        (subst (λ (r : Rest). joined word r ≡ codes "no") (sym e.0) (same word (codes "no") no_eq))
     at word after false yes_eq false no_eq k = absurd (none-some b k)
 
-answer-finds : (P : List ℕ → WReply Bytes → Type 0) (word : List ℕ) (read : Bool → WReply Bytes) → ((b : Bool) → P (word ++ 32 ∷ answer_word b) (read b)) → Finds P (word, answer_last read)
+answer-finds : (P : List ℕ → WReply Bytes → Type 0) (word : List ℕ) (read : Bool → WReply Bytes)
+    → ((b : Bool) → P (word ++ 32 ∷ answer_word b) (read b)) → Finds P (word, answer_last read)
 answer-finds P word read ok rest a h =
     let m = mapped read (field_then yes_or_no rest) a h in
     subst (λ (r : Rest). P (joined word r) a) (sym (answer-found rest m.0 m.1)) (subst (P (word ++ 32 ∷ answer_word m.0)) m.2 (ok m.0))
@@ -126,46 +120,49 @@ module _ (call : WCall Bytes) where
   abbrev SpellsShown : List ℕ → WReply Bytes → Type 0
   SpellsShown bytes reply = SpellsReply (codes "shown" ++ 32 ∷ bytes) reply
 
-  shown-finds : (word : List ℕ) (rest : Rest) (reply : WReply Bytes) → by_word shown word rest ≡ Some reply → SpellsShown (joined word rest) reply
+  shown-finds : (word : List ℕ) (rest : Rest) (reply : WReply Bytes) → by_word shown word rest ≡ Some reply
+      → SpellsShown (joined word rest) reply
   unfolding shown
   shown-finds = table-finds SpellsShown shown (
-      value_last-finds SpellsShown (codes "new") (λ v. Shown v true) (λ v h. (h, refl))
-      & value_last-finds SpellsShown (codes "same") (λ v. Shown v false) (λ v h. (h, refl))
+      value_last-finds SpellsShown (codes "new") (λ v. Shown v true) (λ v h. ((tt, h), refl))
+      & value_last-finds SpellsShown (codes "same") (λ v. Shown v false) (λ v h. ((tt, h), refl))
       & tt
       )
 
-  replies-find : (word : List ℕ) (rest : Rest) (reply : WReply Bytes) → by_word (replies (value_given call)) word rest ≡ Some reply → SpellsReply (joined word rest) reply
-  unfolding plain_replies bare_replies
-  replies-find = table-finds SpellsReply (replies (value_given call)) (
-      value_last-finds SpellsReply (codes "was") Was (λ v h. (h, refl))
+  replies-find : (word : List ℕ) (rest : Rest) (reply : WReply Bytes) → by_word (replies grammar (value_given call)) word rest ≡ Some reply
+      → SpellsReply (joined word rest) reply
+  unfolding own_replies
+  replies-find = table-finds SpellsReply (replies grammar (value_given call)) (
+      handing-finds SpellsReply (codes "no-receivers") (value_given call) NoReceivers (λ v h. ((h, tt), refl))
+      & handing-finds SpellsReply (codes "exhausted") (value_given call) Exhausted (λ v h. ((h, tt), refl))
+      & ended-finds SpellsReply (codes "no-handle") (NoHandle (value_given call)) ((refl, tt), refl)
+      & number_last-finds SpellsReply (codes "new-rx") (λ n. NewRx (rx n)) (λ n h. ((tt, h), refl))
+      & number_last-finds SpellsReply (codes "new-tx") (λ n. NewTx (tx n)) (λ n h. ((tt, h), refl))
+      & number_last-finds SpellsReply (codes "count") Count (λ n h. ((tt, h), refl))
+      & ended-finds SpellsReply (codes "done") Done ((tt, tt), refl)
+      & ended-finds SpellsReply (codes "closed") Closed ((tt, tt), refl)
+      & ended-finds SpellsReply (codes "too-many") TooMany ((tt, tt), refl)
+      & value_last-finds SpellsReply (codes "was") Was (λ v h. ((tt, h), refl))
       & table-entry SpellsReply (codes "shown") shown shown-finds
-      & handing-finds SpellsReply (codes "no-receivers") (value_given call) NoReceivers (λ v h. (h, refl))
-      & handing-finds SpellsReply (codes "exhausted") (value_given call) Exhausted (λ v h. (h, refl))
-      & ended-finds SpellsReply (codes "no-handle") (NoHandle (value_given call)) (refl, refl)
-      & answer-finds SpellsReply (codes "modified") Modified (λ b. (tt, refl))
-      & answer-finds SpellsReply (codes "changed") reply.Changed (λ b. (tt, refl))
-      & answer-finds SpellsReply (codes "gone") Gone (λ b. (tt, refl))
-      & number_last-finds SpellsReply (codes "new-rx") (λ n. NewRx (rx n)) (λ n h. (h, refl))
-      & number_last-finds SpellsReply (codes "new-tx") (λ n. NewTx (tx n)) (λ n h. (h, refl))
-      & number_last-finds SpellsReply (codes "count") Count (λ n h. (h, refl))
-      & ended-finds SpellsReply (codes "done") Done (tt, refl)
-      & ended-finds SpellsReply (codes "marked") Marked (tt, refl)
-      & ended-finds SpellsReply (codes "not-yet") NotYet (tt, refl)
-      & ended-finds SpellsReply (codes "closed") Closed (tt, refl)
-      & ended-finds SpellsReply (codes "too-many") TooMany (tt, refl)
+      & answer-finds SpellsReply (codes "modified") Modified (λ b. ((tt, tt), refl))
+      & answer-finds SpellsReply (codes "changed") reply.Changed (λ b. ((tt, tt), refl))
+      & answer-finds SpellsReply (codes "gone") Gone (λ b. ((tt, tt), refl))
+      & ended-finds SpellsReply (codes "marked") Marked ((tt, tt), refl)
+      & ended-finds SpellsReply (codes "not-yet") NotYet ((tt, tt), refl)
       & tt
       )
 
-  reply-again : (reply : WReply Bytes) → IsReplyTo call reply → by_table (replies (value_given call)) (line (reply_fields reply)) ≡ Some reply
-  unfolding plain_replies bare_replies shown
+  reply-again : (reply : WReply Bytes) → IsReplyTo call reply
+      → by_table (replies grammar (value_given call)) (line (reply_fields reply)) ≡ Some reply
+  unfolding own_replies shown
   reply-again Done h = refl
-  reply-again (NoReceivers v) h = handing-again (value_given call) NoReceivers v h
-  reply-again (Exhausted v) h = handing-again (value_given call) Exhausted v h
-  reply-again (Was v) h = value-again Was v h
+  reply-again (NoReceivers v) h = handing-again (value_given call) NoReceivers v h.0
+  reply-again (Exhausted v) h = handing-again (value_given call) Exhausted v h.0
+  reply-again (Was v) h = value-again Was v h.1
   reply-again (Modified true) h = refl
   reply-again (Modified false) h = refl
-  reply-again (Shown v true) h = value-again (λ v. Shown v true) v h
-  reply-again (Shown v false) h = value-again (λ v. Shown v false) v h
+  reply-again (Shown v true) h = value-again (λ v. Shown v true) v h.1
+  reply-again (Shown v false) h = value-again (λ v. Shown v false) v h.1
   reply-again (reply.Changed true) h = refl
   reply-again (reply.Changed false) h = refl
   reply-again Marked h = refl
@@ -173,21 +170,19 @@ module _ (call : WCall Bytes) where
   reply-again Closed h = refl
   reply-again (Gone true) h = refl
   reply-again (Gone false) h = refl
-  reply-again (NewRx k) h = number_last-again (λ n. NewRx (rx n)) k.0 h
-  reply-again (NewTx k) h = number_last-again (λ n. NewTx (tx n)) k.0 h
-  reply-again (Count n) h = number_last-again Count n h
+  reply-again (NewRx k) h = number_last-again (λ n. NewRx (rx n)) k.0 h.1
+  reply-again (NewTx k) h = number_last-again (λ n. NewTx (tx n)) k.0 h.1
+  reply-again (Count n) h = number_last-again Count n h.1
   reply-again TooMany h = refl
-  reply-again (NoHandle back) h = ap (λ (o : Option Bytes). Some (NoHandle o)) h
+  reply-again (NoHandle back) h = ap (λ (o : Option Bytes). Some (NoHandle o)) h.0
 
   -- what is read is a reply to the call, and the line its spelling
-  pub reply_of-found : (text : List ℕ) (reply : WReply Bytes) → reply_of call text ≡ Some reply → IsReplyTo call reply × (text ≡ reply_line (reply_fields reply))
-  unfolding reply_of
-  reply_of-found text reply h =
-      let b = behind-found (codes "R") (by_table (replies (value_given call))) text reply h in
-      let s = by_table-found SpellsReply (replies (value_given call)) replies-find b.0 reply b.2 in
-      (s.0, b.1 ∙ ap (λ (bytes : List ℕ). codes "R" ++ 32 ∷ bytes) s.1)
+  pub reply_of-found : (text : List ℕ) (reply : WReply Bytes) → reply_of call text ≡ Some reply
+      → IsReplyTo call reply × (text ≡ reply_line (reply_fields reply))
+  unfolding said_reply
+  reply_of-found = spelled-found (codes "R") (IsReplyTo call) (λ r. line (reply_fields r)) (replies grammar (value_given call)) replies-find
 
   -- and a reply's spelling is read as that reply
   pub reply_of-again : (reply : WReply Bytes) → IsReplyTo call reply → reply_of call (reply_line (reply_fields reply)) ≡ Some reply
-  unfolding reply_of
+  unfolding said_reply
   reply_of-again reply h = reply-again reply h

@@ -8,7 +8,7 @@ use Rattle.th_model.specs.declared.broadcast.BReply.TheVariants.{Sent, NoReceive
 use Rattle.th_model.specs.BroadcastPicture.{Picture}
 use Rattle.th_model.specs.Places.{Places}
 use Rattle.th_traces.specs.declared.head.Version.{Version}
-use Rattle.th_traces.specs.Spelled.{Bytes, Told}
+use Rattle.th_traces.specs.Spelled.{Bytes, PictureFields}
 use Rattle.th_traces.specs.Versions.{digit}
 
 -- the fields of a call
@@ -47,7 +47,7 @@ abbrev pub standing : ℕ × ℕ → ℕ × Bytes
 standing rx = (rx.0, decimal rx.1)
 
 -- what lines with these parts tell, in a trace of this version
-abbrev pub told_of : Version → (capacity low tail : ℕ) → List Bytes → Places → List ℕ → ℕ → Told
+abbrev pub told_of : Version → (capacity low tail : ℕ) → List Bytes → Places → List ℕ → ℕ → PictureFields
 told_of version capacity low tail kept places senders next = record {
   head = codes "TRACE" ∷ digit version ∷ codes "B" ∷ decimal capacity ∷ [];
   start = decimal low ∷ decimal tail ∷ [];
@@ -58,7 +58,7 @@ told_of version capacity low tail kept places senders next = record {
 }
 
 -- what the lines of a picture tell, in a trace of this version
-abbrev pub told : Version → Picture Bytes → Told
+abbrev pub told : Version → Picture Bytes → PictureFields
 told version p =
     let w = p.window in
     told_of version w.capacity w.low w.tail w.kept w.places p.senders p.next

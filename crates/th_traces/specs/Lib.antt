@@ -2,12 +2,14 @@ pub mod Spelled
 pub mod Versions
 pub mod Broadcast
 pub mod Watch
+pub mod Tables
+pub mod Grammars
+pub mod BroadcastWords
+pub mod WatchWords
 pub mod Traces
 pub mod ToCome
 pub mod Pieces
-pub mod Tables
-pub mod BroadcastWords
-pub mod WatchWords
+pub mod Spellings
 pub mod Entries
 pub mod Groups
 pub mod Drafts

@@ -9,8 +9,11 @@ use Rattle.th_model.specs.BroadcastPicture as broadcast_picture
 use Rattle.th_model.specs.WatchPicture as watch_picture
 use Rattle.th_lines.specs.Replies.{ended}
 use Rattle.th_traces.specs.Watch as watch
-use Rattle.th_traces.specs.Spelled.{Bytes, Told, end_line, entry_lines, picture_lines, text}
-use Rattle.th_traces.specs.Traces.{broadcast_fields, broadcast_told, watch_fields}
+use Rattle.th_traces.specs.Spelled.{Bytes, PictureFields, end_line, entry_lines, picture_lines, text}
+use Rattle.th_traces.specs.BroadcastWords as broadcast_words
+use Rattle.th_traces.specs.WatchWords as watch_words
+use Rattle.th_traces.specs.Grammars.{fields}
+use Rattle.th_traces.specs.Traces.{broadcast_told}
 
 -- both lines of an entry
 abbrev pub entry_piece : List Bytes × List Bytes → List ℕ
@@ -26,18 +29,18 @@ abbrev pub pieces : List Bytes → List (List Bytes × List Bytes) → Option �
 pieces lines entries end = map ended lines ++ (map entry_piece entries ++ end_pieces end)
 
 -- of a whole trace
-abbrev pub trace_pieces : Told → List (List Bytes × List Bytes) → List (List ℕ)
+abbrev pub trace_pieces : PictureFields → List (List Bytes × List Bytes) → List (List ℕ)
 trace_pieces t entries = pieces (picture_lines t) entries (Some (length entries))
 
 -- the pieces of a broadcast trace
 abbrev pub broadcast_pieces : broadcast_picture.Picture Bytes
     → List (BCall Bytes × BReply Bytes) → List (List ℕ)
-broadcast_pieces p entries = trace_pieces (broadcast_told p entries) (broadcast_fields entries)
+broadcast_pieces p entries = trace_pieces (broadcast_told p entries) (fields broadcast_words.grammar entries)
 
 -- the pieces of a watch trace
 abbrev pub watch_pieces : watch_picture.Picture Bytes → List (WCall Bytes × WReply Bytes)
     → List (List ℕ)
-watch_pieces p entries = trace_pieces (watch.told p) (watch_fields entries)
+watch_pieces p entries = trace_pieces (watch.told p) (fields watch_words.grammar entries)
 
 -- the first of the pieces to come was appended, or there was none, or no memory for it
 abbrev pub PrintsPiece : {E : Type 0} → (to_come after : List (List ℕ)) → (old new : List ℕ)

@@ -15,7 +15,7 @@ line fields = join_with_byte 32 fields
 -- What the lines of a picture tell: the fields of the first line, and of where the picture starts;
 -- the next handle number; the kept values; the live senders; and of each live receiver how it
 -- stands.
-pub record Told : Type 0 where
+pub record PictureFields : Type 0 where
   pub head : List Bytes
   pub start : List Bytes
   pub next : ℕ
@@ -23,7 +23,7 @@ pub record Told : Type 0 where
   pub senders : List ℕ
   pub receivers : List (ℕ × Bytes)
 
-abbrev pub start_line : Told → Bytes
+abbrev pub start_line : PictureFields → Bytes
 start_line t = line (codes "AT" ∷ (t.start ++ codes "NEXT" ∷ decimal t.next ∷ []))
 
 abbrev pub kept_line : Bytes → Bytes
@@ -36,14 +36,14 @@ abbrev pub receiver_line : ℕ × Bytes → Bytes
 receiver_line rx = line (codes "RX" ∷ decimal rx.0 ∷ rx.1 ∷ [])
 
 -- the lines below that of the start
-abbrev pub body_lines : Told → List Bytes
+abbrev pub body_lines : PictureFields → List Bytes
 body_lines t =
     map kept_line t.kept
     ++ (map sender_line t.senders
     ++ (map receiver_line t.receivers ++ codes "BEGIN" ∷ []))
 
 -- the lines of a picture
-abbrev pub picture_lines : Told → List Bytes
+abbrev pub picture_lines : PictureFields → List Bytes
 picture_lines t = line t.head ∷ start_line t ∷ body_lines t
 
 abbrev pub call_line : List Bytes → Bytes
@@ -61,7 +61,7 @@ abbrev pub end_line : ℕ → Bytes
 end_line count = line (codes "END" ∷ decimal count ∷ [])
 
 -- the lines of a whole trace: the picture, the entries, and how many they are
-abbrev pub trace_lines : Told → List (List Bytes × List Bytes) → List Bytes
+abbrev pub trace_lines : PictureFields → List (List Bytes × List Bytes) → List Bytes
 trace_lines t entries = picture_lines t ++ (entry_lines entries ++ end_line (length entries) ∷ [])
 
 -- lines as a text, each with its end

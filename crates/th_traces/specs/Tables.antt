@@ -1,11 +1,20 @@
 -- How the lines of a trace are read: by tables of words (docs/FORMATS.md, "Traces").
-use Rattle.std.specs.Prelude.{ℕ, ◌<◌, ◌^◌, Bool, true, List, [], ◌∷◌, Option, Some, None}
-use Rattle.th_lines.specs.Fields.{Rest, cut, ended, last, number_then, value_last, by_word}
+use Rattle.std.specs.Prelude.{ℕ, ◌<◌, ◌^◌, Bool, true, List, [], ◌∷◌, map, Option, Some, None}
+use Rattle.th_model.specs.declared.handles.RxId.{RxId}
+use Rattle.th_model.specs.declared.handles.TxId.{TxId}
+use Rattle.th_lines.specs.Fields.{Rest, cut, ended, last, number_last, number_then, value_last, by_word}
 use Rattle.th_traces.specs.Spelled.{Bytes}
 
 -- words, each with what reads the fields behind it
 abbrev pub Table : Type 0 → Type 0
 Table A = List (Bytes × (Rest → Option A))
+
+-- the handles with a number
+abbrev pub tx : ℕ → TxId
+tx number = record { 0 = number }
+
+abbrev pub rx : ℕ → RxId
+rx number = record { 0 = number }
 
 abbrev pub IsNumber : ℕ → Type 0
 IsNumber n = n < 2 ^ 64
@@ -14,6 +23,10 @@ module _ {A : Type 0} where
   -- what a table reads in some bytes
   abbrev pub by_table : Table A → List ℕ → Option A
   by_table table bytes = by_word table (cut bytes).0 (cut bytes).1
+
+  -- words before a number that is the last field
+  abbrev pub numbered : List (Bytes × (ℕ → A)) → Table A
+  numbered entries = map (λ e. (e.0, number_last e.1)) entries
 
   -- a number and a value as the last fields
   abbrev pub number_value_last : (ℕ → Bytes → A) → Rest → Option A

@@ -2,12 +2,12 @@
 use Rattle.std.specs.Prelude.{◌≡◌, ℕ, Bool, true, false, List, [], ◌∷◌, ◌++◌, Option, Some, None, Result, Ok, Err}
 use Rattle.std.specs.Borrow.{Bor}
 use Rattle.th_lines.specs.Replies.{ended}
-use Rattle.th_traces.specs.Spelled.{Bytes, Told, start_line, body_lines, picture_lines}
+use Rattle.th_traces.specs.Spelled.{Bytes, PictureFields, start_line, body_lines, picture_lines}
 use Rattle.th_traces.specs.declared.stage.Stage.{Stage}
 use Rattle.th_traces.specs.declared.stage.Stage.TheVariants.{Head, Start, Body, Begun}
 
 -- at a stage, where the picture's lists are what is left of them
-abbrev pub to_come : Stage → Told → List Bytes
+abbrev pub to_come : Stage → PictureFields → List Bytes
 to_come Head t = picture_lines t
 to_come Start t = start_line t ∷ body_lines t
 to_come Body t = body_lines t

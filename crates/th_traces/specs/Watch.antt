@@ -10,7 +10,7 @@ use Rattle.th_model.specs.declared.watch.WReply.TheVariants.{Done, NoReceivers, 
 use Rattle.th_model.specs.declared.watch.WReply.TheVariants as reply
 use Rattle.th_model.specs.WatchMachine.{Kept}
 use Rattle.th_model.specs.WatchPicture.{Picture}
-use Rattle.th_traces.specs.Spelled.{Bytes, Told}
+use Rattle.th_traces.specs.Spelled.{Bytes, PictureFields}
 
 -- the word of an edit
 abbrev pub edit_word : Edit Bytes → Bytes
@@ -79,7 +79,7 @@ abbrev pub standing : ℕ × Bool → ℕ × Bytes
 standing rx = (rx.0, seen_or_unseen rx.1)
 
 -- what lines with these parts tell
-abbrev pub told_of : ℕ → List Bytes → Kept Bool → List ℕ → ℕ → Told
+abbrev pub told_of : ℕ → List Bytes → Kept Bool → List ℕ → ℕ → PictureFields
 told_of version kept readers senders next = record {
   head = codes "TRACE" ∷ codes "1" ∷ codes "W" ∷ [];
   start = decimal version ∷ [];
@@ -90,5 +90,5 @@ told_of version kept readers senders next = record {
 }
 
 -- what the lines of a picture tell
-abbrev pub told : Picture Bytes → Told
+abbrev pub told : Picture Bytes → PictureFields
 told p = told_of p.version (p.last ∷ []) p.readers p.senders p.next

@@ -1,9 +1,7 @@
 -- Calls and replies of a watch channel, as they are read (docs/FORMATS.md, "Traces").
-use Rattle.std.specs.Prelude.{◌≡◌, ℕ, Bool, true, false, List, [], ◌∷◌, codes, Option, Some, None, is_some, if◌then◌else◌}
+use Rattle.std.specs.Prelude.{◌≡◌, ℕ, Bool, true, false, List, [], ◌∷◌, codes, Option, Some, None, if◌then◌else◌}
 use Rattle.std.specs.Option.{option_map}
 use Rattle.std.specs.Str.{bytes_eq}
-use Rattle.th_model.specs.declared.handles.RxId.{RxId}
-use Rattle.th_model.specs.declared.handles.TxId.{TxId}
 use Rattle.th_model.specs.declared.watch.Edit.TheVariants.{Set, Differ, Quiet}
 use Rattle.th_model.specs.declared.watch.WCall.{WCall}
 use Rattle.th_model.specs.declared.watch.WCall.TheVariants.{Send, Replace, EditBy, Borrow, Take, HasChanged, TryChanged, Changed, MarkChanged, MarkUnchanged, Subscribe, CloneRx, CloneTx, DropTx, DropRx, IsClosed, Readers}
@@ -11,16 +9,11 @@ use Rattle.th_model.specs.declared.watch.WReply.{WReply}
 use Rattle.th_model.specs.declared.watch.WReply.TheVariants.{Done, NoReceivers, Exhausted, Was, Modified, Shown, Marked, NotYet, Closed, Gone, NewRx, NewTx, Count, TooMany, NoHandle}
 use Rattle.th_model.specs.declared.watch.WReply.TheVariants as reply
 use Rattle.th_lines.specs.Commands.{IsValue}
-use Rattle.th_lines.specs.Fields.{Rest, by_word, ended, field_then, number_last, value_last}
+use Rattle.th_lines.specs.Fields.{Rest, by_word, ended, field_then, value_last}
 use Rattle.th_traces.specs.Spelled.{Bytes}
-use Rattle.th_traces.specs.Tables.{IsNumber, Table, behind, by_table, handing, number_value_last}
-use Rattle.th_traces.specs.Watch.{edit_value}
-
-abbrev tx : ℕ → TxId
-tx number = record { 0 = number }
-
-abbrev rx : ℕ → RxId
-rx number = record { 0 = number }
+use Rattle.th_traces.specs.Grammars.{Grammar, reply_of as said_reply}
+use Rattle.th_traces.specs.Tables.{IsNumber, Table, behind, by_table, number_value_last, numbered, rx, tx}
+use Rattle.th_traces.specs.Watch.{call_fields, edit_value, reply_fields}
 
 abbrev pub send : ℕ → Bytes → WCall Bytes
 send number value = Send (tx number) value
@@ -38,27 +31,27 @@ abbrev pub quiet : ℕ → Bytes → WCall Bytes
 quiet number value = EditBy (tx number) (Quiet value)
 
 -- the calls of handles that a number alone follows: of both kinds, and of senders
-unfoldable pub handle_calls : Table (WCall Bytes)
+unfoldable pub handle_calls : List (Bytes × (ℕ → WCall Bytes))
 handle_calls =
-    (codes "subscribe", number_last (λ n. Subscribe (tx n)))
-    ∷ (codes "clone-rx", number_last (λ n. CloneRx (rx n)))
-    ∷ (codes "clone-tx", number_last (λ n. CloneTx (tx n)))
-    ∷ (codes "drop-tx", number_last (λ n. DropTx (tx n)))
-    ∷ (codes "drop-rx", number_last (λ n. DropRx (rx n)))
-    ∷ (codes "is-closed", number_last (λ n. IsClosed (tx n)))
-    ∷ (codes "readers", number_last (λ n. Readers (tx n)))
+    (codes "subscribe", λ n. Subscribe (tx n))
+    ∷ (codes "clone-rx", λ n. CloneRx (rx n))
+    ∷ (codes "clone-tx", λ n. CloneTx (tx n))
+    ∷ (codes "drop-tx", λ n. DropTx (tx n))
+    ∷ (codes "drop-rx", λ n. DropRx (rx n))
+    ∷ (codes "is-closed", λ n. IsClosed (tx n))
+    ∷ (codes "readers", λ n. Readers (tx n))
     ∷ []
 
 -- the calls that a handle's number alone follows: looks at the value and its mark, and those
-unfoldable pub number_calls : Table (WCall Bytes)
+unfoldable pub number_calls : List (Bytes × (ℕ → WCall Bytes))
 number_calls =
-    (codes "borrow", number_last (λ n. Borrow (rx n)))
-    ∷ (codes "take", number_last (λ n. Take (rx n)))
-    ∷ (codes "has-changed", number_last (λ n. HasChanged (rx n)))
-    ∷ (codes "try-changed", number_last (λ n. TryChanged (rx n)))
-    ∷ (codes "changed", number_last (λ n. Changed (rx n)))
-    ∷ (codes "mark-changed", number_last (λ n. MarkChanged (rx n)))
-    ∷ (codes "mark-unchanged", number_last (λ n. MarkUnchanged (rx n)))
+    (codes "borrow", λ n. Borrow (rx n))
+    ∷ (codes "take", λ n. Take (rx n))
+    ∷ (codes "has-changed", λ n. HasChanged (rx n))
+    ∷ (codes "try-changed", λ n. TryChanged (rx n))
+    ∷ (codes "changed", λ n. Changed (rx n))
+    ∷ (codes "mark-changed", λ n. MarkChanged (rx n))
+    ∷ (codes "mark-unchanged", λ n. MarkUnchanged (rx n))
     ∷ handle_calls
 
 abbrev pub calls : Table (WCall Bytes)
@@ -68,7 +61,7 @@ calls =
     ∷ (codes "set", number_value_last set)
     ∷ (codes "differ", number_value_last differ)
     ∷ (codes "quiet", number_value_last quiet)
-    ∷ number_calls
+    ∷ numbered number_calls
 
 -- the call that a line says
 unfoldable pub call_of : List ℕ → Option (WCall Bytes)
@@ -81,9 +74,6 @@ value_given (Replace tx value) = Some value
 value_given (EditBy tx edit) = Some (edit_value edit)
 value_given call = None
 
-abbrev pub gives_value : WCall Bytes → Bool
-gives_value call = is_some (value_given call)
-
 -- `yes` or `no` as the last field
 abbrev pub yes_or_no : Bytes → Rest → Option Bool
 yes_or_no word rest =
@@ -94,27 +84,6 @@ yes_or_no word rest =
 abbrev pub answer_last : (Bool → WReply Bytes) → Rest → Option (WReply Bytes)
 answer_last read rest = option_map read (field_then yes_or_no rest)
 
--- the replies that nothing follows
-unfoldable pub bare_replies : Table (WReply Bytes)
-bare_replies =
-    (codes "done", ended Done)
-    ∷ (codes "marked", ended Marked)
-    ∷ (codes "not-yet", ended NotYet)
-    ∷ (codes "closed", ended Closed)
-    ∷ (codes "too-many", ended TooMany)
-    ∷ []
-
--- the replies that have no value
-unfoldable pub plain_replies : Table (WReply Bytes)
-plain_replies =
-    (codes "modified", answer_last Modified)
-    ∷ (codes "changed", answer_last reply.Changed)
-    ∷ (codes "gone", answer_last Gone)
-    ∷ (codes "new-rx", number_last (λ n. NewRx (rx n)))
-    ∷ (codes "new-tx", number_last (λ n. NewTx (tx n)))
-    ∷ (codes "count", number_last Count)
-    ∷ bare_replies
-
 -- a value that was unseen, or seen already
 unfoldable pub shown : Table (WReply Bytes)
 shown =
@@ -122,28 +91,40 @@ shown =
     ∷ (codes "same", value_last (λ value. Shown value false))
     ∷ []
 
--- the replies to a call that gives this value, or none
-abbrev pub replies : Option Bytes → Table (WReply Bytes)
-replies given =
+-- the replies that a broadcast channel does not have
+unfoldable pub own_replies : Table (WReply Bytes)
+own_replies =
     (codes "was", value_last Was)
     ∷ (codes "shown", field_then (by_word shown))
-    ∷ (codes "no-receivers", handing given NoReceivers)
-    ∷ (codes "exhausted", handing given Exhausted)
-    ∷ (codes "no-handle", ended (NoHandle given))
-    ∷ plain_replies
+    ∷ (codes "modified", answer_last Modified)
+    ∷ (codes "changed", answer_last reply.Changed)
+    ∷ (codes "gone", answer_last Gone)
+    ∷ (codes "marked", ended Marked)
+    ∷ (codes "not-yet", ended NotYet)
+    ∷ []
+
+-- the lines of entries
+abbrev pub grammar : Grammar (Unit {0}) (WCall Bytes) (WReply Bytes)
+grammar = record {
+  call_fields = call_fields;
+  reply_fields = reply_fields;
+  call_of = λ form. call_of;
+  value_given = value_given;
+  no_receivers = NoReceivers;
+  exhausted = Exhausted;
+  no_handle = NoHandle;
+  new_rx = λ n. NewRx (rx n);
+  new_tx = λ n. NewTx (tx n);
+  count = Count;
+  done = Done;
+  closed = Closed;
+  too_many = TooMany;
+  own = own_replies;
+}
 
 -- the reply to this call that a line says
-unfoldable pub reply_of : WCall Bytes → List ℕ → Option (WReply Bytes)
-reply_of call line = behind (codes "R") (by_table (replies (value_given call))) line
-
--- the replies that have a value: memory may be asked for it
-abbrev pub has_value : WReply Bytes → Bool
-has_value (Was value) = true
-has_value (Shown value unseen) = true
-has_value (NoReceivers back) = true
-has_value (Exhausted back) = true
-has_value (NoHandle back) = is_some back
-has_value reply = false
+abbrev pub reply_of : WCall Bytes → List ℕ → Option (WReply Bytes)
+reply_of = said_reply grammar
 
 -- the number and the value of a call are such
 abbrev pub IsCall : WCall Bytes → Type 0
@@ -165,14 +146,22 @@ IsCall (DropRx rx) = IsNumber rx.0
 IsCall (IsClosed tx) = IsNumber tx.0
 IsCall (Readers tx) = IsNumber tx.0
 
--- what is a reply to a call: its number or value is such, and it hands back the call's own value
+-- the number or the value of a reply is such
+abbrev pub ReplyFits : WReply Bytes → Type 0
+ReplyFits (Was value) = IsValue value
+ReplyFits (Shown value unseen) = IsValue value
+ReplyFits (NewRx rx) = IsNumber rx.0
+ReplyFits (NewTx tx) = IsNumber tx.0
+ReplyFits (Count n) = IsNumber n
+ReplyFits reply = Unit {0}
+
+-- what is handed back is the call's own value
+abbrev pub HandsBack : WCall Bytes → WReply Bytes → Type 0
+HandsBack call (NoReceivers back) = value_given call ≡ Some back
+HandsBack call (Exhausted back) = value_given call ≡ Some back
+HandsBack call (NoHandle back) = value_given call ≡ back
+HandsBack call reply = Unit {0}
+
+-- what is a reply to a call
 abbrev pub IsReplyTo : WCall Bytes → WReply Bytes → Type 0
-IsReplyTo call (NoReceivers back) = value_given call ≡ Some back
-IsReplyTo call (Exhausted back) = value_given call ≡ Some back
-IsReplyTo call (Was value) = IsValue value
-IsReplyTo call (Shown value unseen) = IsValue value
-IsReplyTo call (NewRx rx) = IsNumber rx.0
-IsReplyTo call (NewTx tx) = IsNumber tx.0
-IsReplyTo call (Count n) = IsNumber n
-IsReplyTo call (NoHandle back) = value_given call ≡ back
-IsReplyTo call reply = Unit {0}
+IsReplyTo call reply = HandsBack call reply × ReplyFits reply

@@ -1,44 +1,20 @@
 //! Calls of a broadcast channel, read.
 ghost use Rattle.std.specs.Prelude.{◌≡◌, ℕ, List, Some};
-ghost use Rattle.std.specs.Option.{option_map};
 ghost use Rattle.th_lines.specs.Fields.{by_word, number_of};
 ghost use Rattle.th_lines.specs.Reads.{Reads, rest_of};
-ghost use Rattle.th_traces.specs.BroadcastWords.{call_of, calls, gives_value, handle_calls, number_calls, value_given};
+ghost use Rattle.th_traces.specs.BroadcastWords.{calls, grammar, handle_calls, number_calls};
+ghost use Rattle.th_traces.specs.Grammars.{gives_value};
+ghost use Rattle.th_traces.specs.Tables.{numbered};
 ghost use Rattle.th_traces.specs.Versions.{has_call};
 
-use crate::fields::{behind_letter, last_number, number_and_value};
+use crate::fields::{last_number, number_and_value};
 use crate::head::Version;
 use std::alloc::Global;
 use th_lines::LineFault;
-use th_lines::fields::cut;
 use th_model::{BCall, RxId, TxId, Value};
 
-/// The call that a line says in a trace of this version, without its line end. Linear in the line.
-///
-/// # Errors
-///
-/// `BadLine` where it says none; `Short` where it does, and memory for the call's value was refused.
-#[tactic(auto, unfolding(crate::specs::BroadcastWords::call_of))]
-pub fn read_broadcast_call(
-    alloc: Global,
-    version: Version,
-    line: &[u8],
-) -> Result<BCall<Value>, LineFault>
-    ensures { Reads gives_value result (call_of version line.now) }
-{
-    let Some(bytes) = behind_letter(line, b'C') else {
-        return Err(LineFault::BadLine);
-    };
-    let (word, rest) = cut(bytes);
-    match by_word(alloc, word, rest) {
-        Ok(call) if has_call(version, &call) => Ok(call),
-        Ok(_) => Err(LineFault::BadLine),
-        Err(fault) => Err(fault),
-    }
-}
-
 // Whether traces of the version have the call.
-fn has_call(version: Version, call: &BCall<Value>) -> bool
+pub fn has_call(version: Version, call: &BCall<Value>) -> bool
     ensures { result ≡ has_call version call.now }
 {
     match call {
@@ -47,19 +23,9 @@ fn has_call(version: Version, call: &BCall<Value>) -> bool
     }
 }
 
-// The value that a call gives.
-pub(crate) fn value_given(call: &BCall<Value>) -> Option<&Value>
-    ensures { option_map (λ value. value.now) result ≡ value_given call.now }
-{
-    match call {
-        BCall::Send(_, value) => Some(value),
-        _ => None,
-    }
-}
-
 // The call of this word.
-fn by_word(alloc: Global, word: &[u8], rest: Option<&[u8]>) -> Result<BCall<Value>, LineFault>
-    ensures { Reads gives_value result (by_word calls word.now (rest_of rest.entry)) }
+pub fn by_word(alloc: Global, word: &[u8], rest: Option<&[u8]>) -> Result<BCall<Value>, LineFault>
+    ensures { Reads (gives_value grammar) result (by_word calls word.now (rest_of rest.entry)) }
 {
     if word == b"send".as_slice() {
         return match number_and_value(alloc, rest) {
@@ -75,7 +41,7 @@ fn by_word(alloc: Global, word: &[u8], rest: Option<&[u8]>) -> Result<BCall<Valu
 
 // The call of this word, where a handle's number alone is to follow it.
 fn by_number(word: &[u8], rest: Option<&[u8]>) -> Option<BCall<Value>>
-    ensures { result ≡ by_word number_calls word.now (rest_of rest.entry) }
+    ensures { result ≡ by_word (numbered number_calls) word.now (rest_of rest.entry) }
 {
     with_number(word, last_number(rest)?)
 }
@@ -84,7 +50,7 @@ fn by_number(word: &[u8], rest: Option<&[u8]>) -> Option<BCall<Value>>
 #[tactic(auto, unfolding(crate::specs::BroadcastWords::number_calls))]
 fn with_number(word: &[u8], n: u64) -> Option<BCall<Value>>
     ensures { (digits : List ℕ) → number_of digits ≡ Some n
-        → result ≡ by_word number_calls word.now (Some digits) }
+        → result ≡ by_word (numbered number_calls) word.now (Some digits) }
 {
     if word == b"try-recv".as_slice() {
         return Some(BCall::TryRecv(RxId(n)));
@@ -108,7 +74,7 @@ fn with_number(word: &[u8], n: u64) -> Option<BCall<Value>>
 #[tactic(auto, unfolding(crate::specs::BroadcastWords::handle_calls))]
 fn by_handle(word: &[u8], n: u64) -> Option<BCall<Value>>
     ensures { (digits : List ℕ) → number_of digits ≡ Some n
-        → result ≡ by_word handle_calls word.now (Some digits) }
+        → result ≡ by_word (numbered handle_calls) word.now (Some digits) }
 {
     if word == b"clone-tx".as_slice() {
         return Some(BCall::CloneTx(TxId(n)));

@@ -4,12 +4,12 @@ ghost use Rattle.std.specs.Fmt.{decimal};
 ghost use Rattle.th_lines.specs.Replies.{ended};
 ghost use Rattle.th_traces.specs.Broadcast.{told};
 ghost use Rattle.th_traces.specs.Spelled.{picture_lines};
-ghost use Rattle.th_traces.specs.ToCome.{PrintsNext};
 ghost use Rattle.th_traces.specs.declared.head.Version.{Version};
 
 use crate::head::Version;
 use crate::put::{put_number, put_numbers, put_value, put_words};
 use crate::stage::Stage;
+use crate::trace::PictureLines;
 use itoa::Buffer;
 use std::alloc::AllocError;
 use std::collections::{btree_map, btree_set, vec_deque};
@@ -87,16 +87,12 @@ impl<'a> BroadcastLines<'a> {
         let handles = picture.senders().len() + window.places().len();
         handles as u64 + window.kept().len() as u64 + 3
     }
+}
 
-    /// Appends the next line, and says whether there was one. Where there is no memory for it, the
-    /// text is left as it was, and so are the lines to come. There is, where 4,096 bytes are free: no
-    /// line has more.
-    pub fn print_next(&mut self, out: &mut Vec<u8>) -> Result<bool, AllocError>
-        ensures printed { PrintsNext self.old self.new out.old.items out.new.items result }
-        ensures most { vec_len out.new ≤ vec_len out.old + 4096 }
-        ensures fits { vec_len out.old + 4096 ≤ vec_capacity out.old → IsOk result }
-        ensures room { vec_capacity out.old ≤ vec_capacity out.new }
-    {
+impl<'a> PictureLines for BroadcastLines<'a> {
+    ghost to_come = { λ lines. lines };
+
+    fn print_next(&mut self, out: &mut Vec<u8>) -> Result<bool, AllocError> {
         out.reserve(4096)?;
         match self.stage {
             Stage::Head => {

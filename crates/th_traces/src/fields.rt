@@ -1,9 +1,8 @@
 //! The words at the front of a line, and its last fields.
-ghost use Rattle.std.specs.Prelude.{◌≡◌, ◌≢◌, ◌++◌, ◌∷◌, [], ℕ, List, IfOk, OnErr, Err, MatchOption, is_some};
-ghost use Rattle.std.specs.Option.{option_map};
+ghost use Rattle.std.specs.Prelude.{◌≡◌, ◌≢◌, ◌++◌, ◌∷◌, [], ℕ, List, MatchOption, is_some};
 ghost use Rattle.th_lines.specs.Fields.{number_last, number_then, value_last};
 ghost use Rattle.th_lines.specs.Reads.{Reads, each_value, rest_of};
-ghost use Rattle.th_traces.specs.Tables.{each_pair, handing, number_value_last};
+ghost use Rattle.th_traces.specs.Tables.{each_pair, number_value_last};
 
 use std::alloc::Global;
 use th_lines::LineFault;
@@ -36,6 +35,13 @@ pub fn last_number(rest: Option<&[u8]>) -> Option<u64>
     ensures { result ≡ number_last (λ n. n) (rest_of rest.entry) }
 {
     number(rest?)
+}
+
+// Whether a number is the last field.
+pub fn is_last_number(rest: Option<&[u8]>) -> bool
+    ensures { result ≡ is_some (number_last (λ n. n) (rest_of rest.entry)) }
+{
+    last_number(rest).is_some()
 }
 
 // Two numbers as the last fields.
@@ -81,29 +87,4 @@ pub fn number_and_value(alloc: Global, rest: Option<&[u8]>) -> Result<(u64, Valu
         Ok(value) => Ok((n, value)),
         Err(fault) => Err(fault),
     }
-}
-
-// The same value once more.
-pub fn share(value: &Value) -> Result<Value, LineFault>
-    ensures same { IfOk result (λ shared. shared ≡ value.now) }
-    ensures short { OnErr result (result ≡ Err LineFault.Short) }
-{
-    match value.clone() {
-        Ok(shared) => Ok(shared),
-        Err(_) => Err(LineFault::Short),
-    }
-}
-
-// The value that a call gave, handed back where nothing follows.
-pub fn handed_back(given: Option<&Value>, rest: Option<&[u8]>) -> Result<Value, LineFault>
-    ensures { let back = option_map (λ value. value.now) given.entry in
-        Reads each_value result (handing back (λ value. value) (rest_of rest.entry)) }
-{
-    let Some(value) = given else {
-        return Err(LineFault::BadLine);
-    };
-    if rest.is_some() {
-        return Err(LineFault::BadLine);
-    }
-    share(value)
 }

@@ -2,7 +2,9 @@
 ghost use Rattle.std.specs.Prelude.{◌≡◌, ◌+◌, ◌≤◌, ◌++◌, ◌∷◌, length, vec_len, vec_capacity};
 ghost use Rattle.std.specs.Fmt.{decimal};
 ghost use Rattle.th_lines.specs.Replies.{ended};
+ghost use Rattle.th_traces.specs.Spellings.{IsShort, spelled};
 
+use crate::spelling::Spelling;
 use itoa::Buffer;
 use th_model::Value;
 
@@ -91,4 +93,20 @@ pub fn put_numbers(words: &[u8], n: u64, more: &[u8], m: u64, out: &mut Vec<u8>)
     let _ = out.extend_from_slice(more);
     let _ = out.extend_from_slice(second.format(m).as_bytes());
     out.push_reserved(b'\n');
+}
+
+// Appends a line.
+#[inline(always)]
+pub fn put_spelling(spelling: Spelling<'_>, out: &mut Vec<u8>)
+    requires short { IsShort spelling }
+    requires free { vec_len out.old + 2000 ≤ vec_capacity out.old }
+    ensures text { out.new.items ≡ out.old.items ++ ended (spelled spelling.entry) }
+    ensures most { vec_len out.new ≤ vec_len out.old + 2000 }
+    ensures room { vec_capacity out.old ≤ vec_capacity out.new }
+{
+    match spelling {
+        Spelling::Words(words) => put_words(words, b"", out),
+        Spelling::Number(words, n) => put_number(words, n, out),
+        Spelling::OfValue(words, value) => put_value(words, value, out),
+    }
 }

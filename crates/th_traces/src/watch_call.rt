@@ -1,50 +1,20 @@
 //! Calls of a watch channel, read.
 ghost use Rattle.std.specs.Prelude.{◌≡◌, ℕ, List, Some, false};
-ghost use Rattle.std.specs.Option.{option_map};
 ghost use Rattle.th_lines.specs.Fields.{Rest, by_word, number_of};
 ghost use Rattle.th_lines.specs.Reads.{Reads, rest_of};
-ghost use Rattle.th_traces.specs.WatchWords.{call_of, calls, gives_value, handle_calls, number_calls, value_given};
+ghost use Rattle.th_traces.specs.WatchWords.{calls, grammar, handle_calls, number_calls};
+ghost use Rattle.th_traces.specs.Grammars.{gives_value};
+ghost use Rattle.th_traces.specs.Tables.{numbered};
 
-use crate::fields::{behind_letter, last_number, number_and_value};
+use crate::fields::{last_number, number_and_value};
 use std::alloc::Global;
 use th_lines::LineFault;
-use th_lines::fields::cut;
 use th_model::{Edit, RxId, TxId, Value, WCall};
-
-/// The call that a line says, without its line end. Linear in the line.
-///
-/// # Errors
-///
-/// `BadLine` where it says none; `Short` where it does, and memory for the call's value was refused.
-#[tactic(auto, unfolding(crate::specs::WatchWords::call_of))]
-pub fn read_watch_call(alloc: Global, line: &[u8]) -> Result<WCall<Value>, LineFault>
-    ensures { Reads gives_value result (call_of line.now) }
-{
-    let Some(bytes) = behind_letter(line, b'C') else {
-        return Err(LineFault::BadLine);
-    };
-    let (word, rest) = cut(bytes);
-    by_word(alloc, word, rest)
-}
-
-// The value that a call gives.
-pub(crate) fn value_given(call: &WCall<Value>) -> Option<&Value>
-    ensures { option_map (λ value. value.now) result ≡ value_given call.now }
-{
-    match call {
-        WCall::Send(_, value) => Some(value),
-        WCall::Replace(_, value) => Some(value),
-        WCall::EditBy(_, Edit::Set(value)) => Some(value),
-        WCall::EditBy(_, Edit::Differ(value)) => Some(value),
-        WCall::EditBy(_, Edit::Quiet(value)) => Some(value),
-        _ => None,
-    }
-}
 
 // The call of this word. Where no value follows, which is the most, only the number is read here.
 #[inline(always)]
-fn by_word(alloc: Global, word: &[u8], rest: Option<&[u8]>) -> Result<WCall<Value>, LineFault>
-    ensures { Reads gives_value result (by_word calls word.now (rest_of rest.entry)) }
+pub fn by_word(alloc: Global, word: &[u8], rest: Option<&[u8]>) -> Result<WCall<Value>, LineFault>
+    ensures { Reads (gives_value grammar) result (by_word calls word.now (rest_of rest.entry)) }
 {
     if is_with_value(word) {
         return by_any_word(alloc, word, rest);
@@ -59,7 +29,7 @@ fn by_word(alloc: Global, word: &[u8], rest: Option<&[u8]>) -> Result<WCall<Valu
 #[inline(always)]
 fn is_with_value(word: &[u8]) -> bool
     ensures { result ≡ false → (rest : Rest)
-        → by_word calls word.now rest ≡ by_word number_calls word.now rest }
+        → by_word calls word.now rest ≡ by_word (numbered number_calls) word.now rest }
 {
     word == b"send".as_slice()
         || word == b"replace".as_slice()
@@ -71,7 +41,7 @@ fn is_with_value(word: &[u8]) -> bool
 // The call of this word, whichever it is. It stands by itself, so that calls without a value make no room for one.
 #[inline(never)]
 fn by_any_word(alloc: Global, word: &[u8], rest: Option<&[u8]>) -> Result<WCall<Value>, LineFault>
-    ensures { Reads gives_value result (by_word calls word.now (rest_of rest.entry)) }
+    ensures { Reads (gives_value grammar) result (by_word calls word.now (rest_of rest.entry)) }
 {
     if word == b"send".as_slice() {
         return match number_and_value(alloc, rest) {
@@ -112,7 +82,7 @@ fn by_any_word(alloc: Global, word: &[u8], rest: Option<&[u8]>) -> Result<WCall<
 // The call of this word, where a handle's number alone is to follow it.
 #[inline(always)]
 fn by_number(word: &[u8], rest: Option<&[u8]>) -> Option<WCall<Value>>
-    ensures { result ≡ by_word number_calls word.now (rest_of rest.entry) }
+    ensures { result ≡ by_word (numbered number_calls) word.now (rest_of rest.entry) }
 {
     with_number(word, last_number(rest)?)
 }
@@ -122,7 +92,7 @@ fn by_number(word: &[u8], rest: Option<&[u8]>) -> Option<WCall<Value>>
 #[inline(always)]
 fn with_number(word: &[u8], n: u64) -> Option<WCall<Value>>
     ensures { (digits : List ℕ) → number_of digits ≡ Some n
-        → result ≡ by_word number_calls word.now (Some digits) }
+        → result ≡ by_word (numbered number_calls) word.now (Some digits) }
 {
     if word == b"borrow".as_slice() {
         return Some(WCall::Borrow(RxId(n)));
@@ -153,7 +123,7 @@ fn with_number(word: &[u8], n: u64) -> Option<WCall<Value>>
 #[inline(always)]
 fn by_handle(word: &[u8], n: u64) -> Option<WCall<Value>>
     ensures { (digits : List ℕ) → number_of digits ≡ Some n
-        → result ≡ by_word handle_calls word.now (Some digits) }
+        → result ≡ by_word (numbered handle_calls) word.now (Some digits) }
 {
     if word == b"subscribe".as_slice() {
         return Some(WCall::Subscribe(TxId(n)));

@@ -1,100 +1,145 @@
-//! The entries of a watch channel's trace, printed.
-ghost use Rattle.std.specs.Prelude.{◌≡◌, ◌+◌, ◌≤◌, ◌∷◌, [], ◌++◌, IsOk, OnOk, OnErr, vec_len, vec_capacity};
-ghost use Rattle.th_lines.specs.Replies.{ended};
-ghost use Rattle.th_traces.specs.Spelled.{call_line, entry_lines, reply_line, text};
-ghost use Rattle.th_traces.specs.Watch.{call_fields, reply_fields};
+//! The entries of a watch channel's trace.
+ghost use Rattle.std.specs.Prelude.{◌≡◌, is_some};
+ghost use Rattle.th_lines.specs.Fields.{by_word, field_then};
+ghost use Rattle.th_lines.specs.Reads.{rest_of};
+ghost use Rattle.th_traces.specs.WatchWords.{shown, yes_or_no};
 
-use crate::put::{put_number, put_number_and_value, put_value, put_words};
-use std::alloc::AllocError;
+use crate::entry::EntryLines;
+use crate::fields::{behind_letter, is_last_value};
+use crate::put::{put_number, put_number_and_value};
+use crate::spelling::Spelling;
+use crate::watch_call::by_word;
+use std::alloc::Global;
+use th_lines::LineFault;
+use th_lines::fields::cut;
 use th_model::{Edit, Value, WCall, WReply};
 
-/// Appends the two lines of an entry, its call and its reply, or leaves the text as it was where
-/// there is no memory for them. There is, where 4,096 bytes are free: no entry has more.
-pub fn print_watch_entry(
-    call: &WCall<Value>,
-    reply: &WReply<Value>,
-    out: &mut Vec<u8>,
-) -> Result<(), AllocError>
-    ensures ok { OnOk result (out.new.items ≡ out.old.items
-        ++ text (entry_lines ((call_fields call.now, reply_fields reply.now) ∷ []))) }
-    ensures err { OnErr result (out.new.items ≡ out.old.items) }
-    ensures most { vec_len out.new ≤ vec_len out.old + 4096 }
-    ensures fits { vec_len out.old + 4096 ≤ vec_capacity out.old → IsOk result }
-    ensures room { vec_capacity out.old ≤ vec_capacity out.new }
-{
-    out.reserve(4096)?;
-    put_call(call, out);
-    put_reply(reply, out);
-    Ok(())
-}
+impl EntryLines for WCall<Value> {
+    ghost use Rattle.th_traces.specs.WatchWords.{grammar as words};
 
-// Appends the line of a call.
-fn put_call(call: &WCall<Value>, out: &mut Vec<u8>)
-    requires { vec_len out.old + 2000 ≤ vec_capacity out.old }
-    ensures text { out.new.items ≡ out.old.items ++ ended (call_line (call_fields call.now)) }
-    ensures most { vec_len out.new ≤ vec_len out.old + 2000 }
-    ensures room { vec_capacity out.old ≤ vec_capacity out.new }
-{
-    match call {
-        WCall::Send(tx, value) => put_number_and_value(b"C send ", tx.0, value, out),
-        WCall::Replace(tx, value) => put_number_and_value(b"C replace ", tx.0, value, out),
-        WCall::EditBy(tx, Edit::Set(value)) => put_number_and_value(b"C set ", tx.0, value, out),
-        WCall::EditBy(tx, Edit::Differ(value)) => put_number_and_value(
-            b"C differ ",
-            tx.0,
-            value,
-            out,
-        ),
-        WCall::EditBy(tx, Edit::Quiet(value)) => put_number_and_value(
-            b"C quiet ",
-            tx.0,
-            value,
-            out,
-        ),
-        WCall::Borrow(rx) => put_number(b"C borrow ", rx.0, out),
-        WCall::Take(rx) => put_number(b"C take ", rx.0, out),
-        WCall::HasChanged(rx) => put_number(b"C has-changed ", rx.0, out),
-        WCall::TryChanged(rx) => put_number(b"C try-changed ", rx.0, out),
-        WCall::Changed(rx) => put_number(b"C changed ", rx.0, out),
-        WCall::MarkChanged(rx) => put_number(b"C mark-changed ", rx.0, out),
-        WCall::MarkUnchanged(rx) => put_number(b"C mark-unchanged ", rx.0, out),
-        WCall::Subscribe(tx) => put_number(b"C subscribe ", tx.0, out),
-        WCall::CloneRx(rx) => put_number(b"C clone-rx ", rx.0, out),
-        WCall::CloneTx(tx) => put_number(b"C clone-tx ", tx.0, out),
-        WCall::DropTx(tx) => put_number(b"C drop-tx ", tx.0, out),
-        WCall::DropRx(rx) => put_number(b"C drop-rx ", rx.0, out),
-        WCall::IsClosed(tx) => put_number(b"C is-closed ", tx.0, out),
-        WCall::Readers(tx) => put_number(b"C readers ", tx.0, out),
+    type Form = ();
+
+    type Reply = WReply<Value>;
+
+    ghost grammar = { words };
+
+    #[tactic(auto, unfolding(crate::specs::WatchWords::call_of))]
+    #[inline(always)]
+    fn read_call(alloc: Global, _form: (), line: &[u8]) -> Result<WCall<Value>, LineFault> {
+        let Some(bytes) = behind_letter(line, b'C') else {
+            return Err(LineFault::BadLine);
+        };
+        let (word, rest) = cut(bytes);
+        by_word(alloc, word, rest)
+    }
+
+    #[inline(always)]
+    fn gives_value(&self) -> bool {
+        matches!(
+            self,
+            WCall::Send(_, _) | WCall::Replace(_, _) | WCall::EditBy(_, _)
+        )
+    }
+
+    fn put_call(&self, out: &mut Vec<u8>) {
+        match self {
+            WCall::Send(tx, value) => put_number_and_value(b"C send ", tx.0, value, out),
+            WCall::Replace(tx, value) => put_number_and_value(b"C replace ", tx.0, value, out),
+            WCall::EditBy(tx, Edit::Set(value)) => put_number_and_value(
+                b"C set ", tx.0, value, out,
+            ),
+            WCall::EditBy(tx, Edit::Differ(value)) => put_number_and_value(
+                b"C differ ",
+                tx.0,
+                value,
+                out,
+            ),
+            WCall::EditBy(tx, Edit::Quiet(value)) => put_number_and_value(
+                b"C quiet ",
+                tx.0,
+                value,
+                out,
+            ),
+            WCall::Borrow(rx) => put_number(b"C borrow ", rx.0, out),
+            WCall::Take(rx) => put_number(b"C take ", rx.0, out),
+            WCall::HasChanged(rx) => put_number(b"C has-changed ", rx.0, out),
+            WCall::TryChanged(rx) => put_number(b"C try-changed ", rx.0, out),
+            WCall::Changed(rx) => put_number(b"C changed ", rx.0, out),
+            WCall::MarkChanged(rx) => put_number(b"C mark-changed ", rx.0, out),
+            WCall::MarkUnchanged(rx) => put_number(b"C mark-unchanged ", rx.0, out),
+            WCall::Subscribe(tx) => put_number(b"C subscribe ", tx.0, out),
+            WCall::CloneRx(rx) => put_number(b"C clone-rx ", rx.0, out),
+            WCall::CloneTx(tx) => put_number(b"C clone-tx ", tx.0, out),
+            WCall::DropTx(tx) => put_number(b"C drop-tx ", tx.0, out),
+            WCall::DropRx(rx) => put_number(b"C drop-rx ", rx.0, out),
+            WCall::IsClosed(tx) => put_number(b"C is-closed ", tx.0, out),
+            WCall::Readers(tx) => put_number(b"C readers ", tx.0, out),
+        }
+    }
+
+    #[inline(always)]
+    fn reply_spelling(reply: &WReply<Value>) -> Spelling<'_> {
+        match reply {
+            WReply::Done => Spelling::Words(b"R done"),
+            WReply::NoReceivers(_) => Spelling::Words(b"R no-receivers"),
+            WReply::Exhausted(_) => Spelling::Words(b"R exhausted"),
+            WReply::Was(value) => Spelling::OfValue(b"R was ", value),
+            WReply::Modified(true) => Spelling::Words(b"R modified yes"),
+            WReply::Modified(false) => Spelling::Words(b"R modified no"),
+            WReply::Shown(value, true) => Spelling::OfValue(b"R shown new ", value),
+            WReply::Shown(value, false) => Spelling::OfValue(b"R shown same ", value),
+            WReply::Changed(true) => Spelling::Words(b"R changed yes"),
+            WReply::Changed(false) => Spelling::Words(b"R changed no"),
+            WReply::Marked => Spelling::Words(b"R marked"),
+            WReply::NotYet => Spelling::Words(b"R not-yet"),
+            WReply::Closed => Spelling::Words(b"R closed"),
+            WReply::Gone(true) => Spelling::Words(b"R gone yes"),
+            WReply::Gone(false) => Spelling::Words(b"R gone no"),
+            WReply::NewRx(rx) => Spelling::Number(b"R new-rx ", rx.0),
+            WReply::NewTx(tx) => Spelling::Number(b"R new-tx ", tx.0),
+            WReply::Count(n) => Spelling::Number(b"R count ", *n),
+            WReply::TooMany => Spelling::Words(b"R too-many"),
+            WReply::NoHandle(_) => Spelling::Words(b"R no-handle"),
+        }
+    }
+
+    #[tactic(auto, unfolding(crate::specs::WatchWords::own_replies))]
+    fn says_own_reply(word: &[u8], rest: Option<&[u8]>) -> bool {
+        if word == b"was".as_slice() {
+            return is_last_value(rest);
+        }
+        if word == b"shown".as_slice() {
+            return is_shown(rest);
+        }
+        if word == b"modified".as_slice()
+            || word == b"changed".as_slice()
+            || word == b"gone".as_slice()
+        {
+            return is_last_answer(rest);
+        }
+        (word == b"marked".as_slice() || word == b"not-yet".as_slice()) && rest.is_none()
     }
 }
 
-// Appends the line of a reply.
-fn put_reply(reply: &WReply<Value>, out: &mut Vec<u8>)
-    requires { vec_len out.old + 2000 ≤ vec_capacity out.old }
-    ensures text { out.new.items ≡ out.old.items ++ ended (reply_line (reply_fields reply.now)) }
-    ensures most { vec_len out.new ≤ vec_len out.old + 2000 }
-    ensures room { vec_capacity out.old ≤ vec_capacity out.new }
+// Whether a value that is shown stands behind the word.
+#[tactic(auto, unfolding(crate::specs::WatchWords::shown))]
+fn is_shown(rest: Option<&[u8]>) -> bool
+    ensures { result ≡ is_some (field_then (by_word shown) (rest_of rest.entry)) }
 {
-    match reply {
-        WReply::Done => put_words(b"R done", b"", out),
-        WReply::NoReceivers(_) => put_words(b"R no-receivers", b"", out),
-        WReply::Exhausted(_) => put_words(b"R exhausted", b"", out),
-        WReply::Was(value) => put_value(b"R was ", value, out),
-        WReply::Modified(true) => put_words(b"R modified yes", b"", out),
-        WReply::Modified(false) => put_words(b"R modified no", b"", out),
-        WReply::Shown(value, true) => put_value(b"R shown new ", value, out),
-        WReply::Shown(value, false) => put_value(b"R shown same ", value, out),
-        WReply::Changed(true) => put_words(b"R changed yes", b"", out),
-        WReply::Changed(false) => put_words(b"R changed no", b"", out),
-        WReply::Marked => put_words(b"R marked", b"", out),
-        WReply::NotYet => put_words(b"R not-yet", b"", out),
-        WReply::Closed => put_words(b"R closed", b"", out),
-        WReply::Gone(true) => put_words(b"R gone yes", b"", out),
-        WReply::Gone(false) => put_words(b"R gone no", b"", out),
-        WReply::NewRx(rx) => put_number(b"R new-rx ", rx.0, out),
-        WReply::NewTx(tx) => put_number(b"R new-tx ", tx.0, out),
-        WReply::Count(n) => put_number(b"R count ", *n, out),
-        WReply::TooMany => put_words(b"R too-many", b"", out),
-        WReply::NoHandle(_) => put_words(b"R no-handle", b"", out),
-    }
+    let Some(bytes) = rest else {
+        return false;
+    };
+    let (word, rest) = cut(bytes);
+    (word == b"new".as_slice() || word == b"same".as_slice()) && is_last_value(rest)
+}
+
+// Whether `yes` or `no` is the last field.
+fn is_last_answer(rest: Option<&[u8]>) -> bool
+    ensures { result ≡ is_some (field_then yes_or_no (rest_of rest.entry)) }
+{
+    let Some(bytes) = rest else {
+        return false;
+    };
+    let (word, rest) = cut(bytes);
+    (word == b"yes".as_slice() || word == b"no".as_slice()) && rest.is_none()
 }

@@ -2,10 +2,10 @@
 ghost use Rattle.std.specs.Prelude.{◌≡◌, ◌+◌, ◌≤◌, length, IsOk, vec_len, vec_capacity};
 ghost use Rattle.th_traces.specs.Watch.{seen_or_unseen, told};
 ghost use Rattle.th_traces.specs.Spelled.{picture_lines};
-ghost use Rattle.th_traces.specs.ToCome.{PrintsNext};
 
 use crate::put::{put_number, put_number_and, put_numbers, put_value, put_words};
 use crate::stage::Stage;
+use crate::trace::PictureLines;
 use std::alloc::AllocError;
 use std::collections::{btree_map, btree_set};
 use std::marker::Model;
@@ -68,16 +68,12 @@ impl<'a> WatchLines<'a> {
         let handles = picture.senders().len() + picture.readers().len();
         handles as u64 + 4
     }
+}
 
-    /// Appends the next line, and says whether there was one. Where there is no memory for it, the
-    /// text is left as it was, and so are the lines to come. There is, where 4,096 bytes are free: no
-    /// line has more.
-    pub fn print_next(&mut self, out: &mut Vec<u8>) -> Result<bool, AllocError>
-        ensures printed { PrintsNext self.old self.new out.old.items out.new.items result }
-        ensures most { vec_len out.new ≤ vec_len out.old + 4096 }
-        ensures fits { vec_len out.old + 4096 ≤ vec_capacity out.old → IsOk result }
-        ensures room { vec_capacity out.old ≤ vec_capacity out.new }
-    {
+impl<'a> PictureLines for WatchLines<'a> {
+    ghost to_come = { λ lines. lines };
+
+    fn print_next(&mut self, out: &mut Vec<u8>) -> Result<bool, AllocError> {
         out.reserve(4096)?;
         match self.stage {
             Stage::Head => {

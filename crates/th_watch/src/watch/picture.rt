@@ -1,36 +1,18 @@
 //! The channel's picture: it is taken of a channel, a channel is made from it, and each part of it
 //! is read from the channel.
-ghost use Rattle.std.specs.Prelude.{◌≡◌, ◌<◌, length, map, slice_get, IfOk, IfErr};
+ghost use Rattle.std.specs.Prelude.{◌≡◌, ◌<◌, length, map, IfOk, IfErr};
 ghost use Rattle.std.specs.Map.{keys_of};
 ghost use Rattle.th_model.specs.Limits.{ClonesAreEqual};
 ghost use Rattle.th_model.specs.Handles.{IsRising, is_sender};
-ghost use Rattle.std.specs.Option.{option_map};
 ghost use Rattle.th_model.specs.WatchMachine.{reader_of};
 ghost use Rattle.th_model.specs.WatchPicture.{IsSound, mark_at, picture_of, shown};
 ghost use Rattle.th_watch.specs.Held.{IsHeld};
-ghost use Rattle.th_watch.specs.Telling.{above, numbers_above};
 
 use crate::parts::PictureParts;
 use crate::watch::{Watch, mark_for};
 use std::alloc::{AllocError, Global};
 use std::collections::{BTreeMap, BTreeSet};
-use std::ops::Bound;
 use th_model::{RxId, Short, TxId, copy_numbers};
-
-// The reader with the lowest number above `after`, or of all, and its mark.
-fn next_mark(marks: &BTreeMap<u64, u64>, after: Option<RxId>) -> Option<(RxId, u64)>
-    ensures { option_map (λ r. (r.0.0, r.1)) result
-        ≡ slice_get (above (option_map (λ rx. rx.0) after) marks.now.entries) 0 }
-{
-    let start = match after {
-        Some(rx) => Bound::Excluded(rx.0),
-        None => Bound::Unbounded,
-    };
-    match marks.range((start, Bound::Unbounded)).next() {
-        Some((rx, mark)) => Some((RxId(*rx), *mark)),
-        None => None,
-    }
-}
 
 // Whether this version is unseen by each reader, by the version that it saw last.
 fn readers_of(
@@ -123,25 +105,6 @@ impl<T: Drop> Watch<T> {
         self.unseen(rx)
     }
 
-    /// The number of live readers.
-    pub fn reader_count(&self) -> u64
-        ensures { result ≡ length self.now.readers }
-    {
-        self.marks.len() as u64
-    }
-
-    /// The reader with the lowest number above `after`, or of all, and whether the newest value is
-    /// unseen by it. Logarithmic in live readers.
-    pub fn next_reader(&self, after: Option<RxId>) -> Option<(RxId, bool)>
-        ensures { option_map (λ r. (r.0.0, r.1)) result
-            ≡ slice_get (above (option_map (λ rx. rx.0) after) self.now.readers) 0 }
-    {
-        match next_mark(&self.marks, after) {
-            Some((rx, mark)) => Some((rx, mark < self.version)),
-            None => None,
-        }
-    }
-
     /// The number of live senders.
     pub fn sender_count(&self) -> u64
         ensures { result ≡ length self.now.senders }
@@ -154,21 +117,6 @@ impl<T: Drop> Watch<T> {
         ensures { result ≡ is_sender self.now.senders tx.0 }
     {
         self.senders.contains(&tx.0)
-    }
-
-    /// The sender with the lowest number above `after`, or of all. Logarithmic in live senders.
-    pub fn next_sender(&self, after: Option<TxId>) -> Option<TxId>
-        ensures { option_map (λ tx. tx.0) result
-            ≡ slice_get (numbers_above (option_map (λ tx. tx.0) after) self.now.senders) 0 }
-    {
-        let start = match after {
-            Some(tx) => Bound::Excluded(tx.0),
-            None => Bound::Unbounded,
-        };
-        match self.senders.range((start, Bound::Unbounded)).next() {
-            Some(tx) => Some(TxId(*tx)),
-            None => None,
-        }
     }
 
     /// The number that the next handle gets.

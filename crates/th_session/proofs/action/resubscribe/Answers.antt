@@ -9,7 +9,7 @@ use Rattle.th_session.specs.Script.{Replied, answered}
 use Rattle.th_registry.specs.Typed.{replied}
 use Rattle.th_session.specs.Held.{held}
 use Rattle.th_session.proofs.Rooms.{no-room}
-use Rattle.th_session.proofs.Seating.{held-set, receiver-kept}
+use Rattle.th_session.proofs.HoldLemmas.{held-set, receiver-kept}
 use Rattle.th_session.proofs.Playing.{receiver-out, receiver-lacks, receiver-own, plays-not, plays-resubscribe}
 use Rattle.th_session.proofs.action.resubscribe.Goals as goal
 
@@ -22,7 +22,7 @@ returns-in_default g c = (
   refl,
   (
     plays-not g.D.Desk.says Actions.Resubscribe c.args.topic.0 _ _ _
-        (receiver-out g.D.Desk.tx g.D.Desk.rx event c.args.seats.now.entries c.args.topic.0 (sym c.in_default.ensures.value))
+        (receiver-out g.D.Desk.tx g.D.Desk.rx event c.args.handles.now.entries c.args.topic.0 (sym c.in_default.ensures.value))
         (ap (λ m. held g.D.Desk.tx g.D.Desk.rx m.entries) c.get_mut.follows.holds-at-none),
     refl,
   ),
@@ -35,8 +35,8 @@ returns-in_default-receiver g c =
       refl,
       (
         plays-not g.D.Desk.says Actions.Resubscribe c.args.topic.0 _ _ _
-            (receiver-lacks g.D.Desk.tx g.D.Desk.rx event c.args.seats.now.entries c.args.topic.0 _ at c.in_default-receiver.is)
-            (held-set g.D.Desk.tx g.D.Desk.rx c.args.seats.now.entries _ c.args.topic.0 c.in-Some.seat.now _ at (c.get_mut.follows.holds c.in-Some.seat.now).0 refl),
+            (receiver-lacks g.D.Desk.tx g.D.Desk.rx event c.args.handles.now.entries c.args.topic.0 _ at c.in_default-receiver.is)
+            (held-set g.D.Desk.tx g.D.Desk.rx c.args.handles.now.entries _ c.args.topic.0 c.in-Some.own.now _ at (c.get_mut.follows.holds c.in-Some.own.now).0 refl),
         refl,
       ),
     )
@@ -44,14 +44,14 @@ returns-in_default-receiver g c =
 pub returns-in_default-reserve : goal.returns-in_default-reserve
 returns-in_default-reserve g c =
     let at = sym c.in-Some.ensures.value in
-    let holds : c.in-Some.seat.now.receiver ≡ Some c.in-Some-receiver.receiver = c.in-Some-receiver.is in
-    let kept = receiver-kept g.D.Desk.tx g.D.Desk.rx c.in-Some.seat.now _ c.in-Some-receiver.receiver holds refl in (
+    let holds : c.in-Some.own.now.receiver ≡ Some c.in-Some-receiver.receiver = c.in-Some-receiver.is in
+    let kept = receiver-kept g.D.Desk.tx g.D.Desk.rx c.in-Some.own.now _ c.in-Some-receiver.receiver holds refl in (
       Replied (Refused Codes.NoMemory),
       refl,
       (
         no-room g.D.Desk.says c.args.topic.0 _ _ _ Actions.Resubscribe (λ s. refl)
-            (receiver-own g.D.Desk.tx g.D.Desk.rx event c.args.seats.now.entries c.args.topic.0 _ _ at holds)
-            (held-set g.D.Desk.tx g.D.Desk.rx c.args.seats.now.entries _ c.args.topic.0 c.in-Some.seat.now _ at (c.get_mut.follows.holds (record { sender = c.in-Some.seat.now.sender; receiver = Some c.in-Some-receiver.receiver })).0 kept),
+            (receiver-own g.D.Desk.tx g.D.Desk.rx event c.args.handles.now.entries c.args.topic.0 _ _ at holds)
+            (held-set g.D.Desk.tx g.D.Desk.rx c.args.handles.now.entries _ c.args.topic.0 c.in-Some.own.now _ at (c.get_mut.follows.holds (record { sender = c.in-Some.own.now.sender; receiver = Some c.in-Some-receiver.receiver })).0 kept),
         c.reserve.ensures.items,
       ),
     )
@@ -59,17 +59,17 @@ returns-in_default-reserve g c =
 pub returns : goal.returns
 returns g c =
     let at = sym c.in-Some.ensures.value in
-    let holds : c.in-Some.seat.now.receiver ≡ Some c.in-Some-receiver.receiver = c.in-Some-receiver.is in
-    let kept = receiver-kept g.D.Desk.tx g.D.Desk.rx c.in-Some.seat.now _ c.resubscribe-said.new.receiver holds c.resubscribe-said.ensures.receiver in
+    let holds : c.in-Some.own.now.receiver ≡ Some c.in-Some-receiver.receiver = c.in-Some-receiver.is in
+    let kept = receiver-kept g.D.Desk.tx g.D.Desk.rx c.in-Some.own.now _ c.resubscribe-said.new.receiver holds c.resubscribe-said.ensures.receiver in
     let answer = answered c.args.topic.0 (replied c.keep_receiver-told.result) in (
       answer,
       c.note.ensures.0,
       (
-        plays-resubscribe g.D.Desk.tx g.D.Desk.rx g.D.Desk.says c.args.topic.0 c.args.seats.now.entries _ _ c.resubscribe-said.result _ _
-            (receiver-own g.D.Desk.tx g.D.Desk.rx event c.args.seats.now.entries c.args.topic.0 _ _ at holds) c.resubscribe-said.ensures.event
+        plays-resubscribe g.D.Desk.tx g.D.Desk.rx g.D.Desk.says c.args.topic.0 c.args.handles.now.entries _ _ c.resubscribe-said.result _ _
+            (receiver-own g.D.Desk.tx g.D.Desk.rx event c.args.handles.now.entries c.args.topic.0 _ _ at holds) c.resubscribe-said.ensures.event
             (ap (λ told. answered c.args.topic.0 (replied told)) c.keep_receiver-told.ensures.told) (c.keep_receiver-told.ensures.kept _ refl)
-            (held-set g.D.Desk.tx g.D.Desk.rx c.args.seats.now.entries _ c.args.topic.0 c.in-Some.seat.now _ at
-            (c.get_mut.follows.holds (record { sender = c.in-Some.seat.now.sender; receiver = Some c.resubscribe-said.new.receiver })).0 kept),
+            (held-set g.D.Desk.tx g.D.Desk.rx c.args.handles.now.entries _ c.args.topic.0 c.in-Some.own.now _ at
+            (c.get_mut.follows.holds (record { sender = c.in-Some.own.now.sender; receiver = Some c.resubscribe-said.new.receiver })).0 kept),
         c.note.ensures.1 ∙ ap (λ l. with_receipt l answer) c.reserve.ensures.items,
       ),
     )

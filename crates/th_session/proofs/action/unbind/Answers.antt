@@ -1,11 +1,11 @@
-use Rattle.std.proofs.Common.{◌≡◌, Some, None, Ok, Err, sym, ap, ◌∙◌}
+use Rattle.std.proofs.Common.{◌≡◌, Some, None, Ok, Err, refl, sym, ap, ◌∙◌}
 use Rattle.std.specs.Option.{option_map}
 use Rattle.th_model.specs.declared.handles.TxId.{TxId}
 use Rattle.th_lines.specs.declared.command.Action.TheVariants.{Unbind}
-use Rattle.th_registry.specs.Events.{Event, DropsTx, Own, Replied}
+use Rattle.th_registry.specs.Events.{Event, DropsTx, Own, Ended}
 use Rattle.th_session.specs.Script as answers
 use Rattle.th_session.specs.Held.{held}
-use Rattle.th_session.proofs.Seating.{held-set, sender-kept, sender-gone, with_numbers}
+use Rattle.th_session.proofs.HoldLemmas.{held-set, sender-kept, sender-gone, with_numbers}
 use Rattle.th_session.proofs.Playing.{sender-out, sender-lacks, sender-own, plays-by, plays-not}
 use Rattle.th_session.proofs.action.unbind.Goals as goal
 
@@ -13,35 +13,35 @@ pub returns-in_default : goal.returns-in_default
 returns-in_default g c =
     let event : TxId → Event = λ (t : TxId). DropsTx (Own t) in
     plays-not g.D.Desk.says Unbind c.args.topic.0 _ _ _
-    (sender-out g.D.Desk.tx g.D.Desk.rx event c.args.seats.now.entries c.args.topic.0 (sym c.in_default.ensures.value))
+    (sender-out g.D.Desk.tx g.D.Desk.rx event c.args.handles.now.entries c.args.topic.0 (sym c.in_default.ensures.value))
     (ap (λ m. held g.D.Desk.tx g.D.Desk.rx m.entries) c.get_mut.follows.holds-at-none)
 
 pub returns-in_default-take : goal.returns-in_default-take
 returns-in_default-take g c =
     let event : TxId → Event = λ (t : TxId). DropsTx (Own t) in
     let at = sym c.in-Some.ensures.value in
-    let lacks : c.in-Some.seat.now.sender ≡ None = sym c.take.ensures.value ∙ c.in_default-take.is in
-    let same = ap (λ o. with_numbers (option_map g.D.Desk.tx o) (option_map g.D.Desk.rx c.in-Some.seat.now.receiver)) (c.take.ensures.after ∙ sym lacks) in
+    let lacks : c.in-Some.own.now.sender ≡ None = sym c.take.ensures.value ∙ c.in_default-take.is in
+    let same = ap (λ o. with_numbers (option_map g.D.Desk.tx o) (option_map g.D.Desk.rx c.in-Some.own.now.receiver)) (c.take.ensures.after ∙ sym lacks) in
     plays-not g.D.Desk.says Unbind c.args.topic.0 _ _ _
-    (sender-lacks g.D.Desk.tx g.D.Desk.rx event c.args.seats.now.entries c.args.topic.0 _ at lacks)
-    (held-set g.D.Desk.tx g.D.Desk.rx c.args.seats.now.entries _ c.args.topic.0 c.in-Some.seat.now _ at (c.get_mut.follows.holds _).0 same)
+    (sender-lacks g.D.Desk.tx g.D.Desk.rx event c.args.handles.now.entries c.args.topic.0 _ at lacks)
+    (held-set g.D.Desk.tx g.D.Desk.rx c.args.handles.now.entries _ c.args.topic.0 c.in-Some.own.now _ at (c.get_mut.follows.holds _).0 same)
 
 pub returns-in-Ok : goal.returns-in-Ok
 returns-in-Ok g c =
     let event : TxId → Event = λ (t : TxId). DropsTx (Own t) in
     let at = sym c.in-Some.ensures.value in
-    let holds : c.in-Some.seat.now.sender ≡ Some c.in-Some-take.sender = sym c.take.ensures.value ∙ c.in-Some-take.is in
-    let gone = ap (λ o. with_numbers (option_map g.D.Desk.tx o) (option_map g.D.Desk.rx c.in-Some.seat.now.receiver)) c.take.ensures.after in
-    plays-by g.D.Desk.says Unbind c.args.topic.0 _ _ (Ok (Replied c.in-Ok.reply), None) _ _
-    (sender-own g.D.Desk.tx g.D.Desk.rx event c.args.seats.now.entries c.args.topic.0 _ _ at holds) c.in-Ok.ensures.event (ap (λ reply. answers.Replied reply) c.replied_channel.ensures)
-    (sender-gone g.D.Desk.tx g.D.Desk.rx c.args.seats.now.entries _ c.args.topic.0 c.in-Some.seat.now _ c.get_mut.ensures.ordered at (c.get_mut.follows.holds _).0 gone)
+    let holds : c.in-Some.own.now.sender ≡ Some c.in-Some-take.sender = sym c.take.ensures.value ∙ c.in-Some-take.is in
+    let gone = ap (λ o. with_numbers (option_map g.D.Desk.tx o) (option_map g.D.Desk.rx c.in-Some.own.now.receiver)) c.take.ensures.after in
+    plays-by g.D.Desk.says Unbind c.args.topic.0 _ _ (Ok Ended, None) _ _
+    (sender-own g.D.Desk.tx g.D.Desk.rx event c.args.handles.now.entries c.args.topic.0 _ _ at holds) c.in-Ok.ensures.event refl
+    (sender-gone g.D.Desk.tx g.D.Desk.rx c.args.handles.now.entries _ c.args.topic.0 c.in-Some.own.now _ c.get_mut.ensures.ordered at (c.get_mut.follows.holds _).0 gone)
 
 pub returns-in-Err : goal.returns-in-Err
 returns-in-Err g c =
     let event : TxId → Event = λ (t : TxId). DropsTx (Own t) in
     let at = sym c.in-Some.ensures.value in
-    let holds : c.in-Some.seat.now.sender ≡ Some c.in-Some-take.sender = sym c.take.ensures.value ∙ c.in-Some-take.is in
-    let kept = sender-kept g.D.Desk.tx g.D.Desk.rx c.in-Some.seat.now _ c.in-Err.unspent.handle holds c.in-Err.ensures.back in
+    let holds : c.in-Some.own.now.sender ≡ Some c.in-Some-take.sender = sym c.take.ensures.value ∙ c.in-Some-take.is in
+    let kept = sender-kept g.D.Desk.tx g.D.Desk.rx c.in-Some.own.now _ c.in-Err.unspent.handle holds c.in-Err.ensures.back in
     plays-by g.D.Desk.says Unbind c.args.topic.0 _ _ (Err c.in-Err.unspent.why, None) _ _
-    (sender-own g.D.Desk.tx g.D.Desk.rx event c.args.seats.now.entries c.args.topic.0 _ _ at holds) c.in-Err.ensures.event (ap (λ reply. answers.Replied reply) c.replied_none.ensures)
-    (held-set g.D.Desk.tx g.D.Desk.rx c.args.seats.now.entries _ c.args.topic.0 c.in-Some.seat.now _ at (c.get_mut.follows.holds (record { sender = Some c.in-Err.unspent.handle; receiver = c.in-Some.seat.now.receiver })).0 kept)
+    (sender-own g.D.Desk.tx g.D.Desk.rx event c.args.handles.now.entries c.args.topic.0 _ _ at holds) c.in-Err.ensures.event (ap (λ reply. answers.Replied reply) c.replied_none.ensures)
+    (held-set g.D.Desk.tx g.D.Desk.rx c.args.handles.now.entries _ c.args.topic.0 c.in-Some.own.now _ at (c.get_mut.follows.holds (record { sender = Some c.in-Err.unspent.handle; receiver = c.in-Some.own.now.receiver })).0 kept)

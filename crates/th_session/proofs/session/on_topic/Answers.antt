@@ -11,7 +11,7 @@ returns-in_default g c =
 
 pub returns-then-not-is_for : goal.returns-then-not-is_for
 returns-then-not-is_for g c =
-    let h = held g.D.Desk.tx g.D.Desk.rx c.args.seats.now.entries in
+    let h = held g.D.Desk.tx g.D.Desk.rx c.args.handles.now.entries in
     let refused = Replied (Refused Codes.WrongKind) in
     let P : Bool → Type 0 = λ right. Plays g.D.Desk.says (cond right (acting c.args.action c.in-Some.found.topic.0 h) (Say (Refused Codes.WrongKind) h)) c.args.desk.now refused h c.args.desk.now in
     let wrong = sym c.is_for.ensures ∙ c.if-not-is_for.true in

@@ -1,14 +1,14 @@
 use Rattle.std.proofs.Common.{◌≡◌, Some, refl, sym}
-use Rattle.th_session.proofs.Seating.{held-set, receiver-kept}
+use Rattle.th_session.proofs.HoldLemmas.{held-set, receiver-kept}
 use Rattle.th_session.proofs.session.ready.Goals as goal
 
 pub returns-in_default-receiver-clause-held : goal.returns-in_default-receiver-clause-held
 returns-in_default-receiver-clause-held g c =
-    held-set g.D.Desk.tx g.D.Desk.rx c.args.seats.now.entries _ c.args.topic.0 c.in-Some.seat.now _ (sym c.in-Some.ensures.value) (c.get_mut.follows.holds c.in-Some.seat.now).0 refl
+    held-set g.D.Desk.tx g.D.Desk.rx c.args.handles.now.entries _ c.args.topic.0 c.in-Some.own.now _ (sym c.in-Some.ensures.value) (c.get_mut.follows.holds c.in-Some.own.now).0 refl
 
 pub returns-clause-held : goal.returns-clause-held
 returns-clause-held g c =
-    let holds : c.in-Some.seat.now.receiver ≡ Some c.in-Some-receiver.receiver = c.in-Some-receiver.is in
-    let kept = receiver-kept g.D.Desk.tx g.D.Desk.rx c.in-Some.seat.now _ c.ready.new.receiver holds c.ready.ensures.receiver in
-    held-set g.D.Desk.tx g.D.Desk.rx c.args.seats.now.entries _ c.args.topic.0 c.in-Some.seat.now _ (sym c.in-Some.ensures.value)
-    (c.get_mut.follows.holds (record { sender = c.in-Some.seat.now.sender; receiver = Some c.ready.new.receiver })).0 kept
+    let holds : c.in-Some.own.now.receiver ≡ Some c.in-Some-receiver.receiver = c.in-Some-receiver.is in
+    let kept = receiver-kept g.D.Desk.tx g.D.Desk.rx c.in-Some.own.now _ c.ready.new.receiver holds c.ready.ensures.receiver in
+    held-set g.D.Desk.tx g.D.Desk.rx c.args.handles.now.entries _ c.args.topic.0 c.in-Some.own.now _ (sym c.in-Some.ensures.value)
+    (c.get_mut.follows.holds (record { sender = c.in-Some.own.now.sender; receiver = Some c.ready.new.receiver })).0 kept

@@ -68,14 +68,15 @@ returns-in_default-step g c =
     let a = c.step.ensures.step in
     let had = c.in-Some.session.now in
     let has = c.step.new.session in
-    let after : Output = output g.W.Write.contents c.put_answer.new.writer c.put_answer.new.out in
-    let left : Actors = holdings (set_value_at i.actors.entries c.args.place has) in
-    let P : Hub SeenTopics → Type 0 = λ hub. PutsAnswer (by_holding picture_step hub c.args.place c.args.command (slice_get (values_of hub.actors) c.args.place)) (asks_by_holding picture_asks hub c.args.command (slice_get (values_of hub.actors) c.args.place)) hub (record { topics = c.step.new.desk.topics; actors = left }) (output g.W.Write.contents c.args.writer.now c.args.out.now) after c.put_answer.result in
+    let after : Output = output g.W.Write.contents c.put_answer-put-in_default-step.new.writer c.put_answer-put-in_default-step.new.out in
+    let left : Actors = holdings (set_value_at i.actors.entries c.args.place c.let_go.new.self) in
+    let P : Hub SeenTopics → Type 0 = λ hub. PutsAnswer (by_holding picture_step hub c.args.place c.args.command (slice_get (values_of hub.actors) c.args.place)) (asks_by_holding picture_asks hub c.args.command (slice_get (values_of hub.actors) c.args.place)) hub (record { topics = c.step.new.desk.topics; actors = left }) (output g.W.Write.contents c.args.writer.now c.args.out.now) after c.put_answer-put-in_default-step.result in
     let not_quit : has_quit a.0 ≡ false = only_replies_quit a.0 (λ reply t. c.in_default-step.not-Reply reply (a.1 ∙ t)) in
-    let rest = set-held i.actors.entries c.args.place has ∙ stays a.0 c.args.place has.handles (holdings i.actors.entries) not_quit in
+    let kept = ap handles c.let_go.ensures in
+    let rest = set-held i.actors.entries c.args.place c.let_go.new.self ∙ ap (set_value_at (holdings i.actors.entries) c.args.place) kept ∙ stays a.0 c.args.place has.handles (holdings i.actors.entries) not_quit in
     let there = at-held i.actors.entries c.args.place ∙ ap (option_map handles) (sym c.get_index_mut.ensures.value ∙ ap option_copied_mut c.in-Some.is) in
     let end = ends_so had i.desk.topics c.args.command a.0 has c.step.new.desk.topics i.desk.limit c.self.invariant a.2 in
-    let put = c.put_answer.ensures a.0 had a.1 (keeps had i.desk.topics c.args.command a.0 has c.step.new.desk.topics i.desk.limit a.2) in
+    let put = c.put_answer-put-in_default-step.ensures a.0 had a.1 (keeps had i.desk.topics c.args.command a.0 has c.step.new.desk.topics i.desk.limit a.2) in
     subst P c.self.view_is
     (a.0, goes_on i.desk.topics (holdings i.actors.entries) c.args.place c.args.command had.handles has.handles a.0 c.step.new.desk.topics left there end rest, put)
 

@@ -9,11 +9,12 @@ use Rattle.th_lines.specs.Output.{Output, output}
 use Rattle.th_lines.specs.declared.reply.Code.TheVariants as Codes
 use Rattle.th_lines.specs.declared.reply.Reply.TheVariants.{Refused}
 use Rattle.th_registry.specs.Pictures.{SeenTopics, pictures}
+use Rattle.th_session.specs.Held.{Holding}
 use Rattle.th_session.specs.Kept.{Kept}
 use Rattle.th_session.specs.Script.{Replied}
 use Rattle.th_session.specs.Step.{Steps}
 use Rattle.th_replay.specs.Schedule.{Actors, Hub, PutsAnswer, asks_by_place, by_place, has_quit, holdings, is_short, picture_asks, picture_step, place_of}
-use Rattle.th_replay.proofs.Holdings.{All, append-held, keys-held, length-held}
+use Rattle.th_replay.proofs.Holdings.{All, append-held, handles, keys-held, length-held}
 use Rattle.th_replay.proofs.Orders.{begins, insert-new, is_over, no_room, too_many}
 use Rattle.th_replay.proofs.Steps.{ends_so, keeps}
 use Rattle.th_replay.proofs.actors.Hub.carry_out_first.Goals as goal
@@ -70,18 +71,19 @@ returns g c =
     let end = ends_so had i.desk.topics c.args.command a.0 has topics i.desk.limit c.self.invariant steps in
     let put = c.put_answer-put.ensures a.0 had a.1 (keeps had i.desk.topics c.args.command a.0 has topics i.desk.limit steps) in
     let one : (is_short a.0 || has_quit a.0) ≡ false = sym (c.begins_nobody-is_over.ensures a.0 a.1) ∙ c.if-is_over.false in
+    let left = c.let_go.new.self in
     let none : position (pointwise nat_eq c.args.name) (keys_of i.actors.entries) ≡ None =
     ap (λ (names : List (List ℕ)). position (pointwise nat_eq c.args.name) names) (sym (keys-held i.actors.entries))
     ∙ ap (λ (hub : Hub SeenTopics). place_of hub.actors c.args.name) c.self.view_is ∙ c.requires in
-    let last : c.insert.new.self.entries ≡ i.actors.entries ++ (c.args.name, has) ∷ [] =
+    let last : c.insert.new.self.entries ≡ i.actors.entries ++ (c.args.name, left) ∷ [] =
     c.in-Ok-insert.ensures.entries
-    ∙ ap (λ (n : List ℕ). insert_entry (pointwise nat_eq) c.reserve.new.self.entries n has) c.to_name.ensures
-    ∙ ap (λ (l : All). insert_entry (pointwise nat_eq) l c.args.name has) c.in-Ok.ensures.entries
-    ∙ insert-new i.actors.entries c.args.name has none in
+    ∙ ap (λ (n : List ℕ). insert_entry (pointwise nat_eq) c.reserve.new.self.entries n left) c.to_name.ensures
+    ∙ ap (λ (l : All). insert_entry (pointwise nat_eq) l c.args.name left) c.in-Ok.ensures.entries
+    ∙ insert-new i.actors.entries c.args.name left none in
     subst P c.self.view_is (
       a.0,
       begins i.desk.topics (holdings i.actors.entries) c.args.name c.args.command has.handles a.0 topics (holdings c.insert.new.self.entries) room one end
-          (ap holdings last ∙ append-held i.actors.entries c.args.name has),
+          (ap holdings last ∙ append-held i.actors.entries c.args.name left ∙ ap (λ (h : Holding). holdings i.actors.entries ++ (c.args.name, h) ∷ []) (ap handles c.let_go.ensures)),
       put,
     )
 

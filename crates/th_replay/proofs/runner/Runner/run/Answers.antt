@@ -1,74 +1,60 @@
-use Rattle.std.proofs.Common.{◌∙◌, List, ℕ, Err, None, Ok, Some, ap, arith, inr, refl, subst, sym}
-use Rattle.std.specs.Prelude.{Option}
-use Rattle.th_registry.specs.Pictures.{SeenTopics}
-use Rattle.th_lines.specs.Standing.{Standing, Underway}
-use Rattle.th_lines.proofs.StandingLemmas.{flushed, goes_on, starts}
-use Rattle.th_replay.specs.Outcome.{Devices, devices}
-use Rattle.th_replay.specs.Progress.{Course, beginning, stands}
-use Rattle.th_replay.specs.Schedule.{Hub, answers, seen_start}
-use Rattle.th_replay.specs.Session.{Turns}
-use Rattle.th_replay.proofs.Endings.{all_answered, broken_off, comes_done, comes_fault}
-use Rattle.th_replay.proofs.RunLemmas.{breaks_in, flush_broken, reads_after, reads_none, reads_some}
+use Rattle.std.proofs.Common.{◌≡◌, ◌∙◌, ◌+◌, [], List, Err, ap, false, refl, subst, sym, true, ℕ}
+use Rattle.std.specs.Prelude.{Option, Result}
+use Rattle.th_lines.specs.Device.{kept_count}
+use Rattle.th_lines.specs.Feeding.{Stands}
+use Rattle.th_lines.specs.Output.{Output, output}
+use Rattle.th_lines.specs.Tally.{Tally}
+use Rattle.th_lines.proofs.AnsweringLemmas.{answers_none}
+use Rattle.th_replay.specs.Outcome.{Comes, Devices, devices}
+use Rattle.th_replay.specs.Progress.{Course, IsBroken, Took, beginning, end_by, may_wait}
+use Rattle.th_replay.specs.Schedule.{answers, seen_start}
+use Rattle.th_replay.specs.declared.fault.ReplayFault.{ReplayFault}
+use Rattle.th_replay.specs.declared.fault.ReplayFault.TheVariants.{Write}
+use Rattle.th_replay.proofs.Endings.{comes_at_once, comes_broken, comes_written}
+use Rattle.th_replay.proofs.runner.Runner.run.Goals.{in-Ok, in-Err}
 use Rattle.th_replay.proofs.runner.Runner.run.Goals as goal
 
-pub loop-made-init : goal.loop-made-init
-loop-made-init g c =
+pub returns-then-not-may_wait-clause-comes : goal.returns-then-not-may_wait-clause-comes
+returns-then-not-may_wait-clause-comes g c =
+    let contents = g.W.Write.contents in
     let r : Option (List ℕ) = g.R.Read.remaining c.args.reader.now.device in
-    let at : Course → Standing (Hub SeenTopics) = λ k. stands g.W.Write.contents c.args.writer.now k in
-    let start : Standing (Hub SeenTopics) = at (beginning c.args.self.now.limit) in
-    record {
-      under = subst (λ (k : Course). Underway (Turns answers) r r start (at k)) (sym c.requires) (starts r start);
-      looked_at = ap (λ (k : Course). k.came.ahead) c.requires;
-      calls = omega arith;
-      reads = omega arith;
-      reader = refl;
-    }
+    let r' : Option (List ℕ) = g.R.Read.remaining c.feed-fed.new.reader.device in
+    let old : Devices = devices g.R.Read.remaining c.args.reader.now contents c.args.writer.now in
+    let new : Devices = devices g.R.Read.remaining c.feed-fed.new.reader contents c.feed-fed.new.writer in
+    let f = c.feed-fed.new.self in
+    let unit : Unit {0} = tt in
+    let now : Course × Unit {0} × Tally g.row.W.Denot = (c.feed-fed.new.taker, unit, c.feed-fed.new.writer) in
+    let s = subst (λ (k : Course). Took contents (k, unit, c.args.writer.now) [] (k, unit, c.args.writer.now)
+    → Stands (Took contents) (IsBroken contents) r r' (k, unit, c.args.writer.now) (λ p. p.0.waiting ≡ []) (kept_count c.feed-fed.new.reader.calls ≡ kept_count (c.args.reader.now.calls + c.args.reads))
+    c.args.reads c.feed-fed.result f now) c.requires.run c.feed-fed.ensures.fed (answers_none _) in
+    let e : end_by c.feed-fed.result f.taken ≡ c.end_by-end.result = ap (λ (n : ℕ). end_by c.feed-fed.result n) (sym c.taken.ensures) ∙ sym c.end_by-end.ensures.end in
+    subst (λ (n : ℕ). Comes answers seen_start n c.args.reads old new c.end_by-end.result) c.feed-fed.ensures.limit
+    (subst (λ (x : Result ℕ ReplayFault). Comes answers seen_start f.limit c.args.reads old new x) e
+    (comes_at_once contents old new c.args.writer.now unit refl c.args.reads f now c.feed-fed.result s refl (ap may_wait e ∙ sym c.may_wait.ensures ∙ c.if-not-may_wait.true)))
 
-pub loop-made-preserved : goal.loop-made-preserved
-loop-made-preserved g c =
-    let read = reads_none answers _ _ _ _ _ c.in-Ok-None.field-0-is c.in-Ok-None.ensures.read in
-    let after = reads_after answers c.loop-made.invariant.under _ _ (Ok None) read in
-    record {
-      under = after.0;
-      looked_at = after.1;
-      calls = omega (arith, c.loop-made.invariant.calls, c.in-Ok-None.ensures.call);
-      reads = omega (arith, c.loop-made.invariant.reads, c.in-Ok-None.ensures.calls);
-      reader = c.in-Ok-None.ensures.reader ∙ c.loop-made.invariant.reader;
-    }
-
-pub returns-in-Ok-Some-clause-comes : goal.returns-in-Ok-Some-clause-comes
-returns-in-Ok-Some-clause-comes g c =
-    let old : Devices = devices g.R.Read.remaining c.args.reader.now g.W.Write.contents c.args.writer.now in
-    let new : Devices = devices g.R.Read.remaining c.read_on.new.reader g.W.Write.contents c.read_on.new.writer in
-    let done = reads_some answers _ _ _ _ _ c.in-Ok-Some.count c.in-Ok-Some.field-0-is c.in-Ok-Some.ensures.read in
-    let after = reads_after answers c.loop-made.invariant.under _ _ (Ok (Some c.in-Ok-Some.count)) done in
-    comes_done answers seen_start c.args.self.now.limit c.args.writer.now.failures old new
-    (stands g.W.Write.contents c.read_on.new.writer c.read_on.new.self) refl c.args.reads c.in-Ok-Some.count after
-
-pub returns-in-Err-clause-comes : goal.returns-in-Err-clause-comes
-returns-in-Err-clause-comes g c =
-    let old : Devices = devices g.R.Read.remaining c.args.reader.now g.W.Write.contents c.args.writer.now in
-    let new : Devices = devices g.R.Read.remaining c.read_on.new.reader g.W.Write.contents c.read_on.new.writer in
-    let after = reads_after answers c.loop-made.invariant.under _ _ (Err c.in-Err.e) c.in-Err.ensures.read in
-    comes_fault answers seen_start c.args.self.now.limit c.args.writer.now.failures old new
-    (stands g.W.Write.contents c.read_on.new.writer c.read_on.new.self) refl c.args.reads c.in-Err.e after
-
-pub returns-in-Ok-clause-comes : goal.returns-in-Ok-clause-comes
-returns-in-Ok-clause-comes g c =
-    let old : Devices = devices g.R.Read.remaining c.args.reader.now g.W.Write.contents c.args.writer.now in
-    let new : Devices = devices g.R.Read.remaining c.loop-made.reader g.W.Write.contents c.flush.new.writer in
-    let now = stands g.W.Write.contents c.flush.new.writer c.flush.new.self in
-    let looked_at = ap (λ (o : Standing (Hub SeenTopics)). o.came.ahead) c.in-Ok.ensures.0 ∙ c.loop-made.invariant.looked_at in
-    let after = goes_on c.loop-made.invariant.under now (flushed _ now c.in-Ok.ensures.0 c.in-Ok.ensures.1) in
-    inr (
-      all_answered answers seen_start c.args.self.now.limit c.args.writer.now.failures old new now refl after (c.in-Ok.ensures.1.1, looked_at),
-      omega (arith, c.loop-made.invariant.calls),
-    )
-
-pub returns-in-Err-flush-clause-comes : goal.returns-in-Err-flush-clause-comes
-returns-in-Err-flush-clause-comes g c =
-    let old : Devices = devices g.R.Read.remaining c.args.reader.now g.W.Write.contents c.args.writer.now in
-    let new : Devices = devices g.R.Read.remaining c.loop-made.reader g.W.Write.contents c.flush.new.writer in
-    let now = stands g.W.Write.contents c.flush.new.writer c.flush.new.self in
-    broken_off answers seen_start c.args.self.now.limit c.args.writer.now.failures old new now refl
-    (breaks_in answers c.loop-made.invariant.under now (flush_broken answers _ now _ c.in-Err-flush.ensures.0 c.in-Err-flush.ensures.1))
+pub returns-clause-comes : goal.returns-clause-comes
+returns-clause-comes g c =
+    let contents = g.W.Write.contents in
+    let r : Option (List ℕ) = g.R.Read.remaining c.args.reader.now.device in
+    let r' : Option (List ℕ) = g.R.Read.remaining c.feed-fed.new.reader.device in
+    let old : Devices = devices g.R.Read.remaining c.args.reader.now contents c.args.writer.now in
+    let new : Devices = devices g.R.Read.remaining c.feed-fed.new.reader contents c.flush.new.writer in
+    let f = c.feed-fed.new.self in
+    let unit : Unit {0} = tt in
+    let at : Course = record { hub = c.self.inside.hub; waiting = c.self.inside.out } in
+    let now : Course × Unit {0} × Tally g.row.W.Denot = (at, unit, c.feed-fed.new.writer) in
+    let spent = kept_count c.feed-fed.new.reader.calls ≡ kept_count (c.args.reader.now.calls + c.args.reads) in
+    let fed = subst (λ (k : Course). Took contents (k, unit, c.args.writer.now) [] (k, unit, c.args.writer.now)
+    → Stands (Took contents) (IsBroken contents) r r' (k, unit, c.args.writer.now) (λ p. p.0.waiting ≡ []) spent
+    c.args.reads c.feed-fed.result f (c.feed-fed.new.taker, unit, c.feed-fed.new.writer)) c.requires.run c.feed-fed.ensures.fed (answers_none _) in
+    let s = subst (λ (k : Course). Stands (Took contents) (IsBroken contents) r r' (beginning, unit, c.args.writer.now) (λ p. p.0.waiting ≡ []) spent
+    c.args.reads c.feed-fed.result f (k, unit, c.feed-fed.new.writer)) (sym c.self.view_is) fed in
+    let e : end_by c.feed-fed.result f.taken ≡ c.end_by-end.result = ap (λ (n : ℕ). end_by c.feed-fed.result n) (sym c.taken.ensures) ∙ sym c.end_by-end.ensures.end in
+    let wait : may_wait (end_by c.feed-fed.result f.taken) ≡ true = ap may_wait e ∙ sym c.may_wait.ensures ∙ c.if-not-may_wait.false in
+    let after : Output = output contents c.flush.new.writer c.flush.new.self in
+    let P : Result ℕ ReplayFault → Type 0 = λ x. Comes answers seen_start f.limit c.args.reads old new x in
+    subst (λ (n : ℕ). Comes answers seen_start n c.args.reads old new c.match-flush.result) c.feed-fed.ensures.limit
+    (elim c.match-flush.branch [
+      | in-Ok w ↦ subst P (e ∙ sym w.result-is) (comes_written contents old new c.args.writer.now unit refl c.args.reads f now c.feed-fed.result after s w.in-Ok.ensures.0 refl wait)
+      | in-Err w ↦ subst P (sym w.result-is) (comes_broken contents old new c.args.writer.now unit refl c.args.reads f now c.feed-fed.result after s w.in-Err.ensures refl wait)
+    ])

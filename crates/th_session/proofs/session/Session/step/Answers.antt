@@ -17,10 +17,10 @@ returns-in-Open g c =
 pub returns-in-On : goal.returns-in-On
 returns-in-On g c =
     let did = c.on_topic.ensures in
-    let P : Holding → Command → Type 0 = λ h command. Plays g.D.Desk.says (script h command) c.args.desk.now did.0 (held g.D.Desk.tx g.D.Desk.rx c.on_topic.new.seats.entries) c.on_topic.new.desk in
+    let P : Holding → Command → Type 0 = λ h command. Plays g.D.Desk.says (script h command) c.args.desk.now did.0 (held g.D.Desk.tx g.D.Desk.rx c.on_topic.new.handles.entries) c.on_topic.new.desk in
     let same = ap (λ (k : Kept). k.handles) c.self.view_is in
     let receipts = ap (λ (k : Kept). with_receipt k.receipts did.0) c.self.view_is in
-    let segments = no-segment g.D.Desk.says did.0 _ _ c.in-On.action (held g.D.Desk.tx g.D.Desk.rx c.self.inside.seats.entries) _ c.args.desk.now c.args.self.now.segments did.2.0 in (
+    let segments = no-segment g.D.Desk.says did.0 _ _ c.in-On.action (held g.D.Desk.tx g.D.Desk.rx c.self.inside.handles.entries) _ c.args.desk.now c.args.self.now.segments did.2.0 in (
       did.0,
       did.1,
       (
@@ -31,11 +31,11 @@ returns-in-On g c =
 
 pub returns-in-Trace : goal.returns-in-Trace
 returns-in-Trace g c =
-    let traced = c.trace.ensures (held g.D.Desk.tx g.D.Desk.rx c.self.inside.seats.entries) in
-    let P : Holding → Command → Type 0 = λ h command. Plays g.D.Desk.says (script h command) c.args.desk.now traced.0 (held g.D.Desk.tx g.D.Desk.rx c.self.inside.seats.entries) c.trace.new.desk in
+    let traced = c.trace.ensures (held g.D.Desk.tx g.D.Desk.rx c.self.inside.handles.entries) in
+    let P : Holding → Command → Type 0 = λ h command. Plays g.D.Desk.says (script h command) c.args.desk.now traced.0 (held g.D.Desk.tx g.D.Desk.rx c.self.inside.handles.entries) c.trace.new.desk in
     let same = ap (λ (k : Kept). k.handles) c.self.view_is in
     let segments = ap (λ (k : Kept). with_segment k.segments traced.0) c.self.view_is in
-    let receipts = no-receipt g.D.Desk.says traced.0 _ _ (held g.D.Desk.tx g.D.Desk.rx c.self.inside.seats.entries) _ c.args.desk.now c.args.self.now.receipts traced.2.0 in (
+    let receipts = no-receipt g.D.Desk.says traced.0 _ _ (held g.D.Desk.tx g.D.Desk.rx c.self.inside.handles.entries) _ c.args.desk.now c.args.self.now.receipts traced.2.0 in (
       traced.0,
       traced.1,
       (
@@ -52,10 +52,10 @@ returns-in-List g c =
 
 pub returns-in-Quit : goal.returns-in-Quit
 returns-in-Quit g c =
-    let had = held g.D.Desk.tx g.D.Desk.rx c.self.inside.seats.entries in
+    let had = held g.D.Desk.tx g.D.Desk.rx c.self.inside.handles.entries in
     let P : Holding → Holding → Command → Type 0 = λ h after command. Plays g.D.Desk.says (script h command) c.args.desk.now (Replied Bye) after c.quit.new.desk in
     let same = ap (λ (k : Kept). k.handles) c.self.view_is in
     let none = ap (held g.D.Desk.tx g.D.Desk.rx) c.quit.ensures.none in
-    let after = held g.D.Desk.tx g.D.Desk.rx c.quit.new.seats.entries in
+    let after = held g.D.Desk.tx g.D.Desk.rx c.quit.new.handles.entries in
     let spent : P had after Commands.Quit = subst (λ after. P had after Commands.Quit) (sym none) c.quit.ensures.spent in
     (Replied Bye, refl, (subst (P c.args.self.now.handles after) (sym c.in-Quit.is) (subst (λ h. P h after Commands.Quit) same spent), (ap (λ (k : Kept). k.receipts) c.self.view_is, ap (λ (k : Kept). k.segments) c.self.view_is)))

@@ -1,0 +1,18 @@
+use Rattle.std.proofs.Common.{sym, subst}
+use Rattle.th_traces.specs.Grammars.{reply_of}
+use Rattle.th_check.specs.declared.fault.Expected.{Expected}
+use Rattle.th_check.specs.Judging.{IsOther}
+use Rattle.th_check.specs.Stages.{words_of}
+use Rattle.th_check.proofs.Turning.{says_too_early}
+use Rattle.th_check.proofs.course.take_reply.Goals as goal
+
+pub returns-then-not-ready : goal.returns-then-not-ready
+returns-then-not-ready g c = λ form state before shown counted.
+    let kind = g.K.Object in
+    let grammar = g.C.EntryLines.grammar in
+    let line = c.args.line.now in
+    let other = subst (λ (own : Expected). IsOther (reply_of grammar c.args.call line) own c.another.result) c.tell_none.ensures
+    (c.another.ensures c.args.call (sym c.gives_value-gives.ensures)) in
+    says_too_early kind.machine kind.is_proper (words_of grammar g.C.JudgedCall.told form) g.met.K.Object.step_ok g.met.K.Object.answer_ok
+    state (kind.shows c.args.course.now.channel) shown before
+    c.args.call line c.another.result other (let early = c.if-not-ready.true in let told = c.ready.ensures in cc)

@@ -1,0 +1,203 @@
+-- How lines are fed, step after step.
+use Rattle.std.proofs.Common.{◌≡◌, ℕ, ◌+◌, ◌<◌, ◌≤◌, Bool, true, false, List, [], ◌∷◌, ◌++◌, inr, length, refl, sym, ap, ◌∙◌, append_assoc, append-nil, arith, length-append, subst, Option}
+use Rattle.std.specs.Io.KnownBytes.{Consumes, IsAtEnd, Keeps}
+use Rattle.std.proofs.KnownBytes.{Consumes-nil, Consumes-trans, Consumes-kept}
+use Rattle.std.proofs.lemmas.Bool.{false≢true}
+use Rattle.th_lines.specs.Feeding.{Feeding, Finished, Halted, HandsOut, Stands, Underway, beginning}
+use Rattle.th_lines.specs.Intake.{Came, Ends, Fills, Finds, IsSameLine, Reading, lines_after, most_read}
+use Rattle.th_lines.specs.Lines.{Line, last_line, line_of, lines_from, lines_of}
+use Rattle.th_lines.specs.declared.counted.Moved.{Moved}
+use Rattle.th_lines.specs.declared.counted.Moved.TheVariants as moved
+use Rattle.th_lines.specs.declared.feeder.Fed.{Fed}
+use Rattle.th_lines.specs.declared.feeder.Fed.TheVariants.{Ended, Stopped, Full, Failed, Spent}
+use Rattle.th_lines.proofs.LineLemmas.{last_line-one, lines_from-same}
+
+-- the next line was looked for, within the bound
+pub handed_out : (found : Bool) (old : Feeding) (mid : Reading) → Finds old.came found mid → old.taken < old.limit
+    → HandsOut old found (record old { line = mid.line; came = mid.came })
+handed_out true old mid f room = (room, f, refl)
+handed_out false old mid f room = (inr f.0, f.1, refl)
+
+-- what is handed out at the end of the input is its last line
+last_none : (c : Came) → c.ahead ≡ [] → c.begun ≡ [] → lines_after true c [] ≡ []
+last_none c e f = ap (λ (l : List ℕ). lines_from true c.begun (l ++ [])) e ∙ ap (λ (l : List ℕ). last_line true l) f
+
+last_one : (c : Came) → c.ahead ≡ [] → 0 < length c.begun → lines_after true c [] ≡ line_of false c.begun ∷ []
+last_one c e some = ap (λ (l : List ℕ). lines_from true c.begun (l ++ [])) e ∙ last_line-one c.begun some
+
+as_kept : (r1 r2 : Option (List ℕ)) (bytes : List ℕ) → bytes ≡ [] → Keeps r1 r2 → Consumes r1 r2 bytes
+as_kept r1 r2 bytes e k = subst (λ (l : List ℕ). Consumes r1 r2 l) (sym e) (Consumes-kept r1 r1 r2 [] (Consumes-nil r1) k)
+
+module _ {P E : Type 0} {took : P → List Line → P → Type 0} {halts : P → List Line → E → P → Type 0} where
+  module _ {r r' : Option (List ℕ)} {from : P} {n : ℕ} {old : Feeding} {was : P} (u : Underway took halts r r' from n old was) where
+    -- no further line is whole, or may be handed out
+    pub looks_on : (new : Feeding) → HandsOut old false new → Underway took halts r r' from n new was
+    looks_on new h = record {
+      input = u.input;
+      read = u.read;
+      few = u.few;
+      done = u.done;
+      lines = λ ended more. u.lines ended more ∙ ap (λ (l : List Line). u.done ++ l) (h.1 ended more);
+      counted = ap (λ (f : Feeding). f.taken) h.2 ∙ u.counted;
+      more = ap (λ (f : Feeding). f.ended) h.2 ∙ u.more;
+      stands = u.stands;
+    }
+
+    -- the taker holds nothing back, or has stopped
+    pub settles : (now : P) → ((start : P) (lines : List Line) → took start lines was → took start lines now) → Underway took halts r r' from n old now
+    settles now s = record { input = u.input; read = u.read; few = u.few; done = u.done; lines = u.lines; counted = u.counted; more = u.more; stands = s from u.done u.stands }
+
+    pub halts_here : (why : E) (now : P) → ((start : P) (lines : List Line) → took start lines was → halts start lines why now) → Halted took halts r r' from old why now
+    halts_here why now s = record {
+      input = u.input;
+      read = u.read;
+      whole = λ e. absurd (false≢true (sym u.more ∙ e));
+      done = u.done;
+      lines = λ ended more _. (lines_after ended old.came more, u.lines ended more);
+      counted = u.counted;
+      stands = s from u.done u.stands;
+    }
+
+    -- the next line was handed out
+    module _ (mid last : Feeding) (h : HandsOut old true mid) (e : last ≡ record mid { taken = mid.taken + 1 }) where
+      abbrev line : Line
+      line = line_of true mid.line
+
+      one_more : (ended : Bool) (more : List ℕ) → lines_from ended [] (u.input ++ more) ≡ (u.done ++ line ∷ []) ++ lines_after ended mid.came more
+      one_more ended more = u.lines ended more ∙ ap (λ (l : List Line). u.done ++ l) (h.1.1 ended more) ∙ sym (append_assoc u.done (line ∷ []) (lines_after ended mid.came more))
+
+      counted : mid.taken + 1 ≡ length (u.done ++ line ∷ [])
+      counted = omega (arith, ap (λ (f : Feeding). f.taken) h.2, u.counted, length-append u.done (line ∷ []))
+
+      still : mid.ended ≡ false
+      still = ap (λ (f : Feeding). f.ended) h.2 ∙ u.more
+
+      pub takes_on : (now : P) → ((start : P) (lines : List Line) → took start lines was → took start (lines ++ line ∷ []) now) → Underway took halts r r' from n last now
+      takes_on now t = subst (λ (f : Feeding). Underway took halts r r' from n f now) (sym e) (record {
+        input = u.input;
+        read = u.read;
+        few = u.few;
+        done = u.done ++ line ∷ [];
+        lines = one_more;
+        counted = counted;
+        more = still;
+        stands = t from u.done u.stands;
+      })
+
+      pub halts_at : (why : E) (now : P) → ((start : P) (lines : List Line) → took start lines was → halts start (lines ++ line ∷ []) why now) → Halted took halts r r' from last why now
+      halts_at why now t = subst (λ (f : Feeding). Halted took halts r r' from f why now) (sym e) (record {
+        input = u.input;
+        read = u.read;
+        whole = λ k. absurd (false≢true (sym still ∙ k));
+        done = u.done ++ line ∷ [];
+        lines = λ ended more _. (lines_after ended mid.came more, one_more ended more);
+        counted = counted;
+        stands = t from u.done u.stands;
+      })
+
+    -- the reader was asked for more
+    module _ (r2 : Option (List ℕ)) (new : Feeding) (e : new ≡ record old { line = new.line; came = new.came }) (none : old.came.ahead ≡ [])
+        (most : length new.came.ahead ≤ most_read) where
+      reads_on : IsSameLine new.came.begun old.came.begun → Consumes r' r2 new.came.ahead → Underway took halts r r2 from (n + 1) new was
+      reads_on same read = record {
+        input = u.input ++ new.came.ahead;
+        read = Consumes-trans r r' r2 u.input new.came.ahead u.read read;
+        few = omega (arith, u.few, most, length-append u.input new.came.ahead);
+        done = u.done;
+        lines = λ ended more.
+            ap (λ (l : List ℕ). lines_from ended [] l) (append_assoc u.input new.came.ahead more)
+            ∙ u.lines ended (new.came.ahead ++ more)
+            ∙ ap (λ (l : List ℕ). u.done ++ lines_from ended old.came.begun (l ++ (new.came.ahead ++ more))) none
+            ∙ ap (λ (l : List Line). u.done ++ l) (sym (lines_from-same ended new.came.begun old.came.begun (new.came.ahead ++ more) same));
+        counted = ap (λ (f : Feeding). f.taken) e ∙ u.counted;
+        more = ap (λ (f : Feeding). f.ended) e ∙ u.more;
+        stands = u.stands;
+      }
+
+      pub fills_on : (m : Moved) → Fills r' r2 m old.came new.came → Underway took halts r r2 from (n + 1) new was
+      fills_on (moved.Bytes k) f = reads_on f.0 f.2
+      fills_on moved.Again f = reads_on f.0 (as_kept r' r2 _ f.1 f.2)
+      fills_on moved.Failed f = reads_on f.0 (as_kept r' r2 _ f.1 f.2)
+
+    -- the input has ended
+    module _ (none : old.came.ahead ≡ []) (end : IsAtEnd r') (within : old.taken ≤ old.limit) (mid : Feeding)
+        (e : mid ≡ record old { line = mid.line; came = mid.came; ended = true }) where
+      all_lines : (last : List Line) → lines_after true old.came [] ≡ last → lines_of u.input ≡ u.done ++ last
+      all_lines last l = ap (λ (b : List ℕ). lines_from true [] b) (sym (append-nil u.input)) ∙ u.lines true [] ∙ ap (λ (k : List Line). u.done ++ k) l
+
+      pub finishes : Ends old.came false (record { line = mid.line; came = mid.came }) → Finished took halts r r' from mid was
+      finishes f =
+          let all = all_lines [] (last_none old.came none f.0) ∙ append-nil u.done in
+          subst (λ (g : Feeding). Finished took halts r r' from g was) (sym e) (record {
+            input = u.input;
+            read = u.read;
+            whole = end;
+            counted = u.counted ∙ ap length (sym all);
+            within = within;
+            stands = subst (λ (l : List Line). took from l was) (sym all) u.stands;
+          })
+
+      module _ (f : Ends old.came true (record { line = mid.line; came = mid.came })) (room : old.taken < old.limit) (last : Feeding)
+          (k : last ≡ record mid { taken = mid.taken + 1 }) where
+        abbrev final : Line
+        final = line_of false mid.line
+
+        whole_text : lines_of u.input ≡ u.done ++ final ∷ []
+        whole_text = all_lines (final ∷ []) (last_one old.came none f.0 ∙ ap (λ (g : Reading). line_of false g.line ∷ []) (sym f.1))
+
+        count : mid.taken + 1 ≡ length (u.done ++ final ∷ [])
+        count = omega (arith, ap (λ (g : Feeding). g.taken) e, u.counted, length-append u.done (final ∷ []))
+
+        pub finishes_at : (now : P) → ((start : P) (lines : List Line) → took start lines was → took start (lines ++ final ∷ []) now) → Finished took halts r r' from last now
+        finishes_at now t = subst (λ (g : Feeding). Finished took halts r r' from g now) (sym k) (record {
+          input = u.input;
+          read = u.read;
+          whole = end;
+          counted = count ∙ ap length (sym whole_text);
+          within = omega (arith, room, ap (λ (g : Feeding). g.taken) e, ap (λ (g : Feeding). g.limit) e);
+          stands = subst (λ (l : List Line). took from l now) (sym whole_text) (t from u.done u.stands);
+        })
+
+        pub halts_last : (why : E) (now : P) → ((start : P) (lines : List Line) → took start lines was → halts start (lines ++ final ∷ []) why now) → Halted took halts r r' from last why now
+        halts_last why now t = subst (λ (g : Feeding). Halted took halts r r' from g why now) (sym k) (record {
+          input = u.input;
+          read = u.read;
+          whole = λ _. end;
+          done = u.done ++ final ∷ [];
+          lines = λ ended more h.
+              let at = h (ap (λ (g : Feeding). g.ended) e) in (
+                [],
+                ap (λ (b : List ℕ). lines_from ended [] (u.input ++ b)) at.1
+                    ∙ ap (λ (b : Bool). lines_from b [] (u.input ++ [])) at.0
+                    ∙ ap (λ (b : List ℕ). lines_from true [] b) (append-nil u.input) ∙ whole_text ∙ sym (append-nil (u.done ++ final ∷ [])),
+              );
+          counted = count;
+          stands = t from u.done u.stands;
+        })
+
+module _ {P E : Type 0} (took : P → List Line → P → Type 0) (halts : P → List Line → E → P → Type 0) where
+  -- by more reads at most, and whatever holds where all were made
+  more_reads : (r r' : Option (List ℕ)) (from : P) (n m : ℕ) (f : Feeding) (now : P) → n ≤ m → Underway took halts r r' from n f now → Underway took halts r r' from m f now
+  more_reads r r' from n m f now le u =
+      record { input = u.input; read = u.read; few = omega (arith, u.few, le); done = u.done; lines = u.lines; counted = u.counted; more = u.more; stands = u.stands }
+
+  pub within_more : (r r' : Option (List ℕ)) (from : P) (is_settled : P → Type 0) (spent : Type 0) (n m : ℕ) (fed : Fed E) (f : Feeding) (now : P) → n ≤ m
+      → Stands took halts r r' from is_settled ⊥ n fed f now → Stands took halts r r' from is_settled spent m fed f now
+  within_more r r' from is_settled spent n m Ended f now le s = s
+  within_more r r' from is_settled spent n m (Stopped why) f now le s = s
+  within_more r r' from is_settled spent n m Full f now le s = (more_reads r r' from n m f now le s.0, s.1)
+  within_more r r' from is_settled spent n m Failed f now le s = (more_reads r r' from n m f now le s.0, s.1, s.2)
+  within_more r r' from is_settled spent n m Spent f now le s = absurd s.2
+
+  -- nothing was read yet
+  pub starts : (r : Option (List ℕ)) (limit : ℕ) (from : P) → took from [] from → Underway took halts r r from 0 (beginning limit) from
+  starts r limit from t = record {
+    input = [];
+    read = Consumes-nil r;
+    few = omega arith;
+    done = [];
+    lines = λ ended more. refl;
+    counted = refl;
+    more = refl;
+    stands = t;
+  }
