@@ -6,7 +6,8 @@ use Rattle.th_log.specs.Outcome.{Told}
 use Rattle.th_block.specs.Locked.{IsSeated, Spends}
 use Rattle.th_block.specs.declared.seat.Seat.{Seat}
 
-module _ {E S C R : Type 0} (m : Machine E S C R) (done : R) (is_live : S → Bool) (last call : C) (is : call ≡ last) (ends : IsLast m done is_live last) where
+module _ {E S C R : Type 0} (m : Machine E S C R) (done : R) (is_live : S → Bool) (last call : C) (is : call ≡ last)
+    (ends : IsLast m done is_live last) where
   -- its last call does not wait
   pub ready : (p : S) → m.ready p call ≡ true
   ready p = subst (λ (c : C). m.ready p c ≡ true) (sym is) (ends.ready p)

@@ -31,7 +31,8 @@ leads-append a b c [] ys p q = subst (λ (x : Point). Leads x ys c) p q
 leads-append a b c (x ∷ xs) ys p q = (p.0, p.1, leads-append p.0 b c xs ys p.2 q)
 
 -- one line was judged
-pub takes_on : (old new : Reached) (line : Line) (r : Result (Unit {0}) Stop) → ((here : Point) → Holds here old.0 → Takes here line (taken r new.0))
+pub takes_on : (old new : Reached) (line : Line) (r : Result (Unit {0}) Stop) →
+    ((here : Point) → Holds here old.0 → Takes here line (taken r new.0))
     → feeding.Takes Passes Halts line old r new
 takes_on old new line (Ok x) h = λ from lines p here held.
     let one = p here held in
@@ -52,7 +53,8 @@ is_legal v = false
 no_legal : {A : Type 0} (v : Verdict) (n : ℕ) → is_legal v ≡ false → v ≡ verdict.Legal n → A
 no_legal v n e f = absurd (false≢true (sym e ∙ ap is_legal f))
 
-so_at : (v : Verdict) (lines : List Line) (judged : ℕ) (there : Point) → Leads start lines there → EndSays there judged v → judged ≡ length lines → IsSo lines v
+so_at : (v : Verdict) (lines : List Line) (judged : ℕ) (there : Point) → Leads start lines there → EndSays there judged v →
+    judged ≡ length lines → IsSo lines v
 so_at (verdict.Legal n) lines judged there led says count = record { end = there; led = led; ended = says }
 so_at (verdict.Illegal n) lines judged there led says count = absurd says
 so_at (verdict.BadTrace n) lines judged there led says count = record {
@@ -71,14 +73,16 @@ few_from held [] = rw (last_line-none held) (omega arith)
 few_from held (b ∷ bytes) =
     let other = few_from (held ++ b ∷ []) bytes in
     let next = few_from [] bytes in
-    elim (eqb b 10) as (λ t. length (cond t (line_of true held ∷ lines_from false [] bytes) (lines_from false (held ++ b ∷ []) bytes)) ≤ length (b ∷ bytes)) [
+    elim (eqb b 10) as (λ t. length (cond t (line_of true held ∷ lines_from false [] bytes)
+    (lines_from false (held ++ b ∷ []) bytes)) ≤ length (b ∷ bytes)) [
       | true ↦ omega (arith, next)
       | false ↦ omega (arith, other)
     ]
 
 module _ (r r' : Option (List ℕ)) where
   -- all lines lead on, and the input has ended
-  ended : (f : Feeding) (now : Reached) (v : Verdict) → Finished Passes Halts r r' first f now → ((here : Point) → Holds here now.0 → EndSays here f.taken v) → Checked r r' v
+  ended : (f : Feeding) (now : Reached) (v : Verdict) → Finished Passes Halts r r' first f now →
+      ((here : Point) → Holds here now.0 → EndSays here f.taken v) → Checked r r' v
   ended f now v s says =
       let there = s.stands start refl in
       let all : (more : List ℕ) → (IsAtEnd r' → more ≡ []) → lines_of (s.input ++ more) ≡ lines_of s.input =
@@ -86,13 +90,16 @@ module _ (r r' : Option (List ℕ)) where
       record {
         input = s.input;
         read = s.read;
-        so = λ more none. subst (λ (l : List Line). IsSo l v) (sym (all more none)) (so_at v (lines_of s.input) f.taken there.0 there.1 (says there.0 there.2) s.counted);
+        so = λ more none. subst (λ (l : List Line). IsSo l v) (sym (all more none))
+            (so_at v (lines_of s.input) f.taken there.0 there.1 (says there.0 there.2) s.counted);
         whole = λ n e. s.whole;
       }
 
   -- a line stopped the code
-  halted : (f : Feeding) (now : Reached) (why : Stop) (v : Verdict) → Halted Passes Halts r r' first f why now → ((n : ℕ) → v ≡ verdict.Legal n → ⊥)
-      → ((here : Point) (before : List Line) (line : Line) (later : List Line) → Leads start before here → StopsAt here line why → f.taken ≡ length before + 1
+  halted : (f : Feeding) (now : Reached) (why : Stop) (v : Verdict) → Halted Passes Halts r r' first f why now →
+      ((n : ℕ) → v ≡ verdict.Legal n → ⊥)
+      → ((here : Point) (before : List Line) (line : Line) (later : List Line) → Leads start before here → StopsAt here line why →
+      f.taken ≡ length before + 1
       → IsSo (before ++ line ∷ later) v) → Checked r r' v
   halted f now why v s legal so =
       let h = s.stands start refl in
@@ -104,7 +111,8 @@ module _ (r r' : Option (List ℕ)) where
             let parts : lines_of (s.input ++ more) ≡ h.before ++ h.line ∷ all.0 =
             all.1 ∙ ap (λ (l : List Line). l ++ all.0) h.parts ∙ append_assoc h.before (h.line ∷ []) all.0 in
             subst (λ (l : List Line). IsSo l v) (sym parts)
-            (so h.there h.before h.line all.0 h.led h.stops (omega (arith, s.counted, ap length h.parts, length-append h.before (h.line ∷ []))));
+            (so h.there h.before h.line all.0 h.led h.stops (omega
+            (arith, s.counted, ap length h.parts, length-append h.before (h.line ∷ []))));
         whole = λ n e. absurd (legal n e);
       }
 
@@ -134,13 +142,16 @@ module _ (r r' : Option (List ℕ)) where
 
   module _ (A : Type 0) (calls calls' n : ℕ) (f : Feeding) (now : Reached) (le : n ≤ 2 ^ 32) (bound : 2 ^ 49 < f.limit) where
     -- from the first line on
-    pub stands_so : (x : Spot) (fed : Fed Stop) → x ≡ spot.InPicture Nothing → Feeds Passes Halts IsReached r r' calls calls' n (x, tt, tt) fed f now
+    pub stands_so : (x : Spot) (fed : Fed Stop) → x ≡ spot.InPicture Nothing →
+        Feeds Passes Halts IsReached r r' calls calls' n (x, tt, tt) fed f now
         → Stands Passes Halts r r' first IsReached (kept_count calls' ≡ kept_count (calls + n)) n fed f now
     stands_so x fed e h =
-        subst (λ (y : Spot). Passes (y, tt, tt) [] (y, tt, tt) → Stands Passes Halts r r' (y, tt, tt) IsReached (kept_count calls' ≡ kept_count (calls + n)) n fed f now) e h
+        subst (λ (y : Spot). Passes (y, tt, tt) [] (y, tt, tt) →
+        Stands Passes Halts r r' (y, tt, tt) IsReached (kept_count calls' ≡ kept_count (calls + n)) n fed f now) e h
         (λ here held. (here, refl, held))
 
-    pub says_so : (fed : Fed Stop) (result : Result (Verdict × A) CheckFault) → Stands Passes Halts r r' first IsReached (kept_count calls' ≡ kept_count (calls + n)) n fed f now
+    pub says_so : (fed : Fed Stop) (result : Result (Verdict × A) CheckFault) →
+        Stands Passes Halts r r' first IsReached (kept_count calls' ≡ kept_count (calls + n)) n fed f now
         → Concludes fed now.0 f.taken result → IfOk result (λ said. Checked r r' said.0)
     says_so fed (Err e) s c = tt
     says_so why.Ended (Ok said) s c = ended f now said.0 s c
@@ -151,13 +162,24 @@ module _ (r r' : Option (List ℕ)) where
     says_so (why.Stopped (stop.Illegal own)) (Ok said) s c =
         halted f now (stop.Illegal own) said.0 s (λ n e. no_legal (verdict.Illegal f.taken) n refl (sym c ∙ e))
         (λ here before line later led stops count. subst (λ (v : Verdict). IsSo (before ++ line ∷ later) v) (sym c)
-        (record { before = before; line = line; later = later; parts = refl; here = here; led = led; illegal = stops.illegal; counted = count }))
+        (record {
+          before = before;
+          line = line;
+          later = later;
+          parts = refl;
+          here = here;
+          led = led;
+          illegal = stops.illegal;
+          counted =
+              count;
+        }))
     says_so (why.Stopped stop.Short) (Ok said) s c = absurd c
     says_so why.Full (Ok said) s c = absurd c
     says_so why.Failed (Ok said) s c = absurd c
     says_so why.Spent (Ok said) s c = absurd c
 
-    pub stops_so : (fed : Fed Stop) (result : Result (Verdict × A) CheckFault) → Stands Passes Halts r r' first IsReached (kept_count calls' ≡ kept_count (calls + n)) n fed f now
+    pub stops_so : (fed : Fed Stop) (result : Result (Verdict × A) CheckFault) →
+        Stands Passes Halts r r' first IsReached (kept_count calls' ≡ kept_count (calls + n)) n fed f now
         → Concludes fed now.0 f.taken result → IfErr result (λ e. Stopped r r' calls calls' n e)
     stops_so fed (Ok said) s c = tt
     stops_so why.Ended (Err e) s c = absurd c
@@ -168,5 +190,7 @@ module _ (r r' : Option (List ℕ)) where
     stops_so why.Failed (Err e) s c = subst (λ (x : CheckFault). Stopped r r' calls calls' n x) (sym c) (good_so_far n f now s.0 s.1)
     stops_so why.Spent (Err e) s c = subst (λ (x : CheckFault). Stopped r r' calls calls' n x) (sym c) (good_so_far n f now s.0 s.1, s.2)
 
-    pub counted_within : (fed : Fed Stop) → Stands Passes Halts r r' first IsReached (kept_count calls' ≡ kept_count (calls + n)) n fed f now → fed ≡ why.Ended → f.taken ≤ f.limit
-    counted_within fed s e = (subst (λ (x : Fed Stop). Stands Passes Halts r r' first IsReached (kept_count calls' ≡ kept_count (calls + n)) n x f now) e s).within
+    pub counted_within : (fed : Fed Stop) → Stands Passes Halts r r' first IsReached (kept_count calls' ≡ kept_count (calls + n)) n fed f
+        now → fed ≡ why.Ended → f.taken ≤ f.limit
+    counted_within fed s e = (subst (λ (x : Fed Stop). Stands Passes Halts r r' first IsReached (kept_count calls' ≡ kept_count (calls + n))
+        n x f now) e s).within

@@ -26,7 +26,8 @@ pub record IsGoodSoFar (reader reader' : Option (List ℕ)) : Type 0 where
   pub led : Leads start (lines_from false [] input) here
 
 -- What a fault says: where the reader failed, or all reads were made, no line that came was bad or illegal.
-abbrev pub Stopped : Option (List ℕ) → Option (List ℕ) → (calls calls' reads : ℕ) → CheckFault → Type 0
+abbrev pub Stopped : Option (List ℕ) → Option (List ℕ) → (calls calls' reads : ℕ) → CheckFault →
+    Type 0
 Stopped reader reader' calls calls' reads Read = IsGoodSoFar reader reader'
 Stopped reader reader' calls calls' reads TooLong =
     IsGoodSoFar reader reader' × (kept_count calls' ≡ kept_count (calls + reads))

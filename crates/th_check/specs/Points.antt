@@ -44,7 +44,8 @@ abbrev pub start : Point
 start = InPicture Nothing
 
 -- a watch channel's values are compared byte by byte
-abbrev pub watch_machine : Machine (watch.Endless Bytes) (watch_picture.Picture Bytes) (WCall Bytes) (WReply Bytes)
+abbrev pub watch_machine : Machine (watch.Endless Bytes) (watch_picture.Picture Bytes) (WCall Bytes)
+    (WReply Bytes)
 watch_machine = machines.watch (pointwise nat_eq)
 
 abbrev pub words_of_broadcast : Version → Words (BCall Bytes) (BReply Bytes)

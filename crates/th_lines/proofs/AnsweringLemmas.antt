@@ -10,7 +10,8 @@ use Rattle.th_lines.specs.Output.{Output, Adds, AddsOrFails, Flushes, WritesAll,
 use Rattle.th_lines.proofs.OutputLemmas.{adds_both, adds_flushed, adds_none, flushed_adds, front_after, waiting_front}
 
 -- something came behind what waited, and then more
-pub says_after : (whole : Bool) {a b : Output} {x : List ℕ} (c : Output) (y : List ℕ) → Adds x a b → Says whole y b c → Says whole (x ++ y) a c
+pub says_after : (whole : Bool) {a b : Output} {x : List ℕ} (c : Output) (y : List ℕ) → Adds x a b → Says whole y b c →
+    Says whole (x ++ y) a c
 says_after true c y p q = adds_both p q
 says_after false c y p q = front_after y p q
 
@@ -37,7 +38,8 @@ at_end true x a b p = record { wrote = p.wrote; same = p.same }
 at_end false x a b p = record { shown = p.shown; unsaid = p.unsaid; wrote = p.wrote; text = p.text; failed = p.failed }
 
 module _ {S : Type 0} (turn : S → Line → List ℕ → S → Type 0) where
-  pub turned-append : (xs ys : List Line) (s m e : S) (a b : List (List ℕ)) → Turned turn xs s a m → Turned turn ys m b e → Turned turn (xs ++ ys) s (a ++ b) e
+  pub turned-append : (xs ys : List Line) (s m e : S) (a b : List (List ℕ)) → Turned turn xs s a m → Turned turn ys m b e →
+      Turned turn (xs ++ ys) s (a ++ b) e
   turned-append [] ys s m e [] b p q = subst (λ (t : S). Turned turn ys t b e) p q
   turned-append [] ys s m e (r ∷ a) b p q = absurd p
   turned-append (x ∷ xs) ys s m e [] b p q = absurd p
@@ -50,11 +52,13 @@ module _ {S : Type 0} {turn : S → Line → List ℕ → S → Type 0} where
 
   module _ {a b : S × Output} {ls : List Line} (p : Answers turn a ls b) where
     -- one line more
-    pub answers_line : (line : Line) (text : List ℕ) (c : S × Output) → turn b.0 line text c.0 → Adds text b.1 c.1 → Answers turn a (ls ++ line ∷ []) c
+    pub answers_line : (line : Line) (text : List ℕ) (c : S × Output) → turn b.0 line text c.0 → Adds text b.1 c.1 →
+        Answers turn a (ls ++ line ∷ []) c
     answers_line line text c t said = record {
       texts = p.texts ++ text ∷ [];
       turned = turned-append turn ls (line ∷ []) a.0 b.0 c.0 p.texts (text ∷ []) p.turned (c.0, t, refl);
-      said = subst (λ (l : List ℕ). Adds l a.1 c.1) (sym (concat-append p.texts (text ∷ []) ∙ ap (λ (l : List ℕ). concat p.texts ++ l) (append-nil text)))
+      said = subst (λ (l : List ℕ). Adds l a.1 c.1) (sym (concat-append p.texts (text ∷ [])
+          ∙ ap (λ (l : List ℕ). concat p.texts ++ l) (append-nil text)))
           (adds_both p.said said);
     }
 
@@ -67,7 +71,8 @@ module _ {S : Type 0} {turn : S → Line → List ℕ → S → Type 0} where
     }
 
     -- it came to an end after them
-    unfoldable pub breaks_after : {whole : Bool} {later : List Line} {c : S × Output} → Breaks turn whole b later c → Breaks turn whole a (ls ++ later) c
+    unfoldable pub breaks_after : {whole : Bool} {later : List Line} {c : S × Output} → Breaks turn whole b later c →
+        Breaks turn whole a (ls ++ later) c
     breaks_after {whole} {later} {c} q = record {
       done = ls ++ q.done;
       later = q.later;
@@ -78,11 +83,13 @@ module _ {S : Type 0} {turn : S → Line → List ℕ → S → Type 0} where
     }
 
   -- it comes to an end before any further line
-  unfoldable pub breaks_here : (whole : Bool) (a : S × Output) (ls : List Line) (out : Output) → Says whole [] a.1 out → Breaks turn whole a ls (a.0, out)
+  unfoldable pub breaks_here : (whole : Bool) (a : S × Output) (ls : List Line) (out : Output) → Says whole [] a.1 out →
+      Breaks turn whole a ls (a.0, out)
   breaks_here whole a ls out said = record { done = []; later = ls; texts = []; parts = refl; turned = refl; said = said }
 
   -- or with the text that answers a line
-  unfoldable pub breaks_at : (whole : Bool) (a : S × Output) (line : Line) (text : List ℕ) (b : S × Output) → turn a.0 line text b.0 → Says whole text a.1 b.1
+  unfoldable pub breaks_at : (whole : Bool) (a : S × Output) (line : Line) (text : List ℕ) (b : S × Output) → turn a.0 line text b.0 →
+      Says whole text a.1 b.1
       → Breaks turn whole a (line ∷ []) b
   breaks_at whole a line text b t said = record {
     done = line ∷ [];

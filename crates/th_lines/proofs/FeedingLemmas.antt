@@ -44,10 +44,22 @@ module _ {P E : Type 0} {took : P → List Line → P → Type 0} {halts : P →
     }
 
     -- the taker holds nothing back, or has stopped
-    pub settles : (now : P) → ((start : P) (lines : List Line) → took start lines was → took start lines now) → Underway took halts r r' from n old now
-    settles now s = record { input = u.input; read = u.read; few = u.few; done = u.done; lines = u.lines; counted = u.counted; more = u.more; stands = s from u.done u.stands }
+    pub settles : (now : P) → ((start : P) (lines : List Line) → took start lines was → took start lines now) →
+        Underway took halts r r' from n old now
+    settles now s = record {
+      input = u.input;
+      read = u.read;
+      few = u.few;
+      done = u.done;
+      lines = u.lines;
+      counted = u.counted;
+      more =
+          u.more;
+      stands = s from u.done u.stands;
+    }
 
-    pub halts_here : (why : E) (now : P) → ((start : P) (lines : List Line) → took start lines was → halts start lines why now) → Halted took halts r r' from old why now
+    pub halts_here : (why : E) (now : P) → ((start : P) (lines : List Line) → took start lines was → halts start lines why now) →
+        Halted took halts r r' from old why now
     halts_here why now s = record {
       input = u.input;
       read = u.read;
@@ -63,8 +75,10 @@ module _ {P E : Type 0} {took : P → List Line → P → Type 0} {halts : P →
       abbrev line : Line
       line = line_of true mid.line
 
-      one_more : (ended : Bool) (more : List ℕ) → lines_from ended [] (u.input ++ more) ≡ (u.done ++ line ∷ []) ++ lines_after ended mid.came more
-      one_more ended more = u.lines ended more ∙ ap (λ (l : List Line). u.done ++ l) (h.1.1 ended more) ∙ sym (append_assoc u.done (line ∷ []) (lines_after ended mid.came more))
+      one_more : (ended : Bool) (more : List ℕ) → lines_from ended [] (u.input ++ more)
+          ≡ (u.done ++ line ∷ []) ++ lines_after ended mid.came more
+      one_more ended more = u.lines ended more ∙ ap (λ (l : List Line). u.done ++ l) (h.1.1 ended more)
+          ∙ sym (append_assoc u.done (line ∷ []) (lines_after ended mid.came more))
 
       counted : mid.taken + 1 ≡ length (u.done ++ line ∷ [])
       counted = omega (arith, ap (λ (f : Feeding). f.taken) h.2, u.counted, length-append u.done (line ∷ []))
@@ -72,7 +86,8 @@ module _ {P E : Type 0} {took : P → List Line → P → Type 0} {halts : P →
       still : mid.ended ≡ false
       still = ap (λ (f : Feeding). f.ended) h.2 ∙ u.more
 
-      pub takes_on : (now : P) → ((start : P) (lines : List Line) → took start lines was → took start (lines ++ line ∷ []) now) → Underway took halts r r' from n last now
+      pub takes_on : (now : P) → ((start : P) (lines : List Line) → took start lines was → took start (lines ++ line ∷ []) now) →
+          Underway took halts r r' from n last now
       takes_on now t = subst (λ (f : Feeding). Underway took halts r r' from n f now) (sym e) (record {
         input = u.input;
         read = u.read;
@@ -84,7 +99,8 @@ module _ {P E : Type 0} {took : P → List Line → P → Type 0} {halts : P →
         stands = t from u.done u.stands;
       })
 
-      pub halts_at : (why : E) (now : P) → ((start : P) (lines : List Line) → took start lines was → halts start (lines ++ line ∷ []) why now) → Halted took halts r r' from last why now
+      pub halts_at : (why : E) (now : P) → ((start : P) (lines : List Line) → took start lines was →
+          halts start (lines ++ line ∷ []) why now) → Halted took halts r r' from last why now
       halts_at why now t = subst (λ (f : Feeding). Halted took halts r r' from f why now) (sym e) (record {
         input = u.input;
         read = u.read;
@@ -123,7 +139,8 @@ module _ {P E : Type 0} {took : P → List Line → P → Type 0} {halts : P →
     module _ (none : old.came.ahead ≡ []) (end : IsAtEnd r') (within : old.taken ≤ old.limit) (mid : Feeding)
         (e : mid ≡ record old { line = mid.line; came = mid.came; ended = true }) where
       all_lines : (last : List Line) → lines_after true old.came [] ≡ last → lines_of u.input ≡ u.done ++ last
-      all_lines last l = ap (λ (b : List ℕ). lines_from true [] b) (sym (append-nil u.input)) ∙ u.lines true [] ∙ ap (λ (k : List Line). u.done ++ k) l
+      all_lines last l = ap (λ (b : List ℕ). lines_from true [] b) (sym (append-nil u.input)) ∙ u.lines true []
+          ∙ ap (λ (k : List Line). u.done ++ k) l
 
       pub finishes : Ends old.came false (record { line = mid.line; came = mid.came }) → Finished took halts r r' from mid was
       finishes f =
@@ -148,7 +165,8 @@ module _ {P E : Type 0} {took : P → List Line → P → Type 0} {halts : P →
         count : mid.taken + 1 ≡ length (u.done ++ final ∷ [])
         count = omega (arith, ap (λ (g : Feeding). g.taken) e, u.counted, length-append u.done (final ∷ []))
 
-        pub finishes_at : (now : P) → ((start : P) (lines : List Line) → took start lines was → took start (lines ++ final ∷ []) now) → Finished took halts r r' from last now
+        pub finishes_at : (now : P) → ((start : P) (lines : List Line) → took start lines was → took start (lines ++ final ∷ []) now) →
+            Finished took halts r r' from last now
         finishes_at now t = subst (λ (g : Feeding). Finished took halts r r' from g now) (sym k) (record {
           input = u.input;
           read = u.read;
@@ -158,7 +176,8 @@ module _ {P E : Type 0} {took : P → List Line → P → Type 0} {halts : P →
           stands = subst (λ (l : List Line). took from l now) (sym whole_text) (t from u.done u.stands);
         })
 
-        pub halts_last : (why : E) (now : P) → ((start : P) (lines : List Line) → took start lines was → halts start (lines ++ final ∷ []) why now) → Halted took halts r r' from last why now
+        pub halts_last : (why : E) (now : P) → ((start : P) (lines : List Line) → took start lines was →
+            halts start (lines ++ final ∷ []) why now) → Halted took halts r r' from last why now
         halts_last why now t = subst (λ (g : Feeding). Halted took halts r r' from g why now) (sym k) (record {
           input = u.input;
           read = u.read;
@@ -177,11 +196,23 @@ module _ {P E : Type 0} {took : P → List Line → P → Type 0} {halts : P →
 
 module _ {P E : Type 0} (took : P → List Line → P → Type 0) (halts : P → List Line → E → P → Type 0) where
   -- by more reads at most, and whatever holds where all were made
-  more_reads : (r r' : Option (List ℕ)) (from : P) (n m : ℕ) (f : Feeding) (now : P) → n ≤ m → Underway took halts r r' from n f now → Underway took halts r r' from m f now
+  more_reads : (r r' : Option (List ℕ)) (from : P) (n m : ℕ) (f : Feeding) (now : P) → n ≤ m → Underway took halts r r' from n f now →
+      Underway took halts r r' from m f now
   more_reads r r' from n m f now le u =
-      record { input = u.input; read = u.read; few = omega (arith, u.few, le); done = u.done; lines = u.lines; counted = u.counted; more = u.more; stands = u.stands }
+      record {
+        input = u.input;
+        read = u.read;
+        few = omega (arith, u.few, le);
+        done = u.done;
+        lines = u.lines;
+        counted = u.counted;
+        more =
+            u.more;
+        stands = u.stands;
+      }
 
-  pub within_more : (r r' : Option (List ℕ)) (from : P) (is_settled : P → Type 0) (spent : Type 0) (n m : ℕ) (fed : Fed E) (f : Feeding) (now : P) → n ≤ m
+  pub within_more : (r r' : Option (List ℕ)) (from : P) (is_settled : P → Type 0) (spent : Type 0) (n m : ℕ) (fed : Fed E) (f : Feeding)
+      (now : P) → n ≤ m
       → Stands took halts r r' from is_settled ⊥ n fed f now → Stands took halts r r' from is_settled spent m fed f now
   within_more r r' from is_settled spent n m Ended f now le s = s
   within_more r r' from is_settled spent n m (Stopped why) f now le s = s

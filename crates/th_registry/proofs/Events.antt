@@ -62,14 +62,16 @@ module _ (limit : ℕ) where
 abbrev desk_of : ℕ → SeenTopics → Desk
 desk_of limit ts = record { limit = limit; topics = ts }
 
-pub desk-says : {c new : SeenChannel} {said : Noted} {limit : ℕ} {ts : SeenTopics} {old : Desk} (topic : ℕ) (e : Event) → desk_of limit ts ≡ old →
+pub desk-says : {c new : SeenChannel} {said : Noted} {limit : ℕ} {ts : SeenTopics} {old : Desk} (topic : ℕ) (e : Event) →
+    desk_of limit ts ≡ old →
     slice_get (values_of ts) topic ≡ Some c → ChannelTells c e said new →
     DeskSays old (On topic e) said (desk_of limit (set_value_at ts topic new))
 desk-says {new = new} {said = said} {limit = limit} {ts = ts} topic e same there tells =
     let P : Desk → Type 0 = λ old. DeskSays old (On topic e) said (desk_of limit (set_value_at ts topic new)) in
     subst P same (refl, topic-says limit ts topic e there tells)
 
-pub desk-cuts : {c new : SeenChannel} {segment : Result ChannelSegment NoEvent} {limit : ℕ} {ts : SeenTopics} {old : Desk} (topic : ℕ) → desk_of limit ts ≡ old →
+pub desk-cuts : {c new : SeenChannel} {segment : Result ChannelSegment NoEvent} {limit : ℕ} {ts : SeenTopics} {old : Desk} (topic : ℕ) →
+    desk_of limit ts ≡ old →
     slice_get (values_of ts) topic ≡ Some c → ChannelCuts c segment new →
     DeskSays old (Cut topic) segment (desk_of limit (set_value_at ts topic new))
 desk-cuts {new = new} {segment = segment} {limit = limit} {ts = ts} topic same there cuts =

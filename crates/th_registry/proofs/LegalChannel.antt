@@ -64,15 +64,18 @@ watch-laws = record {
 
 -- a call that is answered and does not wait was ready
 
-broadcast-ready : (e : broadcast.Endless Bytes) (call : BCall Bytes) → broadcast.IsProper e → broadcast_waits call (broadcast.step e call).0 ≡ false →
+broadcast-ready : (e : broadcast.Endless Bytes) (call : BCall Bytes) → broadcast.IsProper e →
+    broadcast_waits call (broadcast.step e call).0 ≡ false →
     broadcast_picture.is_ready (broadcast_picture.see e) call ≡ true
 broadcast-ready e call p goes = by (broadcast_picture.is_ready (broadcast_picture.see e) call) refl
   where
-    by : (b : Bool) → broadcast_picture.is_ready (broadcast_picture.see e) call ≡ b → broadcast_picture.is_ready (broadcast_picture.see e) call ≡ true
+    by : (b : Bool) → broadcast_picture.is_ready (broadcast_picture.see e) call ≡ b →
+        broadcast_picture.is_ready (broadcast_picture.see e) call ≡ true
     by true is = is
     by false is =
         let waits = (ready.readiness (broadcast_picture.see e) (sound.see_sound e p) call).0 is in
-        let reply : (broadcast.step e call).0 ≡ BReplies.Empty = sym (ap (λ (a : BReply Bytes × broadcast_picture.Picture Bytes). a.0) (seen.answer_seen e call p)) ∙ waits.2 in
+        let reply : (broadcast.step e call).0 ≡ BReplies.Empty =
+        sym (ap (λ (a : BReply Bytes × broadcast_picture.Picture Bytes). a.0) (seen.answer_seen e call p)) ∙ waits.2 in
         absurd (false≢true (sym goes ∙ ap (broadcast_waits call) reply ∙ ap (λ c. broadcast_waits c BReplies.Empty) waits.1))
 
 watch-ready : (e : watch.Endless Bytes) (call : WCall Bytes) → watch.IsProper e → watch_waits call (watch_step e call).0 ≡ false →
@@ -83,7 +86,9 @@ watch-ready e call p goes = by (watch_picture.is_ready (watch_picture.see e) cal
     by true is = is
     by false is =
         let waits = (watch_ready.readiness (pointwise nat_eq) (watch_picture.see e) call).0 is in
-        let reply : (watch_step e call).0 ≡ WReplies.NotYet = sym (ap (λ (a : WReply Bytes × watch_picture.Picture Bytes). a.0) (watch_seen.answer_seen (pointwise nat_eq) e call p)) ∙ waits.2 in
+        let reply : (watch_step e call).0 ≡ WReplies.NotYet =
+        sym (ap (λ (a : WReply Bytes × watch_picture.Picture Bytes). a.0) (watch_seen.answer_seen (pointwise nat_eq) e call p))
+        ∙ waits.2 in
         absurd (false≢true (sym goes ∙ ap (watch_waits call) reply ∙ ap (λ c. watch_waits c WReplies.NotYet) waits.1))
 
 -- the live handles of a new channel, and one less at the end of each
@@ -115,7 +120,13 @@ pub watch-left : (e : watch.Endless Bytes) (r : RxId) (m : ℕ) → reader_of e.
     live_watchers (watch_picture.see (watch_step e (WCalls.DropRx r)).1) + 1 ≡ live_watchers (watch_picture.see e)
 unfolding watch_picture.see
 watch-left e r m there =
-    rw there (omega (arith, entry-left e.marks r.0 m there, length-shown (watch.version_of e) e.marks, length-shown (watch.version_of e) (without_reader e.marks r.0)))
+    rw there (omega (
+      arith,
+      entry-left e.marks r.0 m there,
+      length-shown (watch.version_of e) e.marks,
+      length-shown (watch.version_of
+          e) (without_reader e.marks r.0),
+    ))
 
 -- a call is an entry where it does not wait and there is room for it, and else nothing has changed
 module _ {C K R P : Type 0} (Q : C → Type 0) (m : ChannelMachine C K R P) (waits : K → R → Bool) (c : C) (before : Q c)
@@ -145,28 +156,34 @@ module _ (limit : ℕ) where
   pub kept-broadcast-opened : (capacity base key : ℕ) → IsCapacity capacity → base < 2 ^ 64 → 0 < limit →
       let e = broadcast.opened capacity base in IsKeptBroadcast (opened limit key e (broadcast_picture.see e))
   kept-broadcast-opened capacity base key c fits first =
-      legal.kept-opened broadcast-laws limit key (broadcast.opened capacity base) (proper.opened_proper capacity base c fits) (broadcast-one capacity base) first
+      legal.kept-opened broadcast-laws limit key (broadcast.opened capacity base) (proper.opened_proper capacity base c fits)
+      (broadcast-one capacity base) first
 
   pub kept-watch-opened : (value : Bytes) (key : ℕ) → 0 < limit →
       let e = watch.opened value 1 in IsKeptWatch (opened limit key e (watch_picture.see e))
   kept-watch-opened value key first =
-      legal.kept-opened watch-laws limit key (watch.opened value 1) (watch_proper.opened_proper value 1 (omega arith) (omega arith)) (watch-one value) first
+      legal.kept-opened watch-laws limit key (watch.opened value 1) (watch_proper.opened_proper value 1 (omega arith) (omega arith))
+      (watch-one value) first
 
   -- a broadcast channel
   module _ (h : EndlessBroadcast) (p : broadcast.IsProper h.state) (k : IsKeptBroadcast h) where
-    broadcast-recorded : (call : BCall Bytes) → broadcast_waits call (broadcast.step h.state call).0 ≡ false → endless_broadcast.is_full h call ≡ false →
+    broadcast-recorded : (call : BCall Bytes) → broadcast_waits call (broadcast.step h.state call).0 ≡ false →
+        endless_broadcast.is_full h call ≡ false →
         IsKeptBroadcast (endless_broadcast.step h call).1
     broadcast-recorded call goes room =
         legal.kept-recorded broadcast-laws limit h p k call (broadcast-ready h.state call p goes) room
 
-    broadcast-spent : (r : RxId) (i : ℕ) → place_of h.state.index r.0 ≡ Some i → IsKeptBroadcast (endless_broadcast.step h (BCalls.DropRx r)).1
+    broadcast-spent : (r : RxId) (i : ℕ) → place_of h.state.index r.0 ≡ Some i →
+        IsKeptBroadcast (endless_broadcast.step h (BCalls.DropRx r)).1
     broadcast-spent r i there =
         legal.kept-spent broadcast-laws limit h p k (BCalls.DropRx r) refl (broadcast-left h.state r i there)
 
     kept-by-call : (by_hub : Bool) (call : Option (BCall Bytes)) → IsKeptBroadcast (broadcast_replies endless_broadcast h by_hub call).1
-    kept-by-call by_hub call = kept-replies IsKeptBroadcast endless_broadcast broadcast_waits h k broadcast-recorded (by_hub && not (is_sender h.state.senders 1)) call
+    kept-by-call by_hub call = kept-replies IsKeptBroadcast endless_broadcast broadcast_waits h k broadcast-recorded
+        (by_hub && not (is_sender h.state.senders 1)) call
 
-    kept-by-end : (live : Bool) (call : Option (BCall Bytes)) → IsKeptBroadcast (if_live live h (broadcast_replies endless_broadcast h false call)).1
+    kept-by-end : (live : Bool) (call : Option (BCall Bytes)) →
+        IsKeptBroadcast (if_live live h (broadcast_replies endless_broadcast h false call)).1
     kept-by-end live call = kept-if_live IsKeptBroadcast endless_broadcast broadcast_waits h k broadcast-recorded live false call
 
   -- a resubscription: a new receiver, and then the end of the old one
@@ -180,7 +197,8 @@ module _ (limit : ℕ) where
         let mid = broadcast.numbered (broadcast.with_index h.state (with_place h.state.index h.state.next tail)) in
         let free : place_of h.state.index h.state.next ≡ None = next_is_free h.state.next h.state.senders h.state.index p.handles in
         let apart : r.0 ≡ h.state.next → ⊥ = λ e. none-some i (sym free ∙ ap (place_of h.state.index) (sym e) ∙ there) in
-        cond_case (λ (a : BReply Bytes × broadcast.Endless Bytes). IsKeptBroadcast (recorded h (BCalls.Resubscribe r) a).1 → IsKeptBroadcast (moved_on h r a).1)
+        cond_case (λ (a : BReply Bytes × broadcast.Endless Bytes). IsKeptBroadcast (recorded h (BCalls.Resubscribe r) a).1 →
+        IsKeptBroadcast (moved_on h r a).1)
         (is_full (length h.state.index) h.state.next) (BReplies.TooMany, h.state) (BReplies.NewRx (rx h.state.next), mid)
         (λ _ kept. kept)
         (λ room kept. broadcast-spent (recorded h (BCalls.Resubscribe r) (BReplies.NewRx (rx h.state.next), mid)).1
@@ -190,10 +208,12 @@ module _ (limit : ℕ) where
 
     kept-moved : IsKeptBroadcast (broadcast_event endless_broadcast h (Resubscribes r)).1
     kept-moved =
-        cond_case (λ (a : Result (BReply Bytes) NoEvent × EndlessBroadcast). IsKeptBroadcast (moved endless_broadcast r a).1) (endless_broadcast.is_full h (BCalls.Resubscribe r)) _ _
+        cond_case (λ (a : Result (BReply Bytes) NoEvent × EndlessBroadcast). IsKeptBroadcast (moved endless_broadcast r a).1)
+        (endless_broadcast.is_full h (BCalls.Resubscribe r)) _ _
         (λ _. k) (λ room. moved-on (place_of h.state.index r.0) refl (broadcast-recorded h p k (BCalls.Resubscribe r) refl room))
 
-  kept-broadcast : (h : EndlessBroadcast) → broadcast.IsProper h.state → IsKeptBroadcast h → (event : Event) → IsKeptBroadcast (broadcast_event endless_broadcast h event).1
+  kept-broadcast : (h : EndlessBroadcast) → broadcast.IsProper h.state → IsKeptBroadcast h → (event : Event) →
+      IsKeptBroadcast (broadcast_event endless_broadcast h event).1
   kept-broadcast h p k Binds = kept-by-call h p k true (broadcast_call Binds)
   kept-broadcast h p k (Subscribes start by) = kept-by-call h p k (is_hub by) (broadcast_call (Subscribes start by))
   kept-broadcast h p k (Sends t verb) = kept-by-call h p k false (broadcast_call (Sends t verb))
@@ -212,9 +232,11 @@ module _ (limit : ℕ) where
         legal.kept-recorded watch-laws limit h p k call (watch-ready h.state call p goes) room
 
     kept-by-watch-call : (by_hub : Bool) (call : Option (WCall Bytes)) → IsKeptWatch (watch_replies endless_watch h by_hub call).1
-    kept-by-watch-call by_hub call = kept-replies IsKeptWatch endless_watch watch_waits h k watch-recorded (by_hub && not (is_sender h.state.senders 1)) call
+    kept-by-watch-call by_hub call = kept-replies IsKeptWatch endless_watch watch_waits h k watch-recorded
+        (by_hub && not (is_sender h.state.senders 1)) call
 
-    kept-by-watch-end : (live : Bool) (call : Option (WCall Bytes)) → IsKeptWatch (if_live live h (watch_replies endless_watch h false call)).1
+    kept-by-watch-end : (live : Bool) (call : Option (WCall Bytes)) →
+        IsKeptWatch (if_live live h (watch_replies endless_watch h false call)).1
     kept-by-watch-end live call = kept-if_live IsKeptWatch endless_watch watch_waits h k watch-recorded live false call
 
     kept-watch : (event : Event) → IsKeptWatch (watch_event endless_watch h event).1
@@ -229,11 +251,13 @@ module _ (limit : ℕ) where
     kept-watch (DropsRx r) = kept-by-watch-end (is_some (reader_of h.state.marks r.0)) (watch_call (DropsRx r))
 
   -- a channel of either kind
-  pub kept-event : (c : EndlessChannel) → IsProperChannel c → IsKeptChannel limit c → (event : Event) → IsKeptChannel limit (channel_event endless_broadcast endless_watch c event).1
+  pub kept-event : (c : EndlessChannel) → IsProperChannel c → IsKeptChannel limit c → (event : Event) →
+      IsKeptChannel limit (channel_event endless_broadcast endless_watch c event).1
   kept-event (Broadcast h) p k event = kept-broadcast h p k event
   kept-event (Watch h) p k event = kept-watch h p k event
 
-  pub kept-cut : (c : EndlessChannel) → IsProperChannel c → IsKeptChannel limit c → IsKeptChannel limit (cut_channel endless_broadcast endless_watch c).1
+  pub kept-cut : (c : EndlessChannel) → IsProperChannel c → IsKeptChannel limit c →
+      IsKeptChannel limit (cut_channel endless_broadcast endless_watch c).1
   kept-cut (Broadcast h) p k =
       legal.kept-cut broadcast-laws limit h p k
   kept-cut (Watch h) p k =

@@ -170,7 +170,8 @@ ended-none : (done : Bool) (reply : ChannelReply) (x : Handle) → new_handle (O
 ended-none true reply x e = none-some x e
 ended-none false reply x e = none-some x e
 
-made-outcome : (event : Event) (reply : BReply Bytes) (x : Handle) → new_handle (Ok (broadcast_outcome event reply)) ≡ Some x → b.made_by reply ≡ Some x
+made-outcome : (event : Event) (reply : BReply Bytes) (x : Handle) → new_handle (Ok (broadcast_outcome event reply)) ≡ Some x →
+    b.made_by reply ≡ Some x
 made-outcome Binds reply x e = made-tx reply x e
 made-outcome (Subscribes start by) reply x e = made-rx reply x e
 made-outcome (Resubscribes r) reply x e = made-rx reply x e
@@ -180,7 +181,8 @@ made-outcome (Receives r verb) reply x e = absurd (none-some x e)
 made-outcome (DropsTx by) reply x e = absurd (ended-none (is_broadcast_done reply) (Broadcast reply) x e)
 made-outcome (DropsRx r) reply x e = absurd (ended-none (is_broadcast_done reply) (Broadcast reply) x e)
 
-watch-made-outcome : (event : Event) (reply : WReply Bytes) (x : Handle) → new_handle (Ok (watch_outcome event reply)) ≡ Some x → w.made_by reply ≡ Some x
+watch-made-outcome : (event : Event) (reply : WReply Bytes) (x : Handle) → new_handle (Ok (watch_outcome event reply)) ≡ Some x →
+    w.made_by reply ≡ Some x
 watch-made-outcome Binds reply x e = watch-made-tx reply x e
 watch-made-outcome (Subscribes start by) reply x e = watch-made-rx reply x e
 watch-made-outcome (Resubscribes r) reply x e = absurd (none-some x e)
@@ -215,10 +217,12 @@ module _ (h : EndlessBroadcast) (s : broadcast.IsProper h.state) where
       cond_case (LeadsOn event) (by_hub && not (is_sender h.state.senders 1)) _ _ (λ _. none event NoEvents.NoSender)
       (λ _. cond_case (LeadsOn event) (broadcast_waits call reply) _ _ (λ _. none event NoEvents.Blocked)
       (λ _. cond_case (LeadsOn event) (endless_broadcast.is_full h call) _ _ (λ _. none event NoEvents.LogFull)
-      (λ _. as_said (b.call_follows h.state call (Ends event (Ok (broadcast_outcome event reply))) s ends) (λ x k. k) (made-outcome event reply))))
+      (λ _. as_said (b.call_follows h.state call (Ends event (Ok (broadcast_outcome event reply))) s ends) (λ x k. k)
+      (made-outcome event reply))))
 
   -- by a call of the tables, which spends nothing
-  by-table : (event : Event) (by_hub : Bool) (o : Option (BCall Bytes)) (x : Handle) → IsCallBy o x → LeadsOn event (broadcast_replies endless_broadcast h by_hub o)
+  by-table : (event : Event) (by_hub : Bool) (o : Option (BCall Bytes)) (x : Handle) → IsCallBy o x →
+      LeadsOn event (broadcast_replies endless_broadcast h by_hub o)
   by-table event by_hub None x by = none event NoEvents.WrongKind
   by-table event by_hub (Some call) x by = leads-on event by_hub call (λ y k. absurd (by.1 y k))
 
@@ -229,31 +233,38 @@ module _ (h : EndlessBroadcast) (s : broadcast.IsProper h.state) where
   spends event live call ends = cond_case (LeadsOn event) live _ _ (λ _. leads-on event false call ends) (λ _. none event NoEvents.NotLive)
 
   -- a new receiver, and then the end of the old one
-  joins-on : (r : RxId) (o : Option ℕ) → place_of h.state.index r.0 ≡ o → LeadsOn (Resubscribes r) (moved_on h r (broadcast.at_index h.state o (λ _. broadcast.subscribe h.state)))
+  joins-on : (r : RxId) (o : Option ℕ) → place_of h.state.index r.0 ≡ o →
+      LeadsOn (Resubscribes r) (moved_on h r (broadcast.at_index h.state o (λ _. broadcast.subscribe h.state)))
   joins-on r None there = stands (b.numbers h.state) (λ x. ⊥)
   joins-on r (Some i) there =
       let tail = broadcast.tail_of h.state in
       let mid = broadcast.numbered (broadcast.with_index h.state (with_place h.state.index h.state.next tail)) in
-      cond_case (λ (a : BReply Bytes × broadcast.Endless Bytes). LeadsOn (Resubscribes r) (moved_on h r a)) (is_full (length h.state.index) h.state.next) (BReplies.TooMany, h.state) (BReplies.NewRx (rx h.state.next), mid)
+      cond_case (λ (a : BReply Bytes × broadcast.Endless Bytes). LeadsOn (Resubscribes r) (moved_on h r a))
+      (is_full (length h.state.index) h.state.next) (BReplies.TooMany, h.state) (BReplies.NewRx (rx h.state.next), mid)
       (λ _. stands (b.numbers h.state) (λ x. ⊥))
       (λ room.
       let new = joins (b.numbers h.state) (λ x. x ≡ Receiver r) s.handles tail in
       then_goes new
-      (b.call_follows mid (BCalls.DropRx r) (λ x. x ≡ Receiver r) (proper.proper-joined h.state s tail (omega arith, omega arith) room) (λ x k. k))
+      (b.call_follows mid (BCalls.DropRx r) (λ x. x ≡ Receiver r) (proper.proper-joined h.state s tail (omega arith, omega arith) room)
+      (λ x k. k))
       (λ x k. k)
       (λ x e k. false≢true (sym (ap (lives (b.numbers h.state)) (sym k) ∙ (new.fresh x e).1) ∙ ap is_some there)))
 
   moves-on : (r : RxId) → LeadsOn (Resubscribes r) (broadcast_event endless_broadcast h (Resubscribes r))
   moves-on r =
-      cond_case (λ (a : Result (BReply Bytes) NoEvent × EndlessBroadcast). LeadsOn (Resubscribes r) (moved endless_broadcast r a)) (endless_broadcast.is_full h (BCalls.Resubscribe r)) _ _
+      cond_case (λ (a : Result (BReply Bytes) NoEvent × EndlessBroadcast). LeadsOn (Resubscribes r) (moved endless_broadcast r a))
+      (endless_broadcast.is_full h (BCalls.Resubscribe r)) _ _
       (λ _. none (Resubscribes r) NoEvents.LogFull) (λ _. joins-on r (place_of h.state.index r.0) refl)
 
   pub event_follows : (event : Event) → LeadsOn event (broadcast_event endless_broadcast h event)
   event_follows Binds = leads-on Binds true (BCalls.CloneTx (tx 1)) (λ x k. absurd k)
-  event_follows (Subscribes Starts.Tail by) = leads-on (Subscribes Starts.Tail by) (is_hub by) (BCalls.Subscribe (sender_of by)) (λ x k. absurd k)
-  event_follows (Subscribes Starts.Oldest by) = leads-on (Subscribes Starts.Oldest by) (is_hub by) (BCalls.SubscribeOldest (sender_of by)) (λ x k. absurd k)
+  event_follows (Subscribes Starts.Tail by) = leads-on (Subscribes Starts.Tail by) (is_hub by) (BCalls.Subscribe (sender_of by))
+      (λ x k. absurd k)
+  event_follows (Subscribes Starts.Oldest by) = leads-on (Subscribes Starts.Oldest by) (is_hub by) (BCalls.SubscribeOldest (sender_of by))
+      (λ x k. absurd k)
   event_follows (Sends t verb) = by-table (Sends t verb) false (broadcast_by_sender verb t) (Sender t) (sent-by verb t)
-  event_follows (Asks by question) = by-table (Asks by question) (is_hub by) (broadcast_asked question (sender_of by)) (Sender (sender_of by)) (asked-by question (sender_of by))
+  event_follows (Asks by question) = by-table (Asks by question) (is_hub by) (broadcast_asked question (sender_of by))
+      (Sender (sender_of by)) (asked-by question (sender_of by))
   event_follows (Receives r verb) = by-table (Receives r verb) false (broadcast_by_receiver verb r) (Receiver r) (received-by verb r)
   event_follows (Resubscribes r) = moves-on r
   event_follows (DropsTx Hub) = leads-on (DropsTx Hub) true (BCalls.DropTx (tx 1)) (λ x k. k)
@@ -266,7 +277,8 @@ module _ (h : EndlessWatch) (s : watch.IsProper h.state) where
   watch_told event a = came (watch_outcome event) a.0
 
   abbrev WatchLeadsOn : Event → Result (WReply Bytes) NoEvent × EndlessWatch → Type 0
-  WatchLeadsOn event a = Follows (w.numbers h.state) (Ends event (watch_told event a)) (new_handle (watch_told event a)) (w.numbers a.1.state)
+  WatchLeadsOn event a = Follows (w.numbers h.state) (Ends event (watch_told event a)) (new_handle (watch_told event a))
+      (w.numbers a.1.state)
 
   watch-none : (event : Event) (why : NoEvent) → WatchLeadsOn event (Err why, h)
   watch-none event why = stands (w.numbers h.state) (Ends event (Err why))
@@ -279,24 +291,30 @@ module _ (h : EndlessWatch) (s : watch.IsProper h.state) where
       cond_case (WatchLeadsOn event) (by_hub && not (is_sender h.state.senders 1)) _ _ (λ _. watch-none event NoEvents.NoSender)
       (λ _. cond_case (WatchLeadsOn event) (watch_waits call reply) _ _ (λ _. watch-none event NoEvents.Blocked)
       (λ _. cond_case (WatchLeadsOn event) (endless_watch.is_full h call) _ _ (λ _. watch-none event NoEvents.LogFull)
-      (λ _. as_said (w.call_follows (pointwise nat_eq) h.state (Ends event (Ok (watch_outcome event reply))) s call ends) (λ x k. k) (watch-made-outcome event reply))))
+      (λ _. as_said (w.call_follows (pointwise nat_eq) h.state (Ends event (Ok (watch_outcome event reply))) s call ends) (λ x k. k)
+      (watch-made-outcome event reply))))
 
-  watch-by-table : (event : Event) (by_hub : Bool) (o : Option (WCall Bytes)) (x : Handle) → IsWatchCallBy o x → WatchLeadsOn event (watch_replies endless_watch h by_hub o)
+  watch-by-table : (event : Event) (by_hub : Bool) (o : Option (WCall Bytes)) (x : Handle) → IsWatchCallBy o x →
+      WatchLeadsOn event (watch_replies endless_watch h by_hub o)
   watch-by-table event by_hub None x by = watch-none event NoEvents.WrongKind
   watch-by-table event by_hub (Some call) x by = watch-leads-on event by_hub call (λ y k. absurd (by.1 y k))
 
   watch-spends : (event : Event) (live : Bool) (call : WCall Bytes) →
       ((x : Handle) → w.Spends call x → Ends event (Ok (watch_outcome event (watch_step h.state call).0)) x) →
       WatchLeadsOn event (if_live live h (watch_replies endless_watch h false (Some call)))
-  watch-spends event live call ends = cond_case (WatchLeadsOn event) live _ _ (λ _. watch-leads-on event false call ends) (λ _. watch-none event NoEvents.NotLive)
+  watch-spends event live call ends = cond_case (WatchLeadsOn event) live _ _ (λ _. watch-leads-on event false call ends)
+      (λ _. watch-none event NoEvents.NotLive)
 
   pub watch_event_follows : (event : Event) → WatchLeadsOn event (watch_event endless_watch h event)
   watch_event_follows Binds = watch-leads-on Binds true (WCalls.CloneTx (tx 1)) (λ x k. absurd k)
-  watch_event_follows (Subscribes Starts.Tail by) = watch-leads-on (Subscribes Starts.Tail by) (is_hub by) (WCalls.Subscribe (sender_of by)) (λ x k. absurd k)
+  watch_event_follows (Subscribes Starts.Tail by) = watch-leads-on (Subscribes Starts.Tail by) (is_hub by) (WCalls.Subscribe (sender_of by))
+      (λ x k. absurd k)
   watch_event_follows (Subscribes Starts.Oldest by) = watch-none (Subscribes Starts.Oldest by) NoEvents.WrongKind
   watch_event_follows (Sends t verb) = watch-by-table (Sends t verb) false (watch_by_sender verb t) (Sender t) (watch-sent-by verb t)
-  watch_event_follows (Asks by question) = watch-by-table (Asks by question) (is_hub by) (watch_asked question (sender_of by)) (Sender (sender_of by)) (watch-asked-by question (sender_of by))
-  watch_event_follows (Receives r verb) = watch-by-table (Receives r verb) false (watch_by_receiver verb r) (Receiver r) (watch-received-by verb r)
+  watch_event_follows (Asks by question) = watch-by-table (Asks by question) (is_hub by) (watch_asked question (sender_of by))
+      (Sender (sender_of by)) (watch-asked-by question (sender_of by))
+  watch_event_follows (Receives r verb) = watch-by-table (Receives r verb) false (watch_by_receiver verb r) (Receiver r)
+      (watch-received-by verb r)
   watch_event_follows (Resubscribes r) = watch-none (Resubscribes r) NoEvents.WrongKind
   watch_event_follows (DropsTx Hub) = watch-leads-on (DropsTx Hub) true (WCalls.DropTx (tx 1)) (λ x k. k)
   watch_event_follows (DropsTx (Own t)) = watch-spends (DropsTx (Own t)) (endless_watch.has_sender h t) (WCalls.DropTx t) (λ x k. k)

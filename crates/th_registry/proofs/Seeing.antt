@@ -79,7 +79,8 @@ found_at-seen ts None = refl
 found_at-seen ts (Some n) = ap (found_in n) (slice_get-map see_topic ts n) ∙ found_in-seen n (slice_get ts n)
 
 find-seen : (ts : EndlessTopics) (name : Bytes) → find (see_topics ts) name ≡ find ts name
-find-seen ts name = ap (λ ks. found_at (see_topics ts) (position (pointwise nat_eq name) ks)) (keys-seen ts) ∙ found_at-seen ts (position (pointwise nat_eq name) (keys_of ts))
+find-seen ts name = ap (λ ks. found_at (see_topics ts) (position (pointwise nat_eq name) ks)) (keys-seen ts)
+    ∙ found_at-seen ts (position (pointwise nat_eq name) (keys_of ts))
 
 -- listing
 
@@ -105,7 +106,8 @@ module _ (limit key : ℕ) where
   made-seen (Makings.BroadcastAt asked base) = made_of-seen base (nat_lt base (2 ^ 64)) (capacity_of asked)
   made-seen (Makings.Watch value) = refl
 
-see_added : (ts : EndlessTopics) (name : Bytes) (c : EndlessChannel) → see_topics ts ++ (name, see_channel c) ∷ [] ≡ see_topics (ts ++ (name, c) ∷ [])
+see_added : (ts : EndlessTopics) (name : Bytes) (c : EndlessChannel) →
+    see_topics ts ++ (name, see_channel c) ∷ [] ≡ see_topics (ts ++ (name, c) ∷ [])
 see_added ts name c = sym (map-append see_topic ts ((name, c) ∷ []))
 
 -- what an opening says, and the topics after it
@@ -124,26 +126,34 @@ next ts name x = (Ok x.0, ts ++ (name, x.1) ∷ [])
 abbrev seen_next : EndlessTopics → Bytes → ℕ × EndlessChannel → Opened SeenTopics
 seen_next ts name x = (Ok x.0, see_topics ts ++ (name, see_channel x.1) ∷ [])
 
-added_if-seen : (ts : EndlessTopics) (name : Bytes) (x : ℕ × EndlessChannel) (b : Bool) → cond b (refused Refusals.TooManyTopics (see_topics ts)) (seen_next ts name x) ≡ see_opened (cond b (refused Refusals.TooManyTopics ts) (next ts name x))
+added_if-seen : (ts : EndlessTopics) (name : Bytes) (x : ℕ × EndlessChannel) (b : Bool) →
+    cond b (refused Refusals.TooManyTopics (see_topics ts)) (seen_next ts name x)
+    ≡ see_opened (cond b (refused Refusals.TooManyTopics ts) (next ts name x))
 added_if-seen ts name x true = refl
 added_if-seen ts name x false = ap (λ s. (Ok x.0, s)) (see_added ts name x.1)
 
-added-seen : (ts : EndlessTopics) (name : Bytes) (o : Option (ℕ × EndlessChannel)) → added (see_topics ts) name (option_map see_made o) ≡ see_opened (added ts name o)
+added-seen : (ts : EndlessTopics) (name : Bytes) (o : Option (ℕ × EndlessChannel)) →
+    added (see_topics ts) name (option_map see_made o) ≡ see_opened (added ts name o)
 added-seen ts name None = refl
 added-seen ts name (Some x) =
     ap (λ n. cond (nat_le most_topics n) (refused Refusals.TooManyTopics (see_topics ts)) (seen_next ts name x)) (length-map ts see_topic)
     ∙ added_if-seen ts name x (nat_le most_topics (length ts))
 
-open_if-seen : (ts : EndlessTopics) (name : Bytes) (o : Option (ℕ × EndlessChannel)) (b : Bool) → cond b (refused Refusals.Exists (see_topics ts)) (added (see_topics ts) name (option_map see_made o)) ≡ see_opened (cond b (refused Refusals.Exists ts) (added ts name o))
+open_if-seen : (ts : EndlessTopics) (name : Bytes) (o : Option (ℕ × EndlessChannel)) (b : Bool) →
+    cond b (refused Refusals.Exists (see_topics ts)) (added (see_topics ts) name (option_map see_made o))
+    ≡ see_opened (cond b (refused Refusals.Exists ts) (added ts name o))
 open_if-seen ts name o true = refl
 open_if-seen ts name o false = added-seen ts name o
 
 open-seen : (limit : ℕ) (ts : EndlessTopics) (name : Bytes) (making : Making) →
     open_topic (pictures limit) (see_topics ts) name making ≡ see_opened (open_topic (endless limit) ts name making)
 open-seen limit ts name making =
-    ap (λ f. cond (is_some f) (refused Refusals.Exists (see_topics ts)) (added (see_topics ts) name (made (pictures limit) (length (see_topics ts) + 1) making))) (find-seen ts name)
-    ∙ ap (λ n. cond (is_some (find ts name)) (refused Refusals.Exists (see_topics ts)) (added (see_topics ts) name (made (pictures limit) (n + 1) making))) (length-map ts see_topic)
-    ∙ ap (λ o. cond (is_some (find ts name)) (refused Refusals.Exists (see_topics ts)) (added (see_topics ts) name o)) (made-seen limit (length ts + 1) making)
+    ap (λ f. cond (is_some f) (refused Refusals.Exists (see_topics ts))
+    (added (see_topics ts) name (made (pictures limit) (length (see_topics ts) + 1) making))) (find-seen ts name)
+    ∙ ap (λ n. cond (is_some (find ts name)) (refused Refusals.Exists (see_topics ts))
+    (added (see_topics ts) name (made (pictures limit) (n + 1) making))) (length-map ts see_topic)
+    ∙ ap (λ o. cond (is_some (find ts name)) (refused Refusals.Exists (see_topics ts)) (added (see_topics ts) name o))
+    (made-seen limit (length ts + 1) making)
     ∙ open_if-seen ts name (made (endless limit) (length ts + 1) making) (is_some (find ts name))
 
 -- events
@@ -230,24 +240,30 @@ readers-seen e r =
     ap is_some (lookup-map_values unseen (is_at (nat_cmp r)) e.marks) ∙ is_some-mapped unseen (reader_of e.marks r)
 
 module _ (h : EndlessBroadcast) (proper : broadcast.IsProper h.state) where
-  step-seen : (call : BCall Bytes) → seen_broadcast.step (see_broadcast h) call ≡ ((endless_broadcast.step h call).0, see_broadcast (endless_broadcast.step h call).1)
+  step-seen : (call : BCall Bytes) → seen_broadcast.step (see_broadcast h) call
+      ≡ ((endless_broadcast.step h call).0, see_broadcast (endless_broadcast.step h call).1)
   step-seen call = ap (recorded (see_broadcast h) call) (broadcast_seen.answer_seen h.state call proper)
 
   full-seen : (call : BCall Bytes) → seen_broadcast.is_full (see_broadcast h) call ≡ endless_broadcast.is_full h call
-  full-seen call = ap (λ (s : BReply Bytes × broadcast_picture.Picture Bytes). is_full (see_broadcast h) (live_handles s.1)) (broadcast_seen.answer_seen h.state call proper)
+  full-seen call = ap (λ (s : BReply Bytes × broadcast_picture.Picture Bytes). is_full (see_broadcast h) (live_handles s.1))
+      (broadcast_seen.answer_seen h.state call proper)
 
   stays : (call : BCall Bytes) → broadcast.IsProper (endless_broadcast.step h call).1.state
   stays call = broadcast_proper.step_proper h.state call proper
 
   broadcast_replies-seen : (by_hub : Bool) (call : Option (BCall Bytes)) →
-      broadcast_replies seen_broadcast (see_broadcast h) by_hub call ≡ after_reply see_broadcast (broadcast_replies endless_broadcast h by_hub call)
+      broadcast_replies seen_broadcast (see_broadcast h) by_hub call
+      ≡ after_reply see_broadcast (broadcast_replies endless_broadcast h by_hub call)
   broadcast_replies-seen by_hub call =
       ap (λ ks. replies seen_broadcast broadcast_waits (by_hub && not (is_sender ks 1)) (see_broadcast h) call) (senders-seen h.state)
-      ∙ replies-seen see_broadcast endless_broadcast seen_broadcast broadcast_waits h step-seen full-seen (by_hub && not (is_sender h.state.senders 1)) call
+      ∙ replies-seen see_broadcast endless_broadcast seen_broadcast broadcast_waits h step-seen full-seen
+      (by_hub && not (is_sender h.state.senders 1)) call
 
-  proper-broadcast_replies : (by_hub : Bool) (call : Option (BCall Bytes)) → broadcast.IsProper (broadcast_replies endless_broadcast h by_hub call).1.state
+  proper-broadcast_replies : (by_hub : Bool) (call : Option (BCall Bytes)) →
+      broadcast.IsProper (broadcast_replies endless_broadcast h by_hub call).1.state
   proper-broadcast_replies by_hub call =
-      proper-replies (λ (h : EndlessBroadcast). broadcast.IsProper h.state) endless_broadcast broadcast_waits h proper stays (by_hub && not (is_sender h.state.senders 1)) call
+      proper-replies (λ (h : EndlessBroadcast). broadcast.IsProper h.state) endless_broadcast broadcast_waits h proper stays
+      (by_hub && not (is_sender h.state.senders 1)) call
 
 moved-seen : (r : RxId) (s : Replies (BReply Bytes) EndlessBroadcast) → broadcast.IsProper s.1.state →
     moved seen_broadcast r (after_reply see_broadcast s) ≡ after_reply see_broadcast (moved endless_broadcast r s)
@@ -286,13 +302,15 @@ proper-moved r (Err why, h) proper = proper
 module _ (h : EndlessBroadcast) (proper : broadcast.IsProper h.state) where
   -- the end of a handle
   spent-seen : (live seen : Bool) → seen ≡ live → (call : Option (BCall Bytes)) →
-      if_live seen (see_broadcast h) (broadcast_replies seen_broadcast (see_broadcast h) false call) ≡ after_reply see_broadcast (if_live live h (broadcast_replies endless_broadcast h false call))
+      if_live seen (see_broadcast h) (broadcast_replies seen_broadcast (see_broadcast h) false call)
+      ≡ after_reply see_broadcast (if_live live h (broadcast_replies endless_broadcast h false call))
   spent-seen live seen same call =
       ap (λ b. if_live b (see_broadcast h) (broadcast_replies seen_broadcast (see_broadcast h) false call)) same
       ∙ ap (if_live live (see_broadcast h)) (broadcast_replies-seen h proper false call)
       ∙ if_live-seen see_broadcast live h (broadcast_replies endless_broadcast h false call)
 
-  broadcast-seen : (event : Event) → broadcast_event seen_broadcast (see_broadcast h) event ≡ after_reply see_broadcast (broadcast_event endless_broadcast h event)
+  broadcast-seen : (event : Event) → broadcast_event seen_broadcast (see_broadcast h) event
+      ≡ after_reply see_broadcast (broadcast_event endless_broadcast h event)
   broadcast-seen (Resubscribes r) =
       ap (moved seen_broadcast r) (broadcast_replies-seen h proper false (broadcast_call (Resubscribes r)))
       ∙ moved-seen r (broadcast_replies endless_broadcast h false (broadcast_call (Resubscribes r)))
@@ -309,8 +327,10 @@ module _ (h : EndlessBroadcast) (proper : broadcast.IsProper h.state) where
   abbrev IsProperNow : EndlessBroadcast → Type 0
   IsProperNow h = broadcast.IsProper h.state
 
-  proper-spent : (live : Bool) (call : Option (BCall Bytes)) → broadcast.IsProper (if_live live h (broadcast_replies endless_broadcast h false call)).1.state
-  proper-spent live call = proper-if_live IsProperNow endless_broadcast broadcast_waits h proper (stays h proper) live _ (proper-broadcast_replies h proper false call)
+  proper-spent : (live : Bool) (call : Option (BCall Bytes)) →
+      broadcast.IsProper (if_live live h (broadcast_replies endless_broadcast h false call)).1.state
+  proper-spent live call = proper-if_live IsProperNow endless_broadcast broadcast_waits h proper (stays h proper) live _
+      (proper-broadcast_replies h proper false call)
 
   proper-broadcast : (event : Event) → broadcast.IsProper (broadcast_event endless_broadcast h event).1.state
   proper-broadcast (Resubscribes r) =
@@ -326,11 +346,13 @@ module _ (h : EndlessBroadcast) (proper : broadcast.IsProper h.state) where
   proper-broadcast (DropsRx r) = proper-spent (is_some (place_of h.state.index r.0)) (broadcast_call (DropsRx r))
 
 module _ (h : EndlessWatch) (proper : watch.IsProper h.state) where
-  watch_step-seen : (call : WCall Bytes) → seen_watch.step (see_watch h) call ≡ ((endless_watch.step h call).0, see_watch (endless_watch.step h call).1)
+  watch_step-seen : (call : WCall Bytes) → seen_watch.step (see_watch h) call
+      ≡ ((endless_watch.step h call).0, see_watch (endless_watch.step h call).1)
   watch_step-seen call = ap (recorded (see_watch h) call) (watch_seen.answer_seen (pointwise nat_eq) h.state call proper)
 
   watch_full-seen : (call : WCall Bytes) → seen_watch.is_full (see_watch h) call ≡ endless_watch.is_full h call
-  watch_full-seen call = ap (λ (s : WReply Bytes × watch_picture.Picture Bytes). is_full (see_watch h) (live_watchers s.1)) (watch_seen.answer_seen (pointwise nat_eq) h.state call proper)
+  watch_full-seen call = ap (λ (s : WReply Bytes × watch_picture.Picture Bytes). is_full (see_watch h) (live_watchers s.1))
+      (watch_seen.answer_seen (pointwise nat_eq) h.state call proper)
 
   watch_stays : (call : WCall Bytes) → watch.IsProper (endless_watch.step h call).1.state
   watch_stays call = watch_proper.step_proper h.state proper (pointwise nat_eq) call
@@ -339,10 +361,12 @@ module _ (h : EndlessWatch) (proper : watch.IsProper h.state) where
       watch_replies seen_watch (see_watch h) by_hub call ≡ after_reply see_watch (watch_replies endless_watch h by_hub call)
   watch_replies-seen by_hub call =
       ap (λ ks. replies seen_watch watch_waits (by_hub && not (is_sender ks 1)) (see_watch h) call) (watch_senders-seen h.state)
-      ∙ replies-seen see_watch endless_watch seen_watch watch_waits h watch_step-seen watch_full-seen (by_hub && not (is_sender h.state.senders 1)) call
+      ∙ replies-seen see_watch endless_watch seen_watch watch_waits h watch_step-seen watch_full-seen
+      (by_hub && not (is_sender h.state.senders 1)) call
 
   watch_spent-seen : (live seen : Bool) → seen ≡ live → (call : Option (WCall Bytes)) →
-      if_live seen (see_watch h) (watch_replies seen_watch (see_watch h) false call) ≡ after_reply see_watch (if_live live h (watch_replies endless_watch h false call))
+      if_live seen (see_watch h) (watch_replies seen_watch (see_watch h) false call)
+      ≡ after_reply see_watch (if_live live h (watch_replies endless_watch h false call))
   watch_spent-seen live seen same call =
       ap (λ b. if_live b (see_watch h) (watch_replies seen_watch (see_watch h) false call)) same
       ∙ ap (if_live live (see_watch h)) (watch_replies-seen false call)
@@ -356,15 +380,19 @@ module _ (h : EndlessWatch) (proper : watch.IsProper h.state) where
   watch-seen (Receives r verb) = watch_replies-seen false (watch_call (Receives r verb))
   watch-seen (Resubscribes r) = watch_replies-seen false (watch_call (Resubscribes r))
   watch-seen (DropsTx Hub) = watch_replies-seen true (watch_call (DropsTx Hub))
-  watch-seen (DropsTx (Own t)) = watch_spent-seen _ _ (ap (λ ks. is_sender ks t.0) (watch_senders-seen h.state)) (watch_call (DropsTx (Own t)))
+  watch-seen (DropsTx (Own t)) = watch_spent-seen _ _ (ap (λ ks. is_sender ks t.0) (watch_senders-seen h.state))
+      (watch_call (DropsTx (Own t)))
   watch-seen (DropsRx r) = watch_spent-seen _ _ (readers-seen h.state r.0) (watch_call (DropsRx r))
 
   proper-watch_replies : (by_hub : Bool) (call : Option (WCall Bytes)) → watch.IsProper (watch_replies endless_watch h by_hub call).1.state
   proper-watch_replies by_hub call =
-      proper-replies (λ (h : EndlessWatch). watch.IsProper h.state) endless_watch watch_waits h proper watch_stays (by_hub && not (is_sender h.state.senders 1)) call
+      proper-replies (λ (h : EndlessWatch). watch.IsProper h.state) endless_watch watch_waits h proper watch_stays
+      (by_hub && not (is_sender h.state.senders 1)) call
 
-  proper-watch_spent : (live : Bool) (call : Option (WCall Bytes)) → watch.IsProper (if_live live h (watch_replies endless_watch h false call)).1.state
-  proper-watch_spent live call = proper-if_live (λ (h : EndlessWatch). watch.IsProper h.state) endless_watch watch_waits h proper watch_stays live _ (proper-watch_replies false call)
+  proper-watch_spent : (live : Bool) (call : Option (WCall Bytes)) →
+      watch.IsProper (if_live live h (watch_replies endless_watch h false call)).1.state
+  proper-watch_spent live call = proper-if_live (λ (h : EndlessWatch). watch.IsProper h.state) endless_watch watch_waits h proper
+      watch_stays live _ (proper-watch_replies false call)
 
   proper-watch : (event : Event) → watch.IsProper (watch_event endless_watch h event).1.state
   proper-watch Binds = proper-watch_replies true (watch_call Binds)
@@ -387,11 +415,13 @@ channel-seen : (c : EndlessChannel) → IsProperChannel c → (event : Event) �
 channel-seen (Broadcast h) proper event = ap (as_broadcast event) (broadcast-seen h proper event)
 channel-seen (Watch h) proper event = ap (as_watch event) (watch-seen h proper event)
 
-cut-seen : (c : EndlessChannel) → cut_channel seen_broadcast seen_watch (see_channel c) ≡ told_seen (cut_channel endless_broadcast endless_watch c)
+cut-seen : (c : EndlessChannel) → cut_channel seen_broadcast seen_watch (see_channel c)
+    ≡ told_seen (cut_channel endless_broadcast endless_watch c)
 cut-seen (Broadcast h) = refl
 cut-seen (Watch h) = refl
 
-set-seen : (ts : EndlessTopics) (n : ℕ) (c : EndlessChannel) → set_value_at (see_topics ts) n (see_channel c) ≡ see_topics (set_value_at ts n c)
+set-seen : (ts : EndlessTopics) (n : ℕ) (c : EndlessChannel) →
+    set_value_at (see_topics ts) n (see_channel c) ≡ see_topics (set_value_at ts n c)
 set-seen [] n c = refl
 set-seen (t ∷ ts) zero c = refl
 set-seen (t ∷ ts) (suc n) c = ap (λ rest. see_topic t ∷ rest) (set-seen ts n c)
@@ -409,15 +439,18 @@ proper-at (t ∷ ts) h (suc n) c e = proper-at ts h.1 n c e
 module _ {A : Type 0} (done_seen : SeenChannel → Result A NoEvent × SeenChannel) (done : EndlessChannel → Result A NoEvent × EndlessChannel)
     (seen : (c : EndlessChannel) → IsProperChannel c → done_seen (see_channel c) ≡ told_seen (done c)) where
   on_channel-seen : (ts : EndlessTopics) (n : ℕ) (o : Option EndlessChannel) → ((c : EndlessChannel) → o ≡ Some c → IsProperChannel c) →
-      on_channel (see_topics ts) n done_seen (option_map see_channel o) ≡ ((on_channel ts n done o).0, see_topics (on_channel ts n done o).1)
+      on_channel (see_topics ts) n done_seen (option_map see_channel o)
+      ≡ ((on_channel ts n done o).0, see_topics (on_channel ts n done o).1)
   on_channel-seen ts n None proper = refl
   on_channel-seen ts n (Some c) proper =
       ap (written (see_topics ts) n) (seen c (proper c refl))
       ∙ ap (λ rest. ((done c).0, rest)) (set-seen ts n (done c).1)
 
-  at_topic-seen : (ts : EndlessTopics) → AreProper ts → (n : ℕ) → at_topic (see_topics ts) n done_seen ≡ ((at_topic ts n done).0, see_topics (at_topic ts n done).1)
+  at_topic-seen : (ts : EndlessTopics) → AreProper ts → (n : ℕ) →
+      at_topic (see_topics ts) n done_seen ≡ ((at_topic ts n done).0, see_topics (at_topic ts n done).1)
   at_topic-seen ts proper n =
-      ap (λ o. on_channel (see_topics ts) n done_seen o) (ap (λ vs. slice_get vs n) (values-seen ts) ∙ slice_get-map see_channel (values_of ts) n)
+      ap (λ o. on_channel (see_topics ts) n done_seen o) (ap (λ vs. slice_get vs n) (values-seen ts)
+      ∙ slice_get-map see_channel (values_of ts) n)
       ∙ on_channel-seen ts n (slice_get (values_of ts) n) (proper-at ts proper n)
 
 -- the receipt of an event
@@ -432,14 +465,18 @@ receipted-seen m p h k same (Err why) call = refl
 broadcast_receipt-seen : (h : EndlessBroadcast) → broadcast.IsProper h.state → (event : Event) →
     broadcast_receipt seen_broadcast (see_broadcast h) event ≡ broadcast_receipt endless_broadcast h event
 broadcast_receipt-seen h proper event =
-    ap (λ (s : Replies (BReply Bytes) SeenBroadcast). cond (is_end event) None (receipted seen_broadcast (see_broadcast h) s.0 (broadcast_call event))) (broadcast-seen h proper event)
-    ∙ ap (cond (is_end event) None) (receipted-seen endless_broadcast seen_broadcast h (see_broadcast h) (λ _ _. refl) (broadcast_event endless_broadcast h event).0 (broadcast_call event))
+    ap (λ (s : Replies (BReply Bytes) SeenBroadcast). cond (is_end event) None
+    (receipted seen_broadcast (see_broadcast h) s.0 (broadcast_call event))) (broadcast-seen h proper event)
+    ∙ ap (cond (is_end event) None) (receipted-seen endless_broadcast seen_broadcast h (see_broadcast h) (λ _ _. refl)
+    (broadcast_event endless_broadcast h event).0 (broadcast_call event))
 
 watch_receipt-seen : (h : EndlessWatch) → watch.IsProper h.state → (event : Event) →
     watch_receipt seen_watch (see_watch h) event ≡ watch_receipt endless_watch h event
 watch_receipt-seen h proper event =
-    ap (λ (s : Replies (WReply Bytes) SeenWatch). cond (is_end event) None (receipted seen_watch (see_watch h) s.0 (watch_call event))) (watch-seen h proper event)
-    ∙ ap (cond (is_end event) None) (receipted-seen endless_watch seen_watch h (see_watch h) (λ _ _. refl) (watch_event endless_watch h event).0 (watch_call event))
+    ap (λ (s : Replies (WReply Bytes) SeenWatch). cond (is_end event) None (receipted seen_watch (see_watch h) s.0 (watch_call event)))
+    (watch-seen h proper event)
+    ∙ ap (cond (is_end event) None) (receipted-seen endless_watch seen_watch h (see_watch h) (λ _ _. refl)
+    (watch_event endless_watch h event).0 (watch_call event))
 
 channel_receipt-seen : (c : EndlessChannel) → IsProperChannel c → (event : Event) →
     channel_receipt seen_broadcast seen_watch (see_channel c) event ≡ channel_receipt endless_broadcast endless_watch c event
@@ -463,17 +500,19 @@ says_what_is_seen limit ts List proper = ap (λ rows. (Ok rows, see_topics ts)) 
 says_what_is_seen limit ts (Open name making) proper = open-seen limit ts name making
 says_what_is_seen limit ts (On n event) proper =
     ap (λ s. ((s.0, receipt (pictures limit) (see_topics ts) n event), s.1)) (at_topic-seen _ _ (λ c p. channel-seen c p event) ts proper n)
-    ∙ ap (λ r. (((hub.event (endless limit) ts n event).0, r), see_topics (hub.event (endless limit) ts n event).1)) (receipt-seen limit ts n event proper)
+    ∙ ap (λ r. (((hub.event (endless limit) ts n event).0, r), see_topics (hub.event (endless limit) ts n event).1))
+    (receipt-seen limit ts n event proper)
 says_what_is_seen limit ts (Cut n) proper = at_topic-seen _ _ (λ c p. cut-seen c) ts proper n
 
 -- proper states
 
 power-doubled : (k j asked : ℕ) → j + k ≤ 16 → (i : ℕ) × (i ≤ 16) × (doubled k (2 ^ j) asked ≡ 2 ^ i)
 power-doubled zero j asked few = (j, omega arith, refl)
-power-doubled (suc k) j asked few = elim (nat_le asked (2 ^ j)) as (λ b. (i : ℕ) × (i ≤ 16) × (cond b (2 ^ j) (doubled k (2 * 2 ^ j) asked) ≡ 2 ^ i)) [
-  | true ↦ (j, omega arith, refl)
-  | false ↦ subst (λ d. (i : ℕ) × (i ≤ 16) × (doubled k d asked ≡ 2 ^ i)) (pow-succ' 2 j) (power-doubled k (suc j) asked (omega arith))
-]
+power-doubled (suc k) j asked few = elim (nat_le asked (2 ^ j)) as
+    (λ b. (i : ℕ) × (i ≤ 16) × (cond b (2 ^ j) (doubled k (2 * 2 ^ j) asked) ≡ 2 ^ i)) [
+      | true ↦ (j, omega arith, refl)
+      | false ↦ subst (λ d. (i : ℕ) × (i ≤ 16) × (doubled k d asked ≡ 2 ^ i)) (pow-succ' 2 j) (power-doubled k (suc j) asked (omega arith))
+    ]
 
 is_capacity-power : (c i : ℕ) → i ≤ 16 → c ≡ 2 ^ i → IsCapacity c
 is_capacity-power c i few e =
@@ -484,10 +523,12 @@ is_capacity-power c i few e =
 -- a capacity in force is a power of two up to 65,536
 pub is_capacity : (asked c : ℕ) → capacity_of asked ≡ Some c → IsCapacity c
 unfolding capacity_of
-is_capacity asked c e = elim (nat_lt 0 asked && nat_le asked 65536) as (λ b. cond b (Some (doubled 16 1 asked)) None ≡ Some c → IsCapacity c) [
-  | true ↦ λ s. (let p = power-doubled 16 0 asked (omega arith) in is_capacity-power c p.0 p.1 (sym (same_Some (doubled 16 1 asked) c s) ∙ p.2))
-  | false ↦ λ s. absurd (none-some c s)
-] e
+is_capacity asked c e = elim (nat_lt 0 asked && nat_le asked 65536) as
+    (λ b. cond b (Some (doubled 16 1 asked)) None ≡ Some c → IsCapacity c) [
+      | true ↦ λ s. (let p = power-doubled 16 0 asked (omega arith) in
+          is_capacity-power c p.0 p.1 (sym (same_Some (doubled 16 1 asked) c s) ∙ p.2))
+      | false ↦ λ s. absurd (none-some c s)
+    ] e
 
 abbrev IsProperMade : Option (ℕ × EndlessChannel) → Type 0
 IsProperMade None = Unit {0}
@@ -497,7 +538,8 @@ module _ (limit key : ℕ) where
   abbrev opened_as : ℕ → ℕ → ℕ × EndlessChannel
   opened_as base c = (c, Broadcast ((endless limit).broadcast_opened c base key))
 
-  proper-made_of : (base : ℕ) (o : Option ℕ) → base < 2 ^ 64 → ((c : ℕ) → o ≡ Some c → IsCapacity c) → IsProperMade (option_map (opened_as base) o)
+  proper-made_of : (base : ℕ) (o : Option ℕ) → base < 2 ^ 64 → ((c : ℕ) → o ≡ Some c → IsCapacity c) →
+      IsProperMade (option_map (opened_as base) o)
   proper-made_of base None fits h = tt
   proper-made_of base (Some c) fits h = broadcast_proper.opened_proper c base (h c refl) fits
 
@@ -513,21 +555,25 @@ module _ (limit key : ℕ) where
   proper-made (Makings.BroadcastAt asked base) = proper-broadcast-made asked base
   proper-made (Makings.Watch value) = watch_proper.opened_proper value 1 (omega arith) (omega arith)
 
-proper-append : (ts : EndlessTopics) (name : Bytes) (c : EndlessChannel) → AreProper ts → IsProperChannel c → AreProper (ts ++ (name, c) ∷ [])
+proper-append : (ts : EndlessTopics) (name : Bytes) (c : EndlessChannel) → AreProper ts → IsProperChannel c →
+    AreProper (ts ++ (name, c) ∷ [])
 proper-append [] name c h p = (p, tt)
 proper-append (t ∷ ts) name c h p = (h.0, proper-append ts name c h.1 p)
 
 abbrev after : Opened EndlessTopics → EndlessTopics
 after s = s.1
 
-proper-added : (ts : EndlessTopics) (name : Bytes) (o : Option (ℕ × EndlessChannel)) → AreProper ts → IsProperMade o → AreProper (added ts name o).1
+proper-added : (ts : EndlessTopics) (name : Bytes) (o : Option (ℕ × EndlessChannel)) → AreProper ts → IsProperMade o →
+    AreProper (added ts name o).1
 proper-added ts name None h p = h
-proper-added ts name (Some x) h p = elim (nat_le most_topics (length ts)) as (λ b. AreProper (after (cond b (refused Refusals.TooManyTopics ts) (next ts name x)))) [
-  | true ↦ h
-  | false ↦ proper-append ts name x.1 h p
-]
+proper-added ts name (Some x) h p = elim (nat_le most_topics (length ts)) as
+    (λ b. AreProper (after (cond b (refused Refusals.TooManyTopics ts) (next ts name x)))) [
+      | true ↦ h
+      | false ↦ proper-append ts name x.1 h p
+    ]
 
-proper-open : (limit : ℕ) (ts : EndlessTopics) (name : Bytes) (making : Making) → AreProper ts → AreProper (open_topic (endless limit) ts name making).1
+proper-open : (limit : ℕ) (ts : EndlessTopics) (name : Bytes) (making : Making) → AreProper ts →
+    AreProper (open_topic (endless limit) ts name making).1
 proper-open limit ts name making h =
     let made = made (endless limit) (length ts + 1) making in
     elim (is_some (find ts name)) as (λ b. AreProper (after (cond b (refused Refusals.Exists ts) (added ts name made)))) [
@@ -535,7 +581,8 @@ proper-open limit ts name making h =
       | false ↦ proper-added ts name made h (proper-made limit (length ts + 1) making)
     ]
 
-proper-channel : (c : EndlessChannel) → IsProperChannel c → (event : Event) → IsProperChannel (channel_event endless_broadcast endless_watch c event).1
+proper-channel : (c : EndlessChannel) → IsProperChannel c → (event : Event) →
+    IsProperChannel (channel_event endless_broadcast endless_watch c event).1
 proper-channel (Broadcast h) p event = proper-broadcast h p event
 proper-channel (Watch h) p event = proper-watch h p event
 
@@ -548,7 +595,8 @@ proper-set [] n c h p = tt
 proper-set (t ∷ ts) zero c h p = (p, h.1)
 proper-set (t ∷ ts) (suc n) c h p = (h.0, proper-set ts n c h.1 p)
 
-proper-on : {A : Type 0} (done : EndlessChannel → Result A NoEvent × EndlessChannel) → ((c : EndlessChannel) → IsProperChannel c → IsProperChannel (done c).1) →
+proper-on : {A : Type 0} (done : EndlessChannel → Result A NoEvent × EndlessChannel) →
+    ((c : EndlessChannel) → IsProperChannel c → IsProperChannel (done c).1) →
     (ts : EndlessTopics) (n : ℕ) (o : Option EndlessChannel) → AreProper ts → ((c : EndlessChannel) → o ≡ Some c → IsProperChannel c) →
     AreProper (on_channel ts n done o).1
 proper-on done stay ts n None h p = h
@@ -558,5 +606,6 @@ pub stays_proper : StaysProper
 stays_proper limit ts (Find name) proper = proper
 stays_proper limit ts List proper = proper
 stays_proper limit ts (Open name making) proper = proper-open limit ts name making proper
-stays_proper limit ts (On n event) proper = proper-on _ (λ c p. proper-channel c p event) ts n (slice_get (values_of ts) n) proper (proper-at ts proper n)
+stays_proper limit ts (On n event) proper = proper-on _ (λ c p. proper-channel c p event) ts n (slice_get (values_of ts) n) proper
+    (proper-at ts proper n)
 stays_proper limit ts (Cut n) proper = proper-on _ proper-cut ts n (slice_get (values_of ts) n) proper (proper-at ts proper n)

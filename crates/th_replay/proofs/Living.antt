@@ -88,7 +88,8 @@ module _ {ts ts' : EndlessTopics} {h h' : Holding} (keeps : Keeps h ts h' ts') w
       ((here.0, living.1, rest.0), (here.1, rest.1))
 
   -- one that is apart from the actor at this place stays so
-  living-set : (actors : Actors) (place : ℕ) → Living ts actors → holding_at actors place ≡ Some h → Living ts' (set_value_at actors place h')
+  living-set : (actors : Actors) (place : ℕ) → Living ts actors → holding_at actors place ≡ Some h →
+      Living ts' (set_value_at actors place h')
   living-set [] place living at = tt
   living-set (a ∷ actors) zero living at =
       let rest = all-others actors (subst (λ k. AllApart k actors) (same_Some a.1 h at) living.1) living.2 in
@@ -106,7 +107,12 @@ module _ {ts ts' : EndlessTopics} {h h' : Holding} (keeps : Keeps h ts h' ts') w
 
   living-append : (actors : Actors) (name : List ℕ) → Living ts' actors → AllApart h' actors → Living ts' (actors ++ (name, h') ∷ [])
   living-append [] name living all = (keeps.lives, tt, tt)
-  living-append (a ∷ actors) name living all = (living.0, apart-append a.1 h' actors name living.1 (turned h' a.1 all.0), living-append actors name living.2 all.1)
+  living-append (a ∷ actors) name living all = (
+    living.0,
+    apart-append a.1 h' actors name living.1 (turned h' a.1
+        all.0),
+    living-append actors name living.2 all.1,
+  )
 
 -- one who holds nothing is apart from all
 nothing-apart : (actors : Actors) → AllApart [] actors
@@ -119,16 +125,19 @@ pub record IsLiving (hub : Hub EndlessTopics) : Type 0 where
   pub living : Living hub.topics hub.actors
 
 module _ (hub : Hub EndlessTopics) (l : IsLiving hub) where
-  lives-at : (actors : Actors) (place : ℕ) (held : Holding) → Living hub.topics actors → holding_at actors place ≡ Some held → Lives hub.topics held
+  lives-at : (actors : Actors) (place : ℕ) (held : Holding) → Living hub.topics actors → holding_at actors place ≡ Some held →
+      Lives hub.topics held
   lives-at [] place held living at = absurd (none-some held at)
   lives-at (a ∷ actors) zero held living at = subst (Lives hub.topics) (same_Some a.1 held at) living.0
   lives-at (a ∷ actors) (suc place) held living at = lives-at actors place held living.2 at
 
-  holding_living : (place : ℕ) (command : Command) (o : Option Holding) → holding_at hub.actors place ≡ o → IsLiving (by_holding endless_step hub place command o).1
+  holding_living : (place : ℕ) (command : Command) (o : Option Holding) → holding_at hub.actors place ≡ o →
+      IsLiving (by_holding endless_step hub place command o).1
   holding_living place command None at = l
   holding_living place command (Some held) at =
       let end : Answer × Holding × EndlessTopics = endless_step hub.topics held command in
-      let keeps : Keeps held hub.topics end.1 end.2 = command_keeps most_entries hub.topics held command l.sound (lives-at hub.actors place held l.living at) in
+      let keeps : Keeps held hub.topics end.1 end.2 = command_keeps most_entries hub.topics held command l.sound
+      (lives-at hub.actors place held l.living at) in
       record {
         sound = keeps.sound;
         living = cond_case (Living end.2) (has_quit end.0) (remove hub.actors place) (set_value_at hub.actors place end.1)
@@ -138,16 +147,19 @@ module _ (hub : Hub EndlessTopics) (l : IsLiving hub) where
   first_living : (name : List ℕ) (command : Command) → IsLiving (started endless_step hub name (endless_step hub.topics [] command)).1
   first_living name command =
       let end : Answer × Holding × EndlessTopics = endless_step hub.topics [] command in
-      let keeps : Keeps [] hub.topics end.1 end.2 = command_keeps most_entries hub.topics [] command l.sound (lives-nothing hub.topics [] refl) in
+      let keeps : Keeps [] hub.topics end.1 end.2 = command_keeps most_entries hub.topics [] command l.sound
+      (lives-nothing hub.topics [] refl) in
       let rest = all-others keeps hub.actors (nothing-apart hub.actors) l.living in
       record {
         sound = keeps.sound;
-        living = cond_case (Living end.2) _ hub.actors (hub.actors ++ (name, end.1) ∷ []) (λ _. rest.0) (λ _. living-append keeps hub.actors name rest.0 rest.1);
+        living = cond_case (Living end.2) _ hub.actors (hub.actors ++ (name, end.1) ∷ []) (λ _. rest.0)
+            (λ _. living-append keeps hub.actors name rest.0 rest.1);
       }
 
   place_living : (name : List ℕ) (command : Command) (o : Option ℕ) → IsLiving (by_place endless_step hub name command o).1
   place_living name command None =
-      cond_case (λ (end : Answer × Hub EndlessTopics). IsLiving end.1) (nat_le 1024 (length hub.actors)) (Replied (Refused Codes.TooMany), hub)
+      cond_case (λ (end : Answer × Hub EndlessTopics). IsLiving end.1) (nat_le 1024 (length hub.actors))
+      (Replied (Refused Codes.TooMany), hub)
       (started endless_step hub name (endless_step hub.topics [] command)) (λ _. l) (λ _. first_living name command)
   place_living name command (Some place) = holding_living place command (slice_get (values_of hub.actors) place) refl
 
@@ -164,9 +176,11 @@ module _ (hub : Hub EndlessTopics) (l : IsLiving hub) where
   turn_living : (line : Line) (marked : Bool) → IsLiving (turn machine hub line marked).1
   unfolding turn machine
   turn_living line marked =
-      cond_case (λ (said : List ℕ × Hub EndlessTopics). IsLiving said.1) _ (spell (Refused Codes.NoMemory), hub) (machine.answer hub line) (λ _. l) (λ _. answer_living line)
+      cond_case (λ (said : List ℕ × Hub EndlessTopics). IsLiving said.1) _ (spell (Refused Codes.NoMemory), hub) (machine.answer hub line)
+      (λ _. l) (λ _. answer_living line)
 
-end_living : (hub : Hub EndlessTopics) → IsLiving hub → (lines : List Line) (marks : List Bool) → IsLiving (session_end machine hub lines marks)
+end_living : (hub : Hub EndlessTopics) → IsLiving hub → (lines : List Line) (marks : List Bool) →
+    IsLiving (session_end machine hub lines marks)
 end_living hub l [] marks = l
 end_living hub l (line ∷ lines) marks =
     end_living (turn machine hub line (first_mark marks)).1 (turn_living hub l line (first_mark marks)) lines (later_marks marks)
@@ -192,7 +206,8 @@ none-shared ts (a ∷ actors) living zero (suc j) h k n x at at' has also =
     absurd (apart-at a.1 k actors j living.1 at' n x (subst (λ held. Has (handles_at held n) x) (sym (same_Some a.1 h at)) has) also)
 none-shared ts (a ∷ actors) living (suc i) zero h k n x at at' has also =
     absurd (apart-at a.1 h actors i living.1 at n x (subst (λ held. Has (handles_at held n) x) (sym (same_Some a.1 k at')) also) has)
-none-shared ts (a ∷ actors) living (suc i) (suc j) h k n x at at' has also = ap suc (none-shared ts actors living.2 i j h k n x at at' has also)
+none-shared ts (a ∷ actors) living (suc i) (suc j) h k n x at at' has also =
+    ap suc (none-shared ts actors living.2 i j h k n x at at' has also)
 
 pub what_is_held_is_not_shared : WhatIsHeldIsNotShared
 what_is_held_is_not_shared lines marks =
@@ -218,12 +233,15 @@ module _ (hub : Hub EndlessTopics) (l : IsLiving hub) (name : Bytes) (action : A
   holding-exact : (place : ℕ) (o : Option Holding) → holding_at hub.actors place ≡ o → IsSome o →
       IsExact (by_holding endless_step hub place (On name action) o).0 action (unwrap_or o []) t.topic.0
   holding-exact place None at some = absurd (false≢true some)
-  holding-exact place (Some held) at some = what_is_lacking_is_exact most_entries hub.topics held name action t e right ((lives-at hub l hub.actors place held l.living at).live t.topic.0)
+  holding-exact place (Some held) at some = what_is_lacking_is_exact most_entries hub.topics held name action t e right
+      ((lives-at hub l hub.actors place held l.living at).live t.topic.0)
 
   starting-exact : (full : Bool) (actor : List ℕ) → full ≡ false →
-      IsExact (cond {A = Answer × Hub EndlessTopics} full (Replied (Refused Codes.TooMany), hub) (started endless_step hub actor (endless_step hub.topics [] (On name action)))).0 action [] t.topic.0
+      IsExact (cond {A = Answer × Hub EndlessTopics} full (Replied (Refused Codes.TooMany), hub)
+      (started endless_step hub actor (endless_step hub.topics [] (On name action)))).0 action [] t.topic.0
   starting-exact true actor room = absurd (false≢true (sym room))
-  starting-exact false actor room = what_is_lacking_is_exact most_entries hub.topics [] name action t e right (λ x has. absurd (has-nothing x has))
+  starting-exact false actor room = what_is_lacking_is_exact most_entries hub.topics [] name action t e right
+      (λ x has. absurd (has-nothing x has))
 
   has-room : (o : Option ℕ) → IsSome o ⊎ (length hub.actors < most_actors) → o ≡ None → nat_le most_actors (length hub.actors) ≡ false
   has-room o (inl some) none = absurd (false≢true (subst IsSome none some))
@@ -231,16 +249,19 @@ module _ (hub : Hub EndlessTopics) (l : IsLiving hub) (name : Bytes) (action : A
 
   place-exact : (actor : List ℕ) (o : Option ℕ) → place_of hub.actors actor ≡ o → MayAct hub.actors actor →
       IsExact (by_place endless_step hub actor (On name action) o).0 action (held_at hub.actors o) t.topic.0
-  place-exact actor None at may = starting-exact (nat_le most_actors (length hub.actors)) actor (has-room (place_of hub.actors actor) may at)
+  place-exact actor None at may = starting-exact (nat_le most_actors (length hub.actors)) actor
+      (has-room (place_of hub.actors actor) may at)
   place-exact actor (Some place) at may = holding-exact place (holding_at hub.actors place) refl (found-there hub.actors actor place at)
 
   answer-exact : (bytes : List ℕ) (actor : Actor) → step_of bytes ≡ Some (actor, On name action) → MayAct hub.actors actor.0 →
       IsExact (answer_to endless_step hub (Good bytes)).0 action (held_by hub.actors actor.0) t.topic.0
   unfolding answer_to
   answer-exact bytes actor is may =
-      subst (λ (o : Option (Actor × Command)). IsExact (by_step endless_step hub o).0 action (held_by hub.actors actor.0) t.topic.0) (sym is)
+      subst (λ (o : Option (Actor × Command)). IsExact (by_step endless_step hub o).0 action (held_by hub.actors actor.0) t.topic.0)
+      (sym is)
       (place-exact actor.0 (place_of hub.actors actor.0) refl may)
 
 pub not_held_is_exact : NotHeldIsExact
 not_held_is_exact lines marks bytes actor name action t is may e right =
-    answer-exact (session_end machine start lines marks) (end_living start start_living lines marks) name action t e right bytes actor is may
+    answer-exact (session_end machine start lines marks) (end_living start start_living lines marks) name action t e right bytes actor is
+    may

@@ -87,19 +87,22 @@ abbrev IsOfHeld : Handles TxId RxId → Event → Type 0
 IsOfHeld s event = (x : Handle) → AskedBy event x → Has s x
 
 own-held : {H : Type 0} (handle : H → Handle) (s : Handles TxId RxId) (o : Option H) (event : H → Event) (e : Event) →
-    ((h : H) (x : Handle) → AskedBy (event h) x → x ≡ handle h) → ((h : H) → o ≡ Some h → Has s (handle h)) → own o event ≡ Ok e → IsOfHeld s e
+    ((h : H) (x : Handle) → AskedBy (event h) x → x ≡ handle h) → ((h : H) → o ≡ Some h → Has s (handle h)) → own o event ≡ Ok e →
+    IsOfHeld s e
 own-held handle s None event e asks has is x k = absurd (let no : ⊥ = cc in no)
 own-held handle s (Some h) event e asks has is x k =
     let same : event h ≡ e = cc in
     subst (Has s) (sym (asks h x (subst (λ (z : Event). AskedBy z x) (sym same) k))) (has h refl)
 
 -- of an event that may go through the hub's own sender
-by-any : (s : Handles TxId RxId) (o : Option TxId) (event : Option TxId → Event) → ((x : Handle) → AskedBy (event None) x → ⊥) → ((t : TxId) (x : Handle) → AskedBy (event (Some t)) x → x ≡ Sender t) →
+by-any : (s : Handles TxId RxId) (o : Option TxId) (event : Option TxId → Event) → ((x : Handle) → AskedBy (event None) x → ⊥) →
+    ((t : TxId) (x : Handle) → AskedBy (event (Some t)) x → x ≡ Sender t) →
     ((t : TxId) → o ≡ Some t → Has s (Sender t)) → IsOfHeld s (event o)
 by-any s None event none some has x k = absurd (none x k)
 by-any s (Some t) event none some has x k = subst (Has s) (sym (some t x k)) (has t refl)
 
-unless-held : {H : Type 0} (s : Handles TxId RxId) (o : Option H) (event e : Event) → IsOfHeld s event → unless_held o event ≡ Ok e → IsOfHeld s e
+unless-held : {H : Type 0} (s : Handles TxId RxId) (o : Option H) (event e : Event) → IsOfHeld s event → unless_held o event ≡ Ok e →
+    IsOfHeld s e
 unless-held s None event e h is = subst (IsOfHeld s) (let same : event ≡ e = cc in same) h
 unless-held s (Some x) event e h is = absurd (let no : ⊥ = cc in no)
 
@@ -113,11 +116,13 @@ judged-held : (action : Action) (s : Handles TxId RxId) (e : Event) → judged a
 judged-held Actions.Bind s e is = unless-held s s.sender Binds e (λ x k. absurd k) is
 judged-held Actions.Unbind s e is = own-held (λ t. Sender t) s s.sender (λ t. DropsTx (Own t)) e (λ t x k. k) (λ t h. h) is
 judged-held (Actions.Subscribe start) s e is =
-    unless-held s s.receiver (Subscribes start (any_sender s.sender)) e (by-any s s.sender (λ o. Subscribes start (any_sender o)) (λ x k. k) (λ t x k. k) (λ t h. h)) is
+    unless-held s s.receiver (Subscribes start (any_sender s.sender)) e
+    (by-any s s.sender (λ o. Subscribes start (any_sender o)) (λ x k. k) (λ t x k. k) (λ t h. h)) is
 judged-held Actions.Unsubscribe s e is = own-held (λ r. Receiver r) s s.receiver (λ r. DropsRx r) e (λ r x k. k) (λ r h. h) is
 judged-held Actions.Resubscribe s e is = own-held (λ r. Receiver r) s s.receiver (λ r. Resubscribes r) e (λ r x k. k) (λ r h. h) is
 judged-held (Actions.BySender verb) s e is = own-held (λ t. Sender t) s s.sender (λ t. Sends t verb) e (λ t x k. k) (λ t h. h) is
-judged-held (Actions.Ask question) s e is = is-same s (Asks (any_sender s.sender) question) e (by-any s s.sender (λ o. Asks (any_sender o) question) (λ x k. k) (λ t x k. k) (λ t h. h)) is
+judged-held (Actions.Ask question) s e is = is-same s (Asks (any_sender s.sender) question) e
+    (by-any s s.sender (λ o. Asks (any_sender o) question) (λ x k. k) (λ t x k. k) (λ t h. h)) is
 judged-held (Actions.ByReceiver verb) s e is = own-held (λ r. Receiver r) s s.receiver (λ r. Receives r verb) e (λ r x k. k) (λ r h. h) is
 judged-held Actions.End s e is = is-same s (DropsTx Hub) e (λ x k. absurd k) is
 
@@ -147,20 +152,28 @@ asking action h n event = Ask (On n event) (λ noted. Give (answered n noted) (k
 
 module _ (limit : ℕ) (ts : EndlessTopics) (h : Holding) (action : Action) (n : ℕ) (live : IsHeldLive ts h n) where
   -- the reply where this is why there is no event, or which event it is
-  by-judgement : (j : Result Event Code) → judged action (handles_at h n) ≡ j → reply_of (run (endless limit) ts (by_event action n h j)).0 ≡ Some (Refused Codes.NotHeld) → Lacks action (handles_at h n)
-  by-judgement (Err code) j r = judged-lacks action (handles_at h n) (j ∙ ap (λ (k : Code). Err k) (let same : code ≡ Codes.NotHeld = cc in same))
+  by-judgement : (j : Result Event Code) → judged action (handles_at h n) ≡ j →
+      reply_of (run (endless limit) ts (by_event action n h j)).0 ≡ Some (Refused Codes.NotHeld) → Lacks action (handles_at h n)
+  by-judgement (Err code) j r = judged-lacks action (handles_at h n)
+      (j ∙ ap (λ (k : Code). Err k) (let same : code ≡ Codes.NotHeld = cc in same))
   by-judgement (Ok event) j r =
       let held : IsOfHeld (handles_at h n) event = judged-held action (handles_at h n) event j in
-      let served : lacks_handle (say (endless limit) ts (On n event)).0.0 ≡ false = live_handles_are_served limit ts n event (λ x k. live x (held x k)) in
-      let reply = sym (ap (λ (end : Answer × Holding × EndlessTopics). reply_of end.0) (run-in-room (endless limit) ts action h (asking action h n event))) ∙ r in
-      absurd (false≢true (sym (told-not-held (say (endless limit) ts (On n event)).0.0 ∙ served) ∙ ap is_not_held (sym (event-told (endless limit) (λ c call reply. refl) (λ c call reply. refl) n ts event) ∙ reply)))
+      let served : lacks_handle (say (endless limit) ts (On n event)).0.0 ≡ false =
+      live_handles_are_served limit ts n event (λ x k. live x (held x k)) in
+      let reply = sym (ap (λ (end : Answer × Holding × EndlessTopics). reply_of end.0)
+      (run-in-room (endless limit) ts action h (asking action h n event))) ∙ r in
+      absurd (false≢true (sym (told-not-held (say (endless limit) ts (On n event)).0.0 ∙ served)
+      ∙ ap is_not_held (sym (event-told (endless limit) (λ c call reply. refl) (λ c call reply. refl) n ts event) ∙ reply)))
 
-  by-kind : (right : Bool) → right ≡ true → reply_of (run (endless limit) ts (cond right (by_event action n h (judged action (handles_at h n))) (Say (Refused Codes.WrongKind) h))).0 ≡ Some (Refused Codes.NotHeld) → Lacks action (handles_at h n)
+  by-kind : (right : Bool) → right ≡ true → reply_of (run (endless limit) ts
+      (cond right (by_event action n h (judged action (handles_at h n))) (Say (Refused Codes.WrongKind) h))).0
+      ≡ Some (Refused Codes.NotHeld) → Lacks action (handles_at h n)
   by-kind true is r = by-judgement (judged action (handles_at h n)) refl r
   by-kind false is r = absurd (false≢true is)
 
 pub what_is_lacking_is_exact : WhatIsLackingIsExact
 what_is_lacking_is_exact limit ts h name action t e right live = (
-  λ r. by-kind limit ts h action t.topic.0 live (is_for t.kind action) right (sym (ap (λ (found : Option Found). reply_of (run (endless limit) ts (at_topic action h found)).0) e) ∙ r),
+  λ r. by-kind limit ts h action t.topic.0 live (is_for t.kind action) right
+      (sym (ap (λ (found : Option Found). reply_of (run (endless limit) ts (at_topic action h found)).0) e) ∙ r),
   what_is_lacking_comes_next (endless limit) ts h name action t e right,
 )

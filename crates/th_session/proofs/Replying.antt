@@ -90,14 +90,16 @@ module _ {B W : Type 0} (m : Machines B W)
   broadcast-same : (c : B) (event : Event) (said : Result (BReply Bytes) NoEvent) (call : Option (BCall Bytes)) (end : Bool) →
       TellsSame n (came (broadcast_outcome event) said, option_map (λ r. Broadcast r) (cond end None (receipted m.broadcast c said call)))
   broadcast-same c event said call true = refl
-  broadcast-same c event (Ok reply) (Some call) false = ap (λ r. Some r) (ap replied_broadcast (of c call reply) ∙ sym (broadcast-outcome event reply))
+  broadcast-same c event (Ok reply) (Some call) false = ap (λ r. Some r)
+      (ap replied_broadcast (of c call reply) ∙ sym (broadcast-outcome event reply))
   broadcast-same c event (Ok reply) None false = refl
   broadcast-same c event (Err why) call false = refl
 
   watch-same : (c : W) (event : Event) (said : Result (WReply Bytes) NoEvent) (call : Option (WCall Bytes)) (end : Bool) →
       TellsSame n (came (watch_outcome event) said, option_map (λ r. Watch r) (cond end None (receipted m.watch c said call)))
   watch-same c event said call true = refl
-  watch-same c event (Ok reply) (Some call) false = ap (λ r. Some r) (ap replied_watch (of-watch c call reply) ∙ sym (watch-outcome event reply))
+  watch-same c event (Ok reply) (Some call) false = ap (λ r. Some r)
+      (ap replied_watch (of-watch c call reply) ∙ sym (watch-outcome event reply))
   watch-same c event (Ok reply) None false = refl
   watch-same c event (Err why) call false = refl
 

@@ -46,7 +46,8 @@ module _ {D : Type 0} (keeping : Keeping) (says : D → (q : Query) → Said q �
   halts_here old ls e out said = (breaks_here (is_whole (Some e)) old ls out said, λ h. absurd (no_fault e h))
 
   -- a line was not let through
-  pub kept_out : (line : Line) (s : Kept) (d e : D) (before after : Output) (fault : SessionFault) → e ≡ d → Says (is_whole (Some fault)) [] before after
+  pub kept_out : (line : Line) (s : Kept) (d e : D) (before after : Output) (fault : SessionFault) → e ≡ d →
+      Says (is_whole (Some fault)) [] before after
       → Halts keeping says ((s, d), before) (line ∷ []) (Some fault) ((s, e), after)
   kept_out line s d e before after fault same said =
       subst (λ (x : D). Halts keeping says ((s, d), before) (line ∷ []) (Some fault) ((s, x), after)) (sym same)
@@ -58,46 +59,54 @@ module _ {D : Type 0} (keeping : Keeping) (says : D → (q : Query) → Said q �
   keeps_line Long old new answer w = as-before says old.0 old.1 new.0 answer (Refused Codes.LongLine) w.0 (ap (λ (s : Kept × D). s.0) w.1)
 
   -- it was let through
-  module _ (line : Line) (s : Kept) (d e : D) (new : Kept × D) (before entered after : Output) (same : e ≡ d) (p : Adds [] before entered) where
-    -- the writer failed before it was carried out
-    pub in_time_broken : new ≡ (s, e) → WritesFront (entered.waiting ++ []) entered after → Halts keeping says ((s, d), before) (line ∷ []) (Some Write) (new, after)
-    in_time_broken at f =
-        subst (λ (x : Kept × D). Halts keeping says ((s, d), before) (line ∷ []) (Some Write) (x, after)) (sym (at ∙ ap (λ (x : D). (s, x)) same))
-        (halts_here ((s, d), before) (line ∷ []) Write after (front_after [] p f))
+  module _ (line : Line) (s : Kept) (d e : D) (new : Kept × D) (before entered after : Output) (same : e ≡ d) (p : Adds [] before entered)
+    where
+      -- the writer failed before it was carried out
+      pub in_time_broken : new ≡ (s, e) → WritesFront (entered.waiting ++ []) entered after →
+          Halts keeping says ((s, d), before) (line ∷ []) (Some Write) (new, after)
+      in_time_broken at f =
+          subst (λ (x : Kept × D). Halts keeping says ((s, d), before) (line ∷ []) (Some Write) (x, after))
+          (sym (at ∙ ap (λ (x : D). (s, x)) same))
+          (halts_here ((s, d), before) (line ∷ []) Write after (front_after [] p f))
 
-    -- it was carried out
-    module _ (mid : Output) (tells : session.Answer) (t : Tells tells (λ answer. IsAnswered says line (s, e) answer new)) (q : Adds [] entered mid) (left : Kept) (is : left ≡ kept_by keeping new.0) where
-      turned : line_turn keeping says (s, d) line (said t.0) (left, new.1)
-      turned = (t.0, new.0, subst (λ (x : D). IsAnswered says line (s, x) t.0 new) same t.2, is, refl)
+      -- it was carried out
+      module _ (mid : Output) (tells : session.Answer) (t : Tells tells (λ answer. IsAnswered says line (s, e) answer new))
+          (q : Adds [] entered mid) (left : Kept) (is : left ≡ kept_by keeping new.0) where
+        turned : line_turn keeping says (s, d) line (said t.0) (left, new.1)
+        turned = (t.0, new.0, subst (λ (x : D). IsAnswered says line (s, x) t.0 new) same t.2, is, refl)
 
-      kept : IsKept s t.0 new.0
-      kept = keeps_line line (s, e) new t.0 t.2
+        kept : IsKept s t.0 new.0
+        kept = keeps_line line (s, e) new t.0 t.2
 
-      module _ (put : (answer : Answer) (had : Kept) → tells ≡ told answer → IsKept had answer new.0 → Adds (said answer) mid after) where
-        put_on : Adds (said t.0) before after
-        put_on = adds_both p (adds_both q (put t.0 s t.1 kept))
+        module _ (put : (answer : Answer) (had : Kept) → tells ≡ told answer → IsKept had answer new.0 → Adds (said answer) mid after) where
+          put_on : Adds (said t.0) before after
+          put_on = adds_both p (adds_both q (put t.0 s t.1 kept))
 
-        pub carries : Serves keeping says {A = Unit {0}} line ((s, d), before) ((left, new.1), after) (Ok tt)
-        carries = (said t.0, turned, put_on)
+          pub carries : Serves keeping says {A = Unit {0}} line ((s, d), before) ((left, new.1), after) (Ok tt)
+          carries = (said t.0, turned, put_on)
 
-        pub quits : tells ≡ answers.Reply Bye → Halts keeping says ((s, d), before) (line ∷ []) None ((left, new.1), after)
-        unfolding breaks_at
-        quits bye = (
-          breaks_at true ((s, d), before) line (said t.0) ((left, new.1), after) turned put_on,
-          λ h. ([], ap (λ (l : List ℕ). l ∷ []) (told_reply t.0 Bye (sym bye ∙ t.1))),
+          pub quits : tells ≡ answers.Reply Bye → Halts keeping says ((s, d), before) (line ∷ []) None ((left, new.1), after)
+          unfolding breaks_at
+          quits bye = (
+            breaks_at true ((s, d), before) line (said t.0) ((left, new.1), after) turned put_on,
+            λ h. ([], ap (λ (l : List ℕ). l ∷ []) (told_reply t.0 Bye (sym bye ∙ t.1))),
+          )
+
+        pub carries_broken : ((answer : Answer) (had : Kept) → tells ≡ told answer → IsKept had answer new.0 →
+            WritesFront (mid.waiting ++ said answer) mid after)
+            → Halts keeping says ((s, d), before) (line ∷ []) (Some Write) ((left, new.1), after)
+        carries_broken put = (
+          breaks_at false ((s, d), before) line (said t.0) ((left, new.1), after) turned
+              (front_after (said t.0) p (front_after (said t.0) q (put t.0 s t.1 kept))),
+          λ h. absurd (no_fault Write h),
         )
-
-      pub carries_broken : ((answer : Answer) (had : Kept) → tells ≡ told answer → IsKept had answer new.0 → WritesFront (mid.waiting ++ said answer) mid after)
-          → Halts keeping says ((s, d), before) (line ∷ []) (Some Write) ((left, new.1), after)
-      carries_broken put = (
-        breaks_at false ((s, d), before) line (said t.0) ((left, new.1), after) turned (front_after (said t.0) p (front_after (said t.0) q (put t.0 s t.1 kept))),
-        λ h. absurd (no_fault Write h),
-      )
 
 module _ {W D : Type 0} (says : D → (q : Query) → Said q → D → Type 0) (contents : W → Option (List ℕ)) where
   -- a run takes a line
-  pub takes_on : (line : Line) (old new : Course × D × Tally W) (r : Result (Unit {0}) (Option SessionFault)) → new.0.keeping ≡ old.0.keeping
-      → Serves old.0.keeping says line (stands contents old) (stands contents new) r → Takes (Took says contents) (IsOver says contents) line old r new
+  pub takes_on : (line : Line) (old new : Course × D × Tally W) (r : Result (Unit {0}) (Option SessionFault)) →
+      new.0.keeping ≡ old.0.keeping
+      → Serves old.0.keeping says line (stands contents old) (stands contents new) r →
+      Takes (Took says contents) (IsOver says contents) line old r new
   unfolding breaks_after
   takes_on line old new (Ok x) same s = λ from lines t.
       let s' = subst (λ (k : Keeping). Serves k says line (stands contents old) (stands contents new) (Ok x)) t.0 s in
@@ -114,7 +123,8 @@ module _ {W D : Type 0} (says : D → (q : Query) → Said q → D → Type 0) (
   settles_on old new same actor desk f = (
     λ from lines t. (
       same ∙ t.0,
-      subst (λ (x : Kept × D). Answers (line_turn from.0.keeping says) (stands contents from) lines (x, (stands contents new).1)) (λ i. (sym actor i, sym desk i))
+      subst (λ (x : Kept × D). Answers (line_turn from.0.keeping says) (stands contents from) lines (x, (stands contents new).1))
+          (λ i. (sym actor i, sym desk i))
           (answers_on t.1 (stands contents new).1 (flushed_adds f.0 f.1)),
     ),
     tt,
@@ -122,15 +132,19 @@ module _ {W D : Type 0} (says : D → (q : Query) → Said q → D → Type 0) (
 
   pub settles_broken : (old new : Course × D × Tally W) → new.0.kept ≡ old.0.kept → new.1 ≡ old.1
       → WritesFront old.0.waiting (stands contents old).1 (stands contents new).1
-      → (from : Course × D × Tally W) (lines : List Line) → Took says contents from lines old → IsOver says contents from lines (Some Write) new
+      → (from : Course × D × Tally W) (lines : List Line) → Took says contents from lines old →
+      IsOver says contents from lines (Some Write) new
   settles_broken old new actor desk f from lines t =
       let out = (stands contents new).1 in
       let b = breaks_after t.1 (breaks_here false (stands contents old) [] out (waiting_front (adds_none (stands contents old).1) f)) in
-      subst (λ (x : Kept × D). Halts from.0.keeping says (stands contents from) lines (Some Write) (x, out)) (λ i. (sym actor i, sym desk i))
-      (subst (λ (ls : List Line). Halts from.0.keeping says (stands contents from) ls (Some Write) ((stands contents old).0, out)) (append-nil lines) (b, λ h. absurd (no_fault Write h)))
+      subst (λ (x : Kept × D). Halts from.0.keeping says (stands contents from) lines (Some Write) (x, out))
+      (λ i. (sym actor i, sym desk i))
+      (subst (λ (ls : List Line). Halts from.0.keeping says (stands contents from) ls (Some Write) ((stands contents old).0, out))
+      (append-nil lines) (b, λ h. absurd (no_fault Write h)))
 
 -- how a run has ended, and what waits still
-pub record Ends {D : Type 0} (turn : Kept × D → Line → List ℕ → Kept × D → Type 0) (r r' : Option (List ℕ)) (d : D) (before : Output) (fault : Option SessionFault)
+pub record Ends {D : Type 0} (turn : Kept × D → Line → List ℕ → Kept × D → Type 0) (r r' : Option (List ℕ)) (d : D) (before : Output)
+    (fault : Option SessionFault)
     (s : Kept × D) (out : Output) : Type 0 where
   pub input : List ℕ
   pub read : Consumes r r' input
@@ -144,7 +158,8 @@ pub record Ends {D : Type 0} (turn : Kept × D → Line → List ℕ → Kept ×
   pub said : Says (is_whole fault) (concat texts) before out
   pub over : fault ≡ None → HasQuit texts ⊎ ((later ≡ []) × (ended ≡ true))
 
-module _ {W D : Type 0} (keeping : Keeping) (says : D → (q : Query) → Said q → D → Type 0) (contents : W → Option (List ℕ)) (r r' : Option (List ℕ)) (d : D)
+module _ {W D : Type 0} (keeping : Keeping) (says : D → (q : Query) → Said q → D → Type 0) (contents : W → Option (List ℕ))
+    (r r' : Option (List ℕ)) (d : D)
     (w : Tally W) where
   abbrev start : Course × D × Tally W
   start = (beginning keeping, d, w)
@@ -197,7 +212,8 @@ module _ {W D : Type 0} (keeping : Keeping) (says : D → (q : Query) → Said q
         whole = q.whole;
         done = b.done;
         later = b.later ++ first.0;
-        lines = ap (λ (l : List ℕ). lines_from f.ended [] l) (sym (append-nil q.input)) ∙ first.1 ∙ ap (λ (l : List Line). l ++ first.0) b.parts
+        lines = ap (λ (l : List ℕ). lines_from f.ended [] l) (sym (append-nil q.input)) ∙ first.1
+            ∙ ap (λ (l : List Line). l ++ first.0) b.parts
             ∙ append_assoc b.done b.later first.0;
         texts = b.texts;
         turned = b.turned;
@@ -230,17 +246,22 @@ module _ {W D : Type 0} (keeping : Keeping) (says : D → (q : Query) → Said q
       adds : Adds (concat q.texts) before out
       adds = subst (λ (b : Bool). Says b (concat q.texts) before out) e q.said
 
-      pub ran_whole : (after : Output) → WritesAll out.waiting out after → Ran keeping says r r' before (record after { waiting = [] }) d s fault
-      ran_whole after f = ran fault after (subst (λ (b : Bool). Ended b (concat q.texts) before after) (sym e) (wrote_all refl adds f)) (λ h. h)
+      pub ran_whole : (after : Output) → WritesAll out.waiting out after →
+          Ran keeping says r r' before (record after { waiting = [] }) d s fault
+      ran_whole after f = ran fault after (subst (λ (b : Bool). Ended b (concat q.texts) before after) (sym e) (wrote_all refl adds f))
+          (λ h. h)
 
-      pub ran_broken : (after : Output) → WritesFront out.waiting out after → Ran keeping says r r' before (record after { waiting = [] }) d s (Some Write)
+      pub ran_broken : (after : Output) → WritesFront out.waiting out after →
+          Ran keeping says r r' before (record after { waiting = [] }) d s (Some Write)
       ran_broken after f = ran (Some Write) after (wrote_front refl adds f) (λ h. absurd (no_fault Write h))
 
     pub ran_failed : is_whole fault ≡ false → Ran keeping says r r' before (record out { waiting = [] }) d s fault
-    ran_failed e = ran fault out (subst (λ (b : Bool). Ended b (concat q.texts) before out) (sym e) (subst (λ (b : Bool). Says b (concat q.texts) before out) e q.said)) (λ h. h)
+    ran_failed e = ran fault out (subst (λ (b : Bool). Ended b (concat q.texts) before out) (sym e)
+        (subst (λ (b : Bool). Says b (concat q.texts) before out) e q.said)) (λ h. h)
 
 -- there was no memory for the buffers
-pub served_short : {D : Type 0} (keeping : Keeping) (says : D → (q : Query) → Said q → D → Type 0) (r : Option (List ℕ)) (before : Output) (d : D) (left : Kept) → left ≡ nothing_had → Served keeping says r r before before d d left (Some Short)
+pub served_short : {D : Type 0} (keeping : Keeping) (says : D → (q : Query) → Said q → D → Type 0) (r : Option (List ℕ)) (before : Output)
+    (d : D) (left : Kept) → left ≡ nothing_had → Served keeping says r r before before d d left (Some Short)
 served_short keeping says r before d left e = record {
   last = (nothing_had, d);
   ran = record {

@@ -27,7 +27,8 @@ answered-no : (n : ℕ) (noted : Noted) → is_trace (answered n noted) ≡ fals
 answered-no n (told, None) = refl
 answered-no n (told, Some receipt) = refl
 
-same-segments : (segments : List (TopicId × ChannelSegment)) (answer : Answer) → is_trace answer ≡ false → with_segment segments answer ≡ segments
+same-segments : (segments : List (TopicId × ChannelSegment)) (answer : Answer) → is_trace answer ≡ false →
+    with_segment segments answer ≡ segments
 same-segments segments (Replied reply) e = refl
 same-segments segments (Told n receipt) e = refl
 same-segments segments (Traced n segment) e = absurd (false≢true (sym e))
@@ -76,13 +77,15 @@ abbrev is_told : Answer → Bool
 is_told (Told n receipt) = true
 is_told answer = false
 
-same-receipts : (receipts : List (TopicId × ChannelReceipt)) (answer : Answer) → is_told answer ≡ false → with_receipt receipts answer ≡ receipts
+same-receipts : (receipts : List (TopicId × ChannelReceipt)) (answer : Answer) → is_told answer ≡ false →
+    with_receipt receipts answer ≡ receipts
 same-receipts receipts (Replied reply) e = refl
 same-receipts receipts (Told n receipt) e = absurd (false≢true (sym e))
 same-receipts receipts (Traced n segment) e = refl
 
 module _ {D : Type 0} (says : D → (q : Query) → Said q → D → Type 0) (answer : Answer) (after : Holding) (new : D) where
-  shown-not : (n : ℕ) (h : Holding) (said : Result ChannelSegment NoEvent) (old : D) → Plays says (shown n h said) old answer after new → is_told answer ≡ false
+  shown-not : (n : ℕ) (h : Holding) (said : Result ChannelSegment NoEvent) (old : D) → Plays says (shown n h said) old answer after new →
+      is_told answer ≡ false
   shown-not n h (Ok segment) old p = ap is_told p.0
   shown-not n h (Err why) old p = ap is_told p.0
 

@@ -36,7 +36,8 @@ abbrev pub beginning : Keeping → Course
 beginning keeping = record { kept = nothing_had; waiting = []; keeping = keeping }
 
 -- what a run and its desk have, and where the replies stand
-abbrev pub stands : {W D : Type 0} → (W → Option (List ℕ)) → Course × D × Tally W → (Kept × D) × Output
+abbrev pub stands : {W D : Type 0} → (W → Option (List ℕ)) → Course × D × Tally W →
+    (Kept × D) × Output
 stands contents p = ((p.0.kept, p.1), output contents p.2 p.0.waiting)
 
 -- the last of these texts is the reply to QUIT
@@ -131,7 +132,8 @@ Took says contents old lines new = (new.0.keeping ≡ old.0.keeping)
     × Answers (line_turn old.0.keeping says) (stands contents old) lines (stands contents new)
 
 -- or it is to end
-abbrev pub IsOver : {W D : Type 0} → (D → (q : Query) → Said q → D → Type 0) → (W → Option (List ℕ)) →
+abbrev pub IsOver : {W D : Type 0} → (D → (q : Query) → Said q → D → Type 0) →
+    (W → Option (List ℕ)) →
     Course × D × Tally W → List Line → Option SessionFault → Course × D × Tally W → Type 0
 IsOver says contents old lines fault new =
     Halts old.0.keeping says (stands contents old) lines fault (stands contents new)

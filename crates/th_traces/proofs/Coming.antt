@@ -17,13 +17,19 @@ module _ (head start : List Bytes) (next : ℕ) where
   }
 
   module _ (lines : List Bytes) (stage : Stage) where
-    pub kept-next : (kept after : List Bytes) (senders : List ℕ) (receivers : List (ℕ × Bytes)) (value : Bytes) → lines ≡ to_come stage (tells kept senders receivers) → stage ≡ Body → kept ≡ value ∷ after → lines ≡ kept_line value ∷ to_come stage (tells after senders receivers)
+    pub kept-next : (kept after : List Bytes) (senders : List ℕ) (receivers : List (ℕ × Bytes)) (value : Bytes) →
+        lines ≡ to_come stage (tells kept senders receivers) → stage ≡ Body → kept ≡ value ∷ after →
+        lines ≡ kept_line value ∷ to_come stage (tells after senders receivers)
     kept-next kept after senders receivers value e s k = rw (e, s, k) refl
 
-    pub sender-next : (kept after : List Bytes) (senders left : List ℕ) (receivers : List (ℕ × Bytes)) (tx : ℕ) → lines ≡ to_come stage (tells kept senders receivers) → stage ≡ Body → kept ≡ [] → after ≡ [] → senders ≡ tx ∷ left → lines ≡ sender_line tx ∷ to_come stage (tells after left receivers)
+    pub sender-next : (kept after : List Bytes) (senders left : List ℕ) (receivers : List (ℕ × Bytes)) (tx : ℕ) →
+        lines ≡ to_come stage (tells kept senders receivers) → stage ≡ Body → kept ≡ [] → after ≡ [] → senders ≡ tx ∷ left →
+        lines ≡ sender_line tx ∷ to_come stage (tells after left receivers)
     sender-next kept after senders left receivers tx e s k a t = rw (e, s, k, a, t) refl
 
-    pub receiver-next : (kept after : List Bytes) (senders none : List ℕ) (receivers left : List (ℕ × Bytes)) (rx : ℕ × Bytes) → lines ≡ to_come stage (tells kept senders receivers) → stage ≡ Body → kept ≡ [] → after ≡ [] → senders ≡ [] → none ≡ [] → receivers ≡ rx ∷ left → lines ≡ receiver_line rx ∷ to_come stage (tells after none left)
+    pub receiver-next : (kept after : List Bytes) (senders none : List ℕ) (receivers left : List (ℕ × Bytes)) (rx : ℕ × Bytes) →
+        lines ≡ to_come stage (tells kept senders receivers) → stage ≡ Body → kept ≡ [] → after ≡ [] → senders ≡ [] → none ≡ [] →
+        receivers ≡ rx ∷ left → lines ≡ receiver_line rx ∷ to_come stage (tells after none left)
     receiver-next kept after senders none receivers left rx e s k a t n r = rw (e, s, k, a, t, n, r) refl
 
 -- a list without an element is empty

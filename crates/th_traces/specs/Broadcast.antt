@@ -47,7 +47,8 @@ abbrev pub standing : ℕ × ℕ → ℕ × Bytes
 standing rx = (rx.0, decimal rx.1)
 
 -- what lines with these parts tell, in a trace of this version
-abbrev pub told_of : Version → (capacity low tail : ℕ) → List Bytes → Places → List ℕ → ℕ → PictureFields
+abbrev pub told_of : Version → (capacity low tail : ℕ) → List Bytes → Places → List ℕ → ℕ →
+    PictureFields
 told_of version capacity low tail kept places senders next = record {
   head = codes "TRACE" ∷ digit version ∷ codes "B" ∷ decimal capacity ∷ [];
   start = decimal low ∷ decimal tail ∷ [];

@@ -35,7 +35,8 @@ trace_pieces t entries = pieces (picture_lines t) entries (Some (length entries)
 -- the pieces of a broadcast trace
 abbrev pub broadcast_pieces : broadcast_picture.Picture Bytes
     → List (BCall Bytes × BReply Bytes) → List (List ℕ)
-broadcast_pieces p entries = trace_pieces (broadcast_told p entries) (fields broadcast_words.grammar entries)
+broadcast_pieces p entries = trace_pieces (broadcast_told p entries)
+    (fields broadcast_words.grammar entries)
 
 -- the pieces of a watch trace
 abbrev pub watch_pieces : watch_picture.Picture Bytes → List (WCall Bytes × WReply Bytes)

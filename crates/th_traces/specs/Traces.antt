@@ -23,7 +23,8 @@ broadcast_told p entries = broadcast.told (version_of (map (λ e. e.0) entries))
 -- the lines of a broadcast trace
 abbrev pub broadcast_lines : broadcast_picture.Picture Bytes → List (BCall Bytes × BReply Bytes)
     → List Bytes
-broadcast_lines p entries = trace_lines (broadcast_told p entries) (fields broadcast_words.grammar entries)
+broadcast_lines p entries = trace_lines (broadcast_told p entries)
+    (fields broadcast_words.grammar entries)
 
 -- the lines of a watch trace
 abbrev pub watch_lines : watch_picture.Picture Bytes → List (WCall Bytes × WReply Bytes)

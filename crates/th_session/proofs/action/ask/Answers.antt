@@ -26,7 +26,8 @@ returns-in-Some g c =
     let at = at-in c.args.handles.now.entries c.args.topic.0 _ (sym c.in-Some.ensures.value) in
     let has = sender-there g.D.Desk.tx g.D.Desk.rx c.args.handles.now.entries c.args.topic.0 _ (ap (λ s. s.sender) at) in
     let kept = sender-seen g.D.Desk.tx g.D.Desk.rx c.in-Some.own.now c.ask.new.sender c.ask.ensures.sender in
-    let same = held-set g.D.Desk.tx g.D.Desk.rx c.args.handles.now.entries _ c.args.topic.0 c.in-Some.own.now _ (sym c.in-Some.ensures.value)
+    let same = held-set g.D.Desk.tx g.D.Desk.rx c.args.handles.now.entries _ c.args.topic.0 c.in-Some.own.now _
+    (sym c.in-Some.ensures.value)
     (c.get_mut.follows.holds (record { sender = c.ask.new.sender; receiver = c.in-Some.own.now.receiver })).0 kept in
     let answer = answered c.args.topic.0 (replied c.ask.result) in (
       answer,
@@ -41,7 +42,8 @@ returns-in-Some g c =
 pub returns-in-None : goal.returns-in-None
 returns-in-None g c =
     let event : Option TxId → Event = λ (sender : Option TxId). Asks (any_sender sender) c.args.question in
-    let lacks = sender-there g.D.Desk.tx g.D.Desk.rx c.args.handles.now.entries c.args.topic.0 None (ap (λ s. s.sender) (at-out c.args.handles.now.entries c.args.topic.0 (sym c.in-None.ensures.value))) in
+    let lacks = sender-there g.D.Desk.tx g.D.Desk.rx c.args.handles.now.entries c.args.topic.0 None
+    (ap (λ s. s.sender) (at-out c.args.handles.now.entries c.args.topic.0 (sym c.in-None.ensures.value))) in
     let answer = answered c.args.topic.0 (replied c.ask-in-None.result) in (
       answer,
       c.note-in-None.ensures.0,

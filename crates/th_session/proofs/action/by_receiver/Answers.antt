@@ -35,7 +35,8 @@ returns-in_default-receiver g c =
       (
         plays-not g.D.Desk.says (ByReceiver c.args.verb) c.args.topic.0 _ _ _
             (receiver-lacks g.D.Desk.tx g.D.Desk.rx event c.args.handles.now.entries c.args.topic.0 _ at c.in_default-receiver.is)
-            (held-set g.D.Desk.tx g.D.Desk.rx c.args.handles.now.entries _ c.args.topic.0 c.in-Some.own.now _ at (c.get_mut.follows.holds c.in-Some.own.now).0 refl),
+            (held-set g.D.Desk.tx g.D.Desk.rx c.args.handles.now.entries _ c.args.topic.0 c.in-Some.own.now _ at
+            (c.get_mut.follows.holds c.in-Some.own.now).0 refl),
         refl,
       ),
     )
@@ -51,7 +52,9 @@ returns-in_default-reserve g c =
       (
         no-room g.D.Desk.says c.args.topic.0 _ _ _ (ByReceiver c.args.verb) (λ s. refl)
             (receiver-own g.D.Desk.tx g.D.Desk.rx event c.args.handles.now.entries c.args.topic.0 _ _ at holds)
-            (held-set g.D.Desk.tx g.D.Desk.rx c.args.handles.now.entries _ c.args.topic.0 c.in-Some.own.now _ at (c.get_mut.follows.holds (record { sender = c.in-Some.own.now.sender; receiver = Some c.in-Some-receiver.receiver })).0 kept),
+            (held-set g.D.Desk.tx g.D.Desk.rx c.args.handles.now.entries _ c.args.topic.0 c.in-Some.own.now _ at
+            (c.get_mut.follows.holds (record { sender = c.in-Some.own.now.sender; receiver = Some c.in-Some-receiver.receiver })).0
+            kept),
         c.reserve.ensures.items,
       ),
     )
@@ -61,14 +64,18 @@ returns g c =
     let event : RxId → Event = λ (r : RxId). Receives r c.args.verb in
     let at = sym c.in-Some.ensures.value in
     let holds : c.in-Some.own.now.receiver ≡ Some c.in-Some-receiver.receiver = c.in-Some-receiver.is in
-    let kept = receiver-kept g.D.Desk.tx g.D.Desk.rx c.in-Some.own.now _ c.by_receiver-told.new.receiver holds c.by_receiver-told.ensures.receiver in
+    let kept = receiver-kept g.D.Desk.tx g.D.Desk.rx c.in-Some.own.now _ c.by_receiver-told.new.receiver holds
+    c.by_receiver-told.ensures.receiver in
     let answer = answered c.args.topic.0 (replied c.by_receiver-told.result) in (
       answer,
       c.note.ensures.0,
       (
         plays-by g.D.Desk.says (ByReceiver c.args.verb) c.args.topic.0 _ _ (replied c.by_receiver-told.result) _ _
-            (receiver-own g.D.Desk.tx g.D.Desk.rx event c.args.handles.now.entries c.args.topic.0 _ _ at holds) c.by_receiver-told.ensures.event refl
-            (held-set g.D.Desk.tx g.D.Desk.rx c.args.handles.now.entries _ c.args.topic.0 c.in-Some.own.now _ at (c.get_mut.follows.holds (record { sender = c.in-Some.own.now.sender; receiver = Some c.by_receiver-told.new.receiver })).0 kept),
+            (receiver-own g.D.Desk.tx g.D.Desk.rx event c.args.handles.now.entries c.args.topic.0 _ _ at holds)
+            c.by_receiver-told.ensures.event refl
+            (held-set g.D.Desk.tx g.D.Desk.rx c.args.handles.now.entries _ c.args.topic.0 c.in-Some.own.now _ at
+            (c.get_mut.follows.holds (record { sender = c.in-Some.own.now.sender; receiver = Some c.by_receiver-told.new.receiver })).0
+            kept),
         c.note.ensures.1 ∙ ap (λ l. with_receipt l answer) c.reserve.ensures.items,
       ),
     )

@@ -36,7 +36,8 @@ returns-in_default-receiver g c =
       (
         plays-not g.D.Desk.says Actions.Resubscribe c.args.topic.0 _ _ _
             (receiver-lacks g.D.Desk.tx g.D.Desk.rx event c.args.handles.now.entries c.args.topic.0 _ at c.in_default-receiver.is)
-            (held-set g.D.Desk.tx g.D.Desk.rx c.args.handles.now.entries _ c.args.topic.0 c.in-Some.own.now _ at (c.get_mut.follows.holds c.in-Some.own.now).0 refl),
+            (held-set g.D.Desk.tx g.D.Desk.rx c.args.handles.now.entries _ c.args.topic.0 c.in-Some.own.now _ at
+            (c.get_mut.follows.holds c.in-Some.own.now).0 refl),
         refl,
       ),
     )
@@ -51,7 +52,9 @@ returns-in_default-reserve g c =
       (
         no-room g.D.Desk.says c.args.topic.0 _ _ _ Actions.Resubscribe (λ s. refl)
             (receiver-own g.D.Desk.tx g.D.Desk.rx event c.args.handles.now.entries c.args.topic.0 _ _ at holds)
-            (held-set g.D.Desk.tx g.D.Desk.rx c.args.handles.now.entries _ c.args.topic.0 c.in-Some.own.now _ at (c.get_mut.follows.holds (record { sender = c.in-Some.own.now.sender; receiver = Some c.in-Some-receiver.receiver })).0 kept),
+            (held-set g.D.Desk.tx g.D.Desk.rx c.args.handles.now.entries _ c.args.topic.0 c.in-Some.own.now _ at
+            (c.get_mut.follows.holds (record { sender = c.in-Some.own.now.sender; receiver = Some c.in-Some-receiver.receiver })).0
+            kept),
         c.reserve.ensures.items,
       ),
     )
@@ -60,16 +63,20 @@ pub returns : goal.returns
 returns g c =
     let at = sym c.in-Some.ensures.value in
     let holds : c.in-Some.own.now.receiver ≡ Some c.in-Some-receiver.receiver = c.in-Some-receiver.is in
-    let kept = receiver-kept g.D.Desk.tx g.D.Desk.rx c.in-Some.own.now _ c.resubscribe-said.new.receiver holds c.resubscribe-said.ensures.receiver in
+    let kept = receiver-kept g.D.Desk.tx g.D.Desk.rx c.in-Some.own.now _ c.resubscribe-said.new.receiver holds
+    c.resubscribe-said.ensures.receiver in
     let answer = answered c.args.topic.0 (replied c.keep_receiver-told.result) in (
       answer,
       c.note.ensures.0,
       (
         plays-resubscribe g.D.Desk.tx g.D.Desk.rx g.D.Desk.says c.args.topic.0 c.args.handles.now.entries _ _ c.resubscribe-said.result _ _
-            (receiver-own g.D.Desk.tx g.D.Desk.rx event c.args.handles.now.entries c.args.topic.0 _ _ at holds) c.resubscribe-said.ensures.event
-            (ap (λ told. answered c.args.topic.0 (replied told)) c.keep_receiver-told.ensures.told) (c.keep_receiver-told.ensures.kept _ refl)
+            (receiver-own g.D.Desk.tx g.D.Desk.rx event c.args.handles.now.entries c.args.topic.0 _ _ at holds)
+            c.resubscribe-said.ensures.event
+            (ap (λ told. answered c.args.topic.0 (replied told)) c.keep_receiver-told.ensures.told)
+            (c.keep_receiver-told.ensures.kept _ refl)
             (held-set g.D.Desk.tx g.D.Desk.rx c.args.handles.now.entries _ c.args.topic.0 c.in-Some.own.now _ at
-            (c.get_mut.follows.holds (record { sender = c.in-Some.own.now.sender; receiver = Some c.resubscribe-said.new.receiver })).0 kept),
+            (c.get_mut.follows.holds (record { sender = c.in-Some.own.now.sender; receiver = Some c.resubscribe-said.new.receiver })).0
+            kept),
         c.note.ensures.1 ∙ ap (λ l. with_receipt l answer) c.reserve.ensures.items,
       ),
     )

@@ -21,7 +21,8 @@ returns-in_default-take g c =
     let event : TxId → Event = λ (t : TxId). DropsTx (Own t) in
     let at = sym c.in-Some.ensures.value in
     let lacks : c.in-Some.own.now.sender ≡ None = sym c.take.ensures.value ∙ c.in_default-take.is in
-    let same = ap (λ o. with_numbers (option_map g.D.Desk.tx o) (option_map g.D.Desk.rx c.in-Some.own.now.receiver)) (c.take.ensures.after ∙ sym lacks) in
+    let same = ap (λ o. with_numbers (option_map g.D.Desk.tx o) (option_map g.D.Desk.rx c.in-Some.own.now.receiver))
+    (c.take.ensures.after ∙ sym lacks) in
     plays-not g.D.Desk.says Unbind c.args.topic.0 _ _ _
     (sender-lacks g.D.Desk.tx g.D.Desk.rx event c.args.handles.now.entries c.args.topic.0 _ at lacks)
     (held-set g.D.Desk.tx g.D.Desk.rx c.args.handles.now.entries _ c.args.topic.0 c.in-Some.own.now _ at (c.get_mut.follows.holds _).0 same)
@@ -34,7 +35,8 @@ returns-in-Ok g c =
     let gone = ap (λ o. with_numbers (option_map g.D.Desk.tx o) (option_map g.D.Desk.rx c.in-Some.own.now.receiver)) c.take.ensures.after in
     plays-by g.D.Desk.says Unbind c.args.topic.0 _ _ (Ok Ended, None) _ _
     (sender-own g.D.Desk.tx g.D.Desk.rx event c.args.handles.now.entries c.args.topic.0 _ _ at holds) c.in-Ok.ensures.event refl
-    (sender-gone g.D.Desk.tx g.D.Desk.rx c.args.handles.now.entries _ c.args.topic.0 c.in-Some.own.now _ c.get_mut.ensures.ordered at (c.get_mut.follows.holds _).0 gone)
+    (sender-gone g.D.Desk.tx g.D.Desk.rx c.args.handles.now.entries _ c.args.topic.0 c.in-Some.own.now _ c.get_mut.ensures.ordered at
+    (c.get_mut.follows.holds _).0 gone)
 
 pub returns-in-Err : goal.returns-in-Err
 returns-in-Err g c =
@@ -43,5 +45,7 @@ returns-in-Err g c =
     let holds : c.in-Some.own.now.sender ≡ Some c.in-Some-take.sender = sym c.take.ensures.value ∙ c.in-Some-take.is in
     let kept = sender-kept g.D.Desk.tx g.D.Desk.rx c.in-Some.own.now _ c.in-Err.unspent.handle holds c.in-Err.ensures.back in
     plays-by g.D.Desk.says Unbind c.args.topic.0 _ _ (Err c.in-Err.unspent.why, None) _ _
-    (sender-own g.D.Desk.tx g.D.Desk.rx event c.args.handles.now.entries c.args.topic.0 _ _ at holds) c.in-Err.ensures.event (ap (λ reply. answers.Replied reply) c.replied_none.ensures)
-    (held-set g.D.Desk.tx g.D.Desk.rx c.args.handles.now.entries _ c.args.topic.0 c.in-Some.own.now _ at (c.get_mut.follows.holds (record { sender = Some c.in-Err.unspent.handle; receiver = c.in-Some.own.now.receiver })).0 kept)
+    (sender-own g.D.Desk.tx g.D.Desk.rx event c.args.handles.now.entries c.args.topic.0 _ _ at holds) c.in-Err.ensures.event
+    (ap (λ reply. answers.Replied reply) c.replied_none.ensures)
+    (held-set g.D.Desk.tx g.D.Desk.rx c.args.handles.now.entries _ c.args.topic.0 c.in-Some.own.now _ at
+    (c.get_mut.follows.holds (record { sender = Some c.in-Err.unspent.handle; receiver = c.in-Some.own.now.receiver })).0 kept)

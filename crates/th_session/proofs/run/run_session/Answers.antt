@@ -21,9 +21,11 @@ returns g c =
     let same : c.in-Ok-new.run'.keeping ≡ c.args.keeping = ap (λ (k : Course). k.keeping) c.in-Ok-new.ensures in
     rw c.wake.ensures (record {
       last = (c.go-fault.new.self.kept, c.go-fault.new.desk);
-      ran = subst (λ (k : Keeping). Ran k g.D.Desk.says (g.R.Read.remaining c.args.reader.now.device) (g.R.Read.remaining c.go-fault.new.reader.device)
+      ran = subst (λ (k : Keeping). Ran k g.D.Desk.says (g.R.Read.remaining c.args.reader.now.device)
+          (g.R.Read.remaining c.go-fault.new.reader.device)
           (output g.W.Write.contents c.args.writer.now []) (output g.W.Write.contents c.go-fault.new.writer []) c.args.desk.now
           (c.go-fault.new.self.kept, c.go-fault.new.desk) c.go-fault.result) same c.go-fault.ensures;
-      spent = subst (λ (k : Kept). Plays g.D.Desk.says (spend_all k.handles) c.go-fault.new.desk (Replied Bye) [] c.spend_all.new.desk) kept end.spent;
+      spent = subst (λ (k : Kept). Plays g.D.Desk.says (spend_all k.handles) c.go-fault.new.desk (Replied Bye) [] c.spend_all.new.desk) kept
+          end.spent;
       kept = end.none ∙ ap (λ (k : Kept). record k { handles = [] }) kept;
     })

@@ -4,7 +4,8 @@ use Rattle.th_session.proofs.session.ready.Goals as goal
 
 pub returns-in_default-receiver-clause-held : goal.returns-in_default-receiver-clause-held
 returns-in_default-receiver-clause-held g c =
-    held-set g.D.Desk.tx g.D.Desk.rx c.args.handles.now.entries _ c.args.topic.0 c.in-Some.own.now _ (sym c.in-Some.ensures.value) (c.get_mut.follows.holds c.in-Some.own.now).0 refl
+    held-set g.D.Desk.tx g.D.Desk.rx c.args.handles.now.entries _ c.args.topic.0 c.in-Some.own.now _ (sym c.in-Some.ensures.value)
+    (c.get_mut.follows.holds c.in-Some.own.now).0 refl
 
 pub returns-clause-held : goal.returns-clause-held
 returns-clause-held g c =

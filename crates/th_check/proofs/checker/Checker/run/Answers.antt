@@ -12,8 +12,10 @@ conclude-requires g c = λ e.
     let now : Reached = (c.feed-fed.new.taker, tt, tt) in
     let limit : f.limit ≡ 2 ^ 64 - 2 = c.feed-fed.ensures.limit ∙ ap (λ (k : Feeding). k.limit) c.requires.feeder in
     let most : 2 ^ 49 < f.limit = omega (arith, limit) in
-    let s = stands_so _ _ A c.args.reader.now.calls c.feed-fed.new.reader.calls c.args.reads f now c.requires.reads most c.args.self.now.spot c.feed-fed.result c.requires.spot c.feed-fed.ensures.fed in
-    let within = counted_within _ _ A c.args.reader.now.calls c.feed-fed.new.reader.calls c.args.reads f now c.requires.reads most c.feed-fed.result s e in
+    let s = stands_so _ _ A c.args.reader.now.calls c.feed-fed.new.reader.calls c.args.reads f now c.requires.reads most
+    c.args.self.now.spot c.feed-fed.result c.requires.spot c.feed-fed.ensures.fed in
+    let within = counted_within _ _ A c.args.reader.now.calls c.feed-fed.new.reader.calls c.args.reads f now c.requires.reads most
+    c.feed-fed.result s e in
     omega (arith, within, limit, c.taken-self.ensures)
 
 pub returns-in-Ok-clause-verdict : goal.returns-in-Ok-clause-verdict
@@ -23,9 +25,12 @@ returns-in-Ok-clause-verdict g c =
     let now : Reached = (c.feed-fed.new.taker, tt, tt) in
     let limit : f.limit ≡ 2 ^ 64 - 2 = c.feed-fed.ensures.limit ∙ ap (λ (k : Feeding). k.limit) c.requires.feeder in
     let most : 2 ^ 49 < f.limit = omega (arith, limit) in
-    let s = stands_so _ _ A c.args.reader.now.calls c.feed-fed.new.reader.calls c.args.reads f now c.requires.reads most c.args.self.now.spot c.feed-fed.result c.requires.spot c.feed-fed.ensures.fed in
-    says_so _ _ A c.args.reader.now.calls c.feed-fed.new.reader.calls c.args.reads f now c.requires.reads most c.feed-fed.result (Ok (c.in-Ok.verdict, c.in-Ok.expected)) s
-    (subst (λ (n : ℕ). Concludes c.feed-fed.result c.feed-fed.new.taker n (Ok (c.in-Ok.verdict, c.in-Ok.expected))) c.taken-self.ensures c.in-Ok.ensures.concludes)
+    let s = stands_so _ _ A c.args.reader.now.calls c.feed-fed.new.reader.calls c.args.reads f now c.requires.reads most
+    c.args.self.now.spot c.feed-fed.result c.requires.spot c.feed-fed.ensures.fed in
+    says_so _ _ A c.args.reader.now.calls c.feed-fed.new.reader.calls c.args.reads f now c.requires.reads most c.feed-fed.result
+    (Ok (c.in-Ok.verdict, c.in-Ok.expected)) s
+    (subst (λ (n : ℕ). Concludes c.feed-fed.result c.feed-fed.new.taker n (Ok (c.in-Ok.verdict, c.in-Ok.expected))) c.taken-self.ensures
+    c.in-Ok.ensures.concludes)
 
 pub returns-in-Err-clause-fault : goal.returns-in-Err-clause-fault
 returns-in-Err-clause-fault g c =
@@ -34,6 +39,9 @@ returns-in-Err-clause-fault g c =
     let now : Reached = (c.feed-fed.new.taker, tt, tt) in
     let limit : f.limit ≡ 2 ^ 64 - 2 = c.feed-fed.ensures.limit ∙ ap (λ (k : Feeding). k.limit) c.requires.feeder in
     let most : 2 ^ 49 < f.limit = omega (arith, limit) in
-    let s = stands_so _ _ A c.args.reader.now.calls c.feed-fed.new.reader.calls c.args.reads f now c.requires.reads most c.args.self.now.spot c.feed-fed.result c.requires.spot c.feed-fed.ensures.fed in
-    stops_so _ _ A c.args.reader.now.calls c.feed-fed.new.reader.calls c.args.reads f now c.requires.reads most c.feed-fed.result (Err c.in-Err.fault) s
-    (subst (λ (n : ℕ). Concludes c.feed-fed.result c.feed-fed.new.taker n (Err c.in-Err.fault)) c.taken-self.ensures c.in-Err.ensures.concludes)
+    let s = stands_so _ _ A c.args.reader.now.calls c.feed-fed.new.reader.calls c.args.reads f now c.requires.reads most
+    c.args.self.now.spot c.feed-fed.result c.requires.spot c.feed-fed.ensures.fed in
+    stops_so _ _ A c.args.reader.now.calls c.feed-fed.new.reader.calls c.args.reads f now c.requires.reads most c.feed-fed.result
+    (Err c.in-Err.fault) s
+    (subst (λ (n : ℕ). Concludes c.feed-fed.result c.feed-fed.new.taker n (Err c.in-Err.fault)) c.taken-self.ensures
+    c.in-Err.ensures.concludes)

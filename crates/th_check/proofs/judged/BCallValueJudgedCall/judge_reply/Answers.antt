@@ -10,5 +10,6 @@ returns-then-said c = λ call same own.
 
 pub returns : goal.returns
 returns c = λ call same own.
-    let said = broadcast_says c.args.line.now c.args.reply c.spells_reply-said.result c.spells_reply-said.ensures c.is_reply.ensures call own in
+    let said = broadcast_says c.args.line.now c.args.reply c.spells_reply-said.result c.spells_reply-said.ensures c.is_reply.ensures call
+    own in
     (c.another.ensures call same, λ e. false≢true (sym c.if-said.false ∙ said.1 e))

@@ -3,7 +3,8 @@ use Rattle.th_lines.proofs.FeedingLemmas.{fills_on, halts_here, settles}
 use Rattle.th_lines.proofs.feeder.Feeder.read_on.Goals as goal
 
 pub returns-in-Err-clause-read : goal.returns-in-Err-clause-read
-returns-in-Err-clause-read g c = λ first reads from under. halts_here under c.in-Err.why (c.settle.new.self, c.settle.new.desk, c.settle.new.writer) c.in-Err.ensures
+returns-in-Err-clause-read g c = λ first reads from under. halts_here under c.in-Err.why
+    (c.settle.new.self, c.settle.new.desk, c.settle.new.writer) c.in-Err.ensures
 
 pub returns-in-Bytes-eq0-clause-read : goal.returns-in-Bytes-eq0-clause-read
 returns-in-Bytes-eq0-clause-read g c = λ first reads from under.

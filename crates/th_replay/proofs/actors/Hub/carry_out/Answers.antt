@@ -21,9 +21,18 @@ returns-in_default g c =
     let i = c.self.inside in
     let after : Output = output g.W.Write.contents c.append.new.writer c.append.new.self in
     let inside : Hub SeenTopics = record { topics = i.desk.topics; actors = holdings i.actors.entries } in
-    let P : Hub SeenTopics → Type 0 = λ hub. PutsAnswer (by_holding picture_step hub c.args.place c.args.command (slice_get (values_of hub.actors) c.args.place)) (asks_by_holding picture_asks hub c.args.command (slice_get (values_of hub.actors) c.args.place)) hub inside (output g.W.Write.contents c.args.writer.now c.args.out.now) after c.append.result in
-    let none = at-held i.actors.entries c.args.place ∙ ap (option_map handles) (sym c.get_index_mut.ensures.value ∙ ap option_copied_mut c.in_default.is) in
-    subst P c.self.view_is (Replied (Refused Codes.NotHeld), lacks inside c.args.place c.args.command (slice_get (values_of inside.actors) c.args.place) none, c.append.ensures)
+    let P : Hub SeenTopics → Type 0 = λ hub. PutsAnswer (by_holding picture_step hub c.args.place c.args.command
+    (slice_get (values_of hub.actors) c.args.place)) (asks_by_holding picture_asks hub c.args.command
+    (slice_get (values_of hub.actors) c.args.place)) hub inside (output g.W.Write.contents c.args.writer.now c.args.out.now) after
+    c.append.result in
+    let none = at-held i.actors.entries c.args.place ∙ ap (option_map handles)
+    (sym c.get_index_mut.ensures.value ∙ ap option_copied_mut c.in_default.is) in
+    subst P c.self.view_is (
+      Replied (Refused Codes.NotHeld),
+      lacks inside c.args.place c.args.command (slice_get (values_of inside.actors)
+          c.args.place) none,
+      c.append.ensures,
+    )
 
 pub returns-then-is_gone : goal.returns-then-is_gone
 returns-then-is_gone g c =
@@ -33,16 +42,28 @@ returns-then-is_gone g c =
     let has = c.step.new.session in
     let after : Output = output g.W.Write.contents c.put_answer-put.new.writer c.put_answer-put.new.out in
     let left : Actors = c.take_out.new.self.actors in
-    let P : Hub SeenTopics → SeenTopics → Type 0 = λ hub topics. PutsAnswer (by_holding picture_step hub c.args.place c.args.command (slice_get (values_of hub.actors) c.args.place)) (asks_by_holding picture_asks hub c.args.command (slice_get (values_of hub.actors) c.args.place)) hub (record { topics = topics; actors = left }) (output g.W.Write.contents c.args.writer.now c.args.out.now) after c.put_answer-put.result in
+    let P : Hub SeenTopics → SeenTopics → Type 0 = λ hub topics.
+    PutsAnswer (by_holding picture_step hub c.args.place c.args.command (slice_get (values_of hub.actors) c.args.place))
+    (asks_by_holding picture_asks hub c.args.command (slice_get (values_of hub.actors) c.args.place)) hub
+    (record { topics = topics; actors = left }) (output g.W.Write.contents c.args.writer.now c.args.out.now) after
+    c.put_answer-put.result in
     let said : answers.Reply c.in-Reply.reply ≡ told a.0 = sym c.in-Reply.is ∙ a.1 in
-    let quit : has_quit a.0 ≡ true = ap has_quit (told_reply a.0 c.in-Reply.reply said) ∙ sym c.has_quit-is_gone.ensures ∙ c.if-is_gone.true in
-    let rest = gone a.0 c.args.place has.handles (holdings i.actors.entries) left quit (c.take_out.ensures.actors ∙ ap (λ (all : Actors). remove all c.args.place) (set-held i.actors.entries c.args.place has)) in
-    let there = at-held i.actors.entries c.args.place ∙ ap (option_map handles) (sym c.get_index_mut.ensures.value ∙ ap option_copied_mut c.in-Some.is) in
+    let quit : has_quit a.0 ≡ true = ap has_quit (told_reply a.0 c.in-Reply.reply said) ∙ sym c.has_quit-is_gone.ensures
+    ∙ c.if-is_gone.true in
+    let rest = gone a.0 c.args.place has.handles (holdings i.actors.entries) left quit
+    (c.take_out.ensures.actors ∙ ap (λ (all : Actors). remove all c.args.place) (set-held i.actors.entries c.args.place has)) in
+    let there = at-held i.actors.entries c.args.place ∙ ap (option_map handles)
+    (sym c.get_index_mut.ensures.value ∙ ap option_copied_mut c.in-Some.is) in
     let end = ends_so had i.desk.topics c.args.command a.0 has c.step.new.desk.topics i.desk.limit c.self.invariant a.2 in
-    let put = c.put_answer-put.ensures a.0 had said (keeps had i.desk.topics c.args.command a.0 has c.step.new.desk.topics i.desk.limit a.2) in
+    let put = c.put_answer-put.ensures a.0 had said (keeps had i.desk.topics c.args.command a.0 has c.step.new.desk.topics i.desk.limit
+    a.2) in
     subst (λ (topics : SeenTopics). P c.args.self.now topics) (sym c.take_out.ensures.topics)
-    (subst (λ (hub : Hub SeenTopics). P hub c.step.new.desk.topics) c.self.view_is
-    (a.0, goes_on i.desk.topics (holdings i.actors.entries) c.args.place c.args.command had.handles has.handles a.0 c.step.new.desk.topics left there end rest, put))
+    (subst (λ (hub : Hub SeenTopics). P hub c.step.new.desk.topics) c.self.view_is (
+      a.0,
+      goes_on i.desk.topics (holdings
+          i.actors.entries) c.args.place c.args.command had.handles has.handles a.0 c.step.new.desk.topics left there end rest,
+      put,
+    ))
 
 pub returns-else-is_gone : goal.returns-else-is_gone
 returns-else-is_gone g c =
@@ -52,15 +73,25 @@ returns-else-is_gone g c =
     let has = c.step.new.session in
     let after : Output = output g.W.Write.contents c.put_answer-put.new.writer c.put_answer-put.new.out in
     let left : Actors = holdings (set_value_at i.actors.entries c.args.place has) in
-    let P : Hub SeenTopics → Type 0 = λ hub. PutsAnswer (by_holding picture_step hub c.args.place c.args.command (slice_get (values_of hub.actors) c.args.place)) (asks_by_holding picture_asks hub c.args.command (slice_get (values_of hub.actors) c.args.place)) hub (record { topics = c.step.new.desk.topics; actors = left }) (output g.W.Write.contents c.args.writer.now c.args.out.now) after c.put_answer-put.result in
+    let P : Hub SeenTopics → Type 0 = λ hub. PutsAnswer (by_holding picture_step hub c.args.place c.args.command
+    (slice_get (values_of hub.actors) c.args.place)) (asks_by_holding picture_asks hub c.args.command
+    (slice_get (values_of hub.actors) c.args.place)) hub (record { topics = c.step.new.desk.topics; actors = left })
+    (output g.W.Write.contents c.args.writer.now c.args.out.now) after c.put_answer-put.result in
     let said : answers.Reply c.in-Reply.reply ≡ told a.0 = sym c.in-Reply.is ∙ a.1 in
-    let not_quit : has_quit a.0 ≡ false = ap has_quit (told_reply a.0 c.in-Reply.reply said) ∙ sym c.has_quit-is_gone.ensures ∙ c.if-is_gone.false in
+    let not_quit : has_quit a.0 ≡ false = ap has_quit (told_reply a.0 c.in-Reply.reply said) ∙ sym c.has_quit-is_gone.ensures
+    ∙ c.if-is_gone.false in
     let rest = set-held i.actors.entries c.args.place has ∙ stays a.0 c.args.place has.handles (holdings i.actors.entries) not_quit in
-    let there = at-held i.actors.entries c.args.place ∙ ap (option_map handles) (sym c.get_index_mut.ensures.value ∙ ap option_copied_mut c.in-Some.is) in
+    let there = at-held i.actors.entries c.args.place ∙ ap (option_map handles)
+    (sym c.get_index_mut.ensures.value ∙ ap option_copied_mut c.in-Some.is) in
     let end = ends_so had i.desk.topics c.args.command a.0 has c.step.new.desk.topics i.desk.limit c.self.invariant a.2 in
-    let put = c.put_answer-put.ensures a.0 had said (keeps had i.desk.topics c.args.command a.0 has c.step.new.desk.topics i.desk.limit a.2) in
-    subst P c.self.view_is
-    (a.0, goes_on i.desk.topics (holdings i.actors.entries) c.args.place c.args.command had.handles has.handles a.0 c.step.new.desk.topics left there end rest, put)
+    let put = c.put_answer-put.ensures a.0 had said (keeps had i.desk.topics c.args.command a.0 has c.step.new.desk.topics i.desk.limit
+    a.2) in
+    subst P c.self.view_is (
+      a.0,
+      goes_on i.desk.topics (holdings
+          i.actors.entries) c.args.place c.args.command had.handles has.handles a.0 c.step.new.desk.topics left there end rest,
+      put,
+    )
 
 pub returns-in_default-step : goal.returns-in_default-step
 returns-in_default-step g c =
@@ -70,15 +101,25 @@ returns-in_default-step g c =
     let has = c.step.new.session in
     let after : Output = output g.W.Write.contents c.put_answer-put-in_default-step.new.writer c.put_answer-put-in_default-step.new.out in
     let left : Actors = holdings (set_value_at i.actors.entries c.args.place c.let_go.new.self) in
-    let P : Hub SeenTopics → Type 0 = λ hub. PutsAnswer (by_holding picture_step hub c.args.place c.args.command (slice_get (values_of hub.actors) c.args.place)) (asks_by_holding picture_asks hub c.args.command (slice_get (values_of hub.actors) c.args.place)) hub (record { topics = c.step.new.desk.topics; actors = left }) (output g.W.Write.contents c.args.writer.now c.args.out.now) after c.put_answer-put-in_default-step.result in
+    let P : Hub SeenTopics → Type 0 = λ hub. PutsAnswer (by_holding picture_step hub c.args.place c.args.command
+    (slice_get (values_of hub.actors) c.args.place)) (asks_by_holding picture_asks hub c.args.command
+    (slice_get (values_of hub.actors) c.args.place)) hub (record { topics = c.step.new.desk.topics; actors = left })
+    (output g.W.Write.contents c.args.writer.now c.args.out.now) after c.put_answer-put-in_default-step.result in
     let not_quit : has_quit a.0 ≡ false = only_replies_quit a.0 (λ reply t. c.in_default-step.not-Reply reply (a.1 ∙ t)) in
     let kept = ap handles c.let_go.ensures in
-    let rest = set-held i.actors.entries c.args.place c.let_go.new.self ∙ ap (set_value_at (holdings i.actors.entries) c.args.place) kept ∙ stays a.0 c.args.place has.handles (holdings i.actors.entries) not_quit in
-    let there = at-held i.actors.entries c.args.place ∙ ap (option_map handles) (sym c.get_index_mut.ensures.value ∙ ap option_copied_mut c.in-Some.is) in
+    let rest = set-held i.actors.entries c.args.place c.let_go.new.self ∙ ap (set_value_at (holdings i.actors.entries) c.args.place) kept
+    ∙ stays a.0 c.args.place has.handles (holdings i.actors.entries) not_quit in
+    let there = at-held i.actors.entries c.args.place ∙ ap (option_map handles)
+    (sym c.get_index_mut.ensures.value ∙ ap option_copied_mut c.in-Some.is) in
     let end = ends_so had i.desk.topics c.args.command a.0 has c.step.new.desk.topics i.desk.limit c.self.invariant a.2 in
-    let put = c.put_answer-put-in_default-step.ensures a.0 had a.1 (keeps had i.desk.topics c.args.command a.0 has c.step.new.desk.topics i.desk.limit a.2) in
-    subst P c.self.view_is
-    (a.0, goes_on i.desk.topics (holdings i.actors.entries) c.args.place c.args.command had.handles has.handles a.0 c.step.new.desk.topics left there end rest, put)
+    let put = c.put_answer-put-in_default-step.ensures a.0 had a.1
+    (keeps had i.desk.topics c.args.command a.0 has c.step.new.desk.topics i.desk.limit a.2) in
+    subst P c.self.view_is (
+      a.0,
+      goes_on i.desk.topics (holdings
+          i.actors.entries) c.args.place c.args.command had.handles has.handles a.0 c.step.new.desk.topics left there end rest,
+      put,
+    )
 
 pub invariant_of-self-then-is_gone : goal.invariant_of-self-then-is_gone
 invariant_of-self-then-is_gone g c = c.step.ensures.limit ∙ c.self.invariant

@@ -23,19 +23,35 @@ pub returns-then-len-ge-MOST_ACTORS : goal.returns-then-len-ge-MOST_ACTORS
 returns-then-len-ge-MOST_ACTORS g c =
     let i = c.self.inside in
     let after : Output = output g.W.Write.contents c.append.new.writer c.append.new.self in
-    let P : Hub SeenTopics → Type 0 = λ hub. PutsAnswer (by_place picture_step hub c.args.name c.args.command None) (asks_by_place picture_asks hub c.args.command None) hub hub (output g.W.Write.contents c.args.writer.now c.args.out.now) after c.append.result in
-    let full : 1024 ≤ length (holdings i.actors.entries) = omega (arith, c.len.ensures.len, c.if-len-ge-MOST_ACTORS.true, length-held i.actors.entries) in
-    subst P c.self.view_is (Replied (Refused Codes.TooMany), too_many i.desk.topics (holdings i.actors.entries) c.args.name c.args.command full, c.append.ensures)
+    let P : Hub SeenTopics → Type 0 = λ hub. PutsAnswer (by_place picture_step hub c.args.name c.args.command None)
+    (asks_by_place picture_asks hub c.args.command None) hub hub (output g.W.Write.contents c.args.writer.now c.args.out.now) after
+    c.append.result in
+    let full : 1024 ≤ length (holdings i.actors.entries) = omega
+    (arith, c.len.ensures.len, c.if-len-ge-MOST_ACTORS.true, length-held i.actors.entries) in
+    subst P c.self.view_is (
+      Replied (Refused Codes.TooMany),
+      too_many i.desk.topics (holdings
+          i.actors.entries) c.args.name c.args.command full,
+      c.append.ensures,
+    )
 
 pub returns-in_default : goal.returns-in_default
 returns-in_default g c =
     let i = c.self.inside in
     let after : Output = output g.W.Write.contents c.append-in_default.new.writer c.append-in_default.new.self in
-    let P : Hub SeenTopics → Actors → Type 0 = λ hub actors. PutsAnswer (by_place picture_step hub c.args.name c.args.command None) (asks_by_place picture_asks hub c.args.command None) hub (record { topics = i.desk.topics; actors = actors }) (output g.W.Write.contents c.args.writer.now c.args.out.now) after c.append-in_default.result in
-    let room : length (holdings i.actors.entries) < 1024 = omega (arith, c.len.ensures.len, c.if-len-ge-MOST_ACTORS.false, length-held i.actors.entries) in
+    let P : Hub SeenTopics → Actors → Type 0 = λ hub actors.
+    PutsAnswer (by_place picture_step hub c.args.name c.args.command None) (asks_by_place picture_asks hub c.args.command None) hub
+    (record { topics = i.desk.topics; actors = actors }) (output g.W.Write.contents c.args.writer.now c.args.out.now) after
+    c.append-in_default.result in
+    let room : length (holdings i.actors.entries) < 1024 = omega
+    (arith, c.len.ensures.len, c.if-len-ge-MOST_ACTORS.false, length-held i.actors.entries) in
     subst (λ (hub : Hub SeenTopics). P hub (holdings c.reserve.new.self.entries)) c.self.view_is
-    (subst (P (record { topics = i.desk.topics; actors = holdings i.actors.entries })) (ap holdings (sym c.in_default.ensures.entries))
-    (Replied (Refused Codes.NoMemory), no_room i.desk.topics (holdings i.actors.entries) c.args.name c.args.command room, c.append-in_default.ensures))
+    (subst (P (record { topics = i.desk.topics; actors = holdings i.actors.entries })) (ap holdings (sym c.in_default.ensures.entries)) (
+      Replied (Refused Codes.NoMemory),
+      no_room i.desk.topics (holdings
+          i.actors.entries) c.args.name c.args.command room,
+      c.append-in_default.ensures,
+    ))
 
 pub returns-then-is_over : goal.returns-then-is_over
 returns-then-is_over g c =
@@ -45,8 +61,12 @@ returns-then-is_over g c =
     let has = c.step-answer.new.session in
     let topics = c.step-answer.new.desk.topics in
     let after : Output = output g.W.Write.contents c.put_answer-put.new.writer c.put_answer-put.new.out in
-    let P : Hub SeenTopics → Actors → Type 0 = λ hub actors. PutsAnswer (by_place picture_step hub c.args.name c.args.command None) (asks_by_place picture_asks hub c.args.command None) hub (record { topics = topics; actors = actors }) (output g.W.Write.contents c.args.writer.now c.args.out.now) after c.put_answer-put.result in
-    let room : length (holdings i.actors.entries) < 1024 = omega (arith, c.len.ensures.len, c.if-len-ge-MOST_ACTORS.false, length-held i.actors.entries) in
+    let P : Hub SeenTopics → Actors → Type 0 = λ hub actors.
+    PutsAnswer (by_place picture_step hub c.args.name c.args.command None) (asks_by_place picture_asks hub c.args.command None) hub
+    (record { topics = topics; actors = actors }) (output g.W.Write.contents c.args.writer.now c.args.out.now) after
+    c.put_answer-put.result in
+    let room : length (holdings i.actors.entries) < 1024 = omega
+    (arith, c.len.ensures.len, c.if-len-ge-MOST_ACTORS.false, length-held i.actors.entries) in
     let steps : Steps (pictures i.desk.limit) had i.desk.topics c.args.command a.0 has topics =
     subst (λ (k : Kept). Steps (pictures i.desk.limit) k i.desk.topics c.args.command a.0 has topics) c.new-session.ensures a.2 in
     let end = ends_so had i.desk.topics c.args.command a.0 has topics i.desk.limit c.self.invariant steps in
@@ -64,8 +84,11 @@ returns g c =
     let has = c.step-answer.new.session in
     let topics = c.step-answer.new.desk.topics in
     let after : Output = output g.W.Write.contents c.put_answer-put.new.writer c.put_answer-put.new.out in
-    let P : Hub SeenTopics → Type 0 = λ hub. PutsAnswer (by_place picture_step hub c.args.name c.args.command None) (asks_by_place picture_asks hub c.args.command None) hub (record { topics = topics; actors = holdings c.insert.new.self.entries }) (output g.W.Write.contents c.args.writer.now c.args.out.now) after c.put_answer-put.result in
-    let room : length (holdings i.actors.entries) < 1024 = omega (arith, c.len.ensures.len, c.if-len-ge-MOST_ACTORS.false, length-held i.actors.entries) in
+    let P : Hub SeenTopics → Type 0 = λ hub. PutsAnswer (by_place picture_step hub c.args.name c.args.command None)
+    (asks_by_place picture_asks hub c.args.command None) hub (record { topics = topics; actors = holdings c.insert.new.self.entries })
+    (output g.W.Write.contents c.args.writer.now c.args.out.now) after c.put_answer-put.result in
+    let room : length (holdings i.actors.entries) < 1024 = omega
+    (arith, c.len.ensures.len, c.if-len-ge-MOST_ACTORS.false, length-held i.actors.entries) in
     let steps : Steps (pictures i.desk.limit) had i.desk.topics c.args.command a.0 has topics =
     subst (λ (k : Kept). Steps (pictures i.desk.limit) k i.desk.topics c.args.command a.0 has topics) c.new-session.ensures a.2 in
     let end = ends_so had i.desk.topics c.args.command a.0 has topics i.desk.limit c.self.invariant steps in
@@ -82,8 +105,10 @@ returns g c =
     ∙ insert-new i.actors.entries c.args.name left none in
     subst P c.self.view_is (
       a.0,
-      begins i.desk.topics (holdings i.actors.entries) c.args.name c.args.command has.handles a.0 topics (holdings c.insert.new.self.entries) room one end
-          (ap holdings last ∙ append-held i.actors.entries c.args.name left ∙ ap (λ (h : Holding). holdings i.actors.entries ++ (c.args.name, h) ∷ []) (ap handles c.let_go.ensures)),
+      begins i.desk.topics (holdings i.actors.entries) c.args.name c.args.command has.handles a.0 topics
+          (holdings c.insert.new.self.entries) room one end
+          (ap holdings last ∙ append-held i.actors.entries c.args.name left
+          ∙ ap (λ (h : Holding). holdings i.actors.entries ++ (c.args.name, h) ∷ []) (ap handles c.let_go.ensures)),
       put,
     )
 

@@ -25,12 +25,15 @@ returns-then-not-may_wait-clause-comes g c =
     let unit : Unit {0} = tt in
     let now : Course × Unit {0} × Tally g.row.W.Denot = (c.feed-fed.new.taker, unit, c.feed-fed.new.writer) in
     let s = subst (λ (k : Course). Took contents (k, unit, c.args.writer.now) [] (k, unit, c.args.writer.now)
-    → Stands (Took contents) (IsBroken contents) r r' (k, unit, c.args.writer.now) (λ p. p.0.waiting ≡ []) (kept_count c.feed-fed.new.reader.calls ≡ kept_count (c.args.reader.now.calls + c.args.reads))
+    → Stands (Took contents) (IsBroken contents) r r' (k, unit, c.args.writer.now) (λ p. p.0.waiting ≡ [])
+    (kept_count c.feed-fed.new.reader.calls ≡ kept_count (c.args.reader.now.calls + c.args.reads))
     c.args.reads c.feed-fed.result f now) c.requires.run c.feed-fed.ensures.fed (answers_none _) in
-    let e : end_by c.feed-fed.result f.taken ≡ c.end_by-end.result = ap (λ (n : ℕ). end_by c.feed-fed.result n) (sym c.taken.ensures) ∙ sym c.end_by-end.ensures.end in
+    let e : end_by c.feed-fed.result f.taken ≡ c.end_by-end.result =
+    ap (λ (n : ℕ). end_by c.feed-fed.result n) (sym c.taken.ensures) ∙ sym c.end_by-end.ensures.end in
     subst (λ (n : ℕ). Comes answers seen_start n c.args.reads old new c.end_by-end.result) c.feed-fed.ensures.limit
     (subst (λ (x : Result ℕ ReplayFault). Comes answers seen_start f.limit c.args.reads old new x) e
-    (comes_at_once contents old new c.args.writer.now unit refl c.args.reads f now c.feed-fed.result s refl (ap may_wait e ∙ sym c.may_wait.ensures ∙ c.if-not-may_wait.true)))
+    (comes_at_once contents old new c.args.writer.now unit refl c.args.reads f now c.feed-fed.result s refl
+    (ap may_wait e ∙ sym c.may_wait.ensures ∙ c.if-not-may_wait.true)))
 
 pub returns-clause-comes : goal.returns-clause-comes
 returns-clause-comes g c =
@@ -46,15 +49,20 @@ returns-clause-comes g c =
     let spent = kept_count c.feed-fed.new.reader.calls ≡ kept_count (c.args.reader.now.calls + c.args.reads) in
     let fed = subst (λ (k : Course). Took contents (k, unit, c.args.writer.now) [] (k, unit, c.args.writer.now)
     → Stands (Took contents) (IsBroken contents) r r' (k, unit, c.args.writer.now) (λ p. p.0.waiting ≡ []) spent
-    c.args.reads c.feed-fed.result f (c.feed-fed.new.taker, unit, c.feed-fed.new.writer)) c.requires.run c.feed-fed.ensures.fed (answers_none _) in
-    let s = subst (λ (k : Course). Stands (Took contents) (IsBroken contents) r r' (beginning, unit, c.args.writer.now) (λ p. p.0.waiting ≡ []) spent
+    c.args.reads c.feed-fed.result f (c.feed-fed.new.taker, unit, c.feed-fed.new.writer)) c.requires.run c.feed-fed.ensures.fed
+    (answers_none _) in
+    let s = subst (λ (k : Course). Stands (Took contents) (IsBroken contents) r r' (beginning, unit, c.args.writer.now)
+    (λ p. p.0.waiting ≡ []) spent
     c.args.reads c.feed-fed.result f (k, unit, c.feed-fed.new.writer)) (sym c.self.view_is) fed in
-    let e : end_by c.feed-fed.result f.taken ≡ c.end_by-end.result = ap (λ (n : ℕ). end_by c.feed-fed.result n) (sym c.taken.ensures) ∙ sym c.end_by-end.ensures.end in
+    let e : end_by c.feed-fed.result f.taken ≡ c.end_by-end.result =
+    ap (λ (n : ℕ). end_by c.feed-fed.result n) (sym c.taken.ensures) ∙ sym c.end_by-end.ensures.end in
     let wait : may_wait (end_by c.feed-fed.result f.taken) ≡ true = ap may_wait e ∙ sym c.may_wait.ensures ∙ c.if-not-may_wait.false in
     let after : Output = output contents c.flush.new.writer c.flush.new.self in
     let P : Result ℕ ReplayFault → Type 0 = λ x. Comes answers seen_start f.limit c.args.reads old new x in
     subst (λ (n : ℕ). Comes answers seen_start n c.args.reads old new c.match-flush.result) c.feed-fed.ensures.limit
     (elim c.match-flush.branch [
-      | in-Ok w ↦ subst P (e ∙ sym w.result-is) (comes_written contents old new c.args.writer.now unit refl c.args.reads f now c.feed-fed.result after s w.in-Ok.ensures.0 refl wait)
-      | in-Err w ↦ subst P (sym w.result-is) (comes_broken contents old new c.args.writer.now unit refl c.args.reads f now c.feed-fed.result after s w.in-Err.ensures refl wait)
+      | in-Ok w ↦ subst P (e ∙ sym w.result-is) (comes_written contents old new c.args.writer.now unit refl c.args.reads f now
+          c.feed-fed.result after s w.in-Ok.ensures.0 refl wait)
+      | in-Err w ↦ subst P (sym w.result-is) (comes_broken contents old new c.args.writer.now unit refl c.args.reads f now c.feed-fed.result
+          after s w.in-Err.ensures refl wait)
     ])

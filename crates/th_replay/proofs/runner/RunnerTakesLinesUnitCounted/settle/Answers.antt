@@ -9,6 +9,8 @@ returns g c =
     let i = c.self.inside in
     let old : Course = record { hub = i.hub; waiting = i.out } in
     let new : Course = record { hub = i.hub; waiting = c.flush.new.self } in
-    subst (λ (k : Course). Settles (Took g.W.Write.contents) (IsBroken g.W.Write.contents) (λ p. p.0.waiting ≡ []) (k, c.args._desk.now, c.args.writer.now) c.flush.result
+    subst (λ (k : Course). Settles (Took g.W.Write.contents) (IsBroken g.W.Write.contents) (λ p. p.0.waiting ≡ [])
+    (k, c.args._desk.now, c.args.writer.now) c.flush.result
     (new, c.args._desk.now, c.flush.new.writer)) c.self.view_is
-    (settles_on g.W.Write.contents (old, c.args._desk.now, c.args.writer.now) (new, c.args._desk.now, c.flush.new.writer) c.flush.result refl c.flush.ensures)
+    (settles_on g.W.Write.contents (old, c.args._desk.now, c.args.writer.now) (new, c.args._desk.now, c.flush.new.writer) c.flush.result
+    refl c.flush.ensures)

@@ -22,12 +22,15 @@ returns-then-not-is_whole g c =
     let now : Course × g.row.D.Denot × Tally g.row.W.Denot = (c.feed.new.taker, c.feed.new.desk, c.feed.new.writer) in
     let spent = kept_count c.feed.new.reader.calls ≡ kept_count (c.args.reader.now.calls + c.args.reads) in
     let fed = subst (λ (k : Course). Took says contents (k, c.args.desk.now, c.args.writer.now) [] (k, c.args.desk.now, c.args.writer.now)
-    → Stands (Took says contents) (IsOver says contents) r r' (k, c.args.desk.now, c.args.writer.now) (λ p. Unit {0}) spent c.args.reads c.feed.result c.feed.new.self now) c.requires.run c.feed.ensures.fed in
+    → Stands (Took says contents) (IsOver says contents) r r' (k, c.args.desk.now, c.args.writer.now) (λ p. Unit {0}) spent c.args.reads
+    c.feed.result c.feed.new.self now) c.requires.run c.feed.ensures.fed in
     let q = ends_by keeping says contents r r' c.args.desk.now c.args.writer.now spent c.args.reads c.feed.result c.feed.new.self now
     (fed (refl, answers_none _)) in
     let e : fault_by c.feed.result ≡ c.fault_by-fault.result = sym c.fault_by-fault.ensures in
-    subst (λ (fault : Option SessionFault). Ran keeping says r r' (output contents c.args.writer.now []) (output contents c.feed.new.writer []) c.args.desk.now (c.feed.new.taker.kept, c.feed.new.desk) fault) e
-    (ran_failed keeping says contents r r' c.args.desk.now c.args.writer.now (fault_by c.feed.result) (c.feed.new.taker.kept, c.feed.new.desk) (stands contents now).1 q
+    subst (λ (fault : Option SessionFault). Ran keeping says r r' (output contents c.args.writer.now [])
+    (output contents c.feed.new.writer []) c.args.desk.now (c.feed.new.taker.kept, c.feed.new.desk) fault) e
+    (ran_failed keeping says contents r r' c.args.desk.now c.args.writer.now (fault_by c.feed.result)
+    (c.feed.new.taker.kept, c.feed.new.desk) (stands contents now).1 q
     (ap is_whole e ∙ sym c.is_whole.ensures ∙ c.if-not-is_whole.true))
 
 pub returns : goal.returns
@@ -42,10 +45,12 @@ returns g c =
     let now : Course × g.row.D.Denot × Tally g.row.W.Denot = (at, c.feed.new.desk, c.feed.new.writer) in
     let spent = kept_count c.feed.new.reader.calls ≡ kept_count (c.args.reader.now.calls + c.args.reads) in
     let fed = subst (λ (k : Course). Took says contents (k, c.args.desk.now, c.args.writer.now) [] (k, c.args.desk.now, c.args.writer.now)
-    → Stands (Took says contents) (IsOver says contents) r r' (k, c.args.desk.now, c.args.writer.now) (λ p. Unit {0}) spent c.args.reads c.feed.result c.feed.new.self
+    → Stands (Took says contents) (IsOver says contents) r r' (k, c.args.desk.now, c.args.writer.now) (λ p. Unit {0}) spent c.args.reads
+    c.feed.result c.feed.new.self
     (c.feed.new.taker, c.feed.new.desk, c.feed.new.writer)) c.requires.run c.feed.ensures.fed in
     let q = ends_by keeping says contents r r' c.args.desk.now c.args.writer.now spent c.args.reads c.feed.result c.feed.new.self now
-    (subst (λ (k : Course). Stands (Took says contents) (IsOver says contents) r r' (beginning keeping, c.args.desk.now, c.args.writer.now) (λ p. Unit {0}) spent c.args.reads
+    (subst (λ (k : Course). Stands (Took says contents) (IsOver says contents) r r' (beginning keeping, c.args.desk.now, c.args.writer.now)
+    (λ p. Unit {0}) spent c.args.reads
     c.feed.result c.feed.new.self (k, c.feed.new.desk, c.feed.new.writer)) (sym c.self.view_is) (fed (refl, answers_none _))) in
     let e : fault_by c.feed.result ≡ c.fault_by-fault.result = sym c.fault_by-fault.ensures in
     let whole : is_whole (fault_by c.feed.result) ≡ true = ap is_whole e ∙ sym c.is_whole.ensures ∙ c.if-not-is_whole.false in
@@ -55,8 +60,10 @@ returns g c =
     elim c.match-settle.branch [
       | in-Ok w ↦ subst (λ (fault : Option SessionFault). P c.settle.new.desk fault) (e ∙ sym w.result-is)
           (subst (λ (d : g.row.D.Denot). P d (fault_by c.feed.result)) (sym w.in-Ok.ensures.desk)
-          (ran_whole keeping says contents r r' c.args.desk.now c.args.writer.now (fault_by c.feed.result) (i.session, c.feed.new.desk) (stands contents now).1 q whole after w.in-Ok.ensures.wrote.0))
+          (ran_whole keeping says contents r r' c.args.desk.now c.args.writer.now (fault_by c.feed.result) (i.session, c.feed.new.desk)
+          (stands contents now).1 q whole after w.in-Ok.ensures.wrote.0))
       | in-Err w ↦ subst (λ (fault : Option SessionFault). P c.settle.new.desk fault) (sym w.result-is)
           (subst (λ (d : g.row.D.Denot). P d (Some Write)) (sym w.in-Err.ensures.desk)
-          (ran_broken keeping says contents r r' c.args.desk.now c.args.writer.now (fault_by c.feed.result) (i.session, c.feed.new.desk) (stands contents now).1 q whole after w.in-Err.ensures.wrote))
+          (ran_broken keeping says contents r r' c.args.desk.now c.args.writer.now (fault_by c.feed.result) (i.session, c.feed.new.desk)
+          (stands contents now).1 q whole after w.in-Err.ensures.wrote))
     ]

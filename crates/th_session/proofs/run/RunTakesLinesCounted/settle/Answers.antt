@@ -18,7 +18,9 @@ returns g c =
     subst (λ (k : Course). P k c.match-settle.result) c.self.view_is
     (elim c.match-settle.branch [
       | in-Ok w ↦ subst (λ (r : Result (Unit {0}) (Option SessionFault)). P old r) (sym w.result-is)
-          (settles_on g.D.Desk.says g.W.Write.contents (old, c.args.desk.now, c.args.writer.now) (new, c.settle.new.desk, c.settle.new.writer) refl refl w.in-Ok.ensures.desk w.in-Ok.ensures.wrote)
+          (settles_on g.D.Desk.says g.W.Write.contents (old, c.args.desk.now, c.args.writer.now)
+          (new, c.settle.new.desk, c.settle.new.writer) refl refl w.in-Ok.ensures.desk w.in-Ok.ensures.wrote)
       | in-Err w ↦ subst (λ (r : Result (Unit {0}) (Option SessionFault)). P old r) (sym w.result-is)
-          (settles_broken g.D.Desk.says g.W.Write.contents (old, c.args.desk.now, c.args.writer.now) (new, c.settle.new.desk, c.settle.new.writer) refl w.in-Err.ensures.desk w.in-Err.ensures.wrote)
+          (settles_broken g.D.Desk.says g.W.Write.contents (old, c.args.desk.now, c.args.writer.now)
+          (new, c.settle.new.desk, c.settle.new.writer) refl w.in-Err.ensures.desk w.in-Err.ensures.wrote)
     ])

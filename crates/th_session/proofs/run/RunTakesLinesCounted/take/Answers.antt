@@ -13,4 +13,5 @@ returns g c =
     let line = line_given c.args.line in
     subst (λ (k : Course). feeding.Takes (Took g.D.Desk.says g.W.Write.contents) (IsOver g.D.Desk.says g.W.Write.contents) line
     (k, c.args.desk.now, c.args.writer.now) c.serve.result (new, c.serve.new.desk, c.serve.new.writer)) c.self.view_is
-    (takes_on g.D.Desk.says g.W.Write.contents line (old, c.args.desk.now, c.args.writer.now) (new, c.serve.new.desk, c.serve.new.writer) c.serve.result refl c.serve.ensures)
+    (takes_on g.D.Desk.says g.W.Write.contents line (old, c.args.desk.now, c.args.writer.now) (new, c.serve.new.desk, c.serve.new.writer)
+    c.serve.result refl c.serve.ensures)
