@@ -26,6 +26,7 @@ use crate::names::Names;
 use crate::replies::{Outcome, Refusal, Reply, Row, print};
 use crate::topics::{Channel, Seat, Topic, on_topic};
 use std::io::{self, BufWriter, Read, Write};
+use std::mem;
 use std::process::ExitCode;
 use std::rc::Rc;
 
@@ -150,6 +151,7 @@ enum Fault {
 }
 
 /// The replies to the lines that come, and how many lines there were.
+#[derive(Default)]
 struct Run {
     hub: Hub,
     lines: u64,
@@ -170,11 +172,11 @@ impl Run {
 }
 
 /// Before each read all replies are written, so that who waits for one gets it.
-fn replay(input: &mut Lines<impl Read>, output: &mut impl Write) -> Result<(), Fault> {
-    let mut run = Run {
-        hub: Hub::default(),
-        lines: 0,
-    };
+fn replay(
+    run: &mut Run,
+    input: &mut Lines<impl Read>,
+    output: &mut impl Write,
+) -> Result<(), Fault> {
     loop {
         while let Some(line) = input.next() {
             run.answer(line, output)?;
@@ -193,7 +195,10 @@ fn replay(input: &mut Lines<impl Read>, output: &mut impl Write) -> Result<(), F
 fn main() -> ExitCode {
     let mut input = Lines::new(io::stdin().lock());
     let mut output = BufWriter::with_capacity(REPLIES_ROOM, io::stdout().lock());
-    let end = replay(&mut input, &mut output);
+    let mut run = Run::default();
+    let end = replay(&mut run, &mut input, &mut output);
+    // The end of the process gives all memory back at once.
+    mem::forget(run);
     let flushed = output.flush().map_err(|_| Fault::Write);
     match end.and(flushed) {
         Ok(()) => ExitCode::SUCCESS,

@@ -2,7 +2,7 @@
 use std::alloc::Global;
 use std::fs::File;
 use th_lines::Counted;
-use th_replay::{laws, replay, replay_bounded};
+use th_replay::{laws, replay, replay_bounded, replay_kept};
 
 pub fn law() {
     laws::texts_are_seen();
@@ -12,4 +12,5 @@ pub fn law() {
 pub fn run(alloc: Global, reader: &mut Counted<File>, writer: &mut Counted<File>) {
     let _ = replay(alloc, reader, writer);
     let _ = replay_bounded(alloc, reader, writer, 7, 7);
+    let _ = replay_kept(alloc, reader, writer, 7, 7);
 }

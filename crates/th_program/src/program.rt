@@ -12,8 +12,9 @@ use crate::words::{hint, mode};
 use itoa::Buffer;
 use std::alloc::Global;
 use std::io::{Read, Write};
-use th_lines::{Counted, Moved};
-use th_replay::{CheckFault, ReplayFault, Verdict, check_explained, replay};
+use std::mem;
+use th_lines::{Counted, MOST_LINES, MOST_READS, Moved};
+use th_replay::{CheckFault, ReplayFault, Verdict, check_explained, replay_kept};
 
 // How many interrupted writes of a text are made again.
 const RETRIES: u32 = 1000;
@@ -84,7 +85,7 @@ fn write_help<W: Write>(output: &mut Counted<W>, text: &[u8]) -> End
     }
 }
 
-// Carries out the schedule of the reader.
+// Carries out the schedule of the reader. What is left of the run is not freed event by event: the process ends soon.
 fn carry_out<R: Read, W: Write>(
     alloc: Global,
     input: &mut Counted<R>,
@@ -95,7 +96,9 @@ fn carry_out<R: Read, W: Write>(
         (devices R.remaining input.new W.contents output.new)
         result }
 {
-    match replay(alloc, input, output) {
+    let (end, left) = replay_kept(alloc, input, output, MOST_LINES, MOST_READS);
+    mem::forget(left);
+    match end {
         Ok(_) => End::Done,
         Err(ReplayFault::Read) => End::Read,
         Err(ReplayFault::Write) => End::Write,
@@ -214,7 +217,8 @@ fn explain_check<E: Write>(errors: &mut Counted<E>, end: &End, text: &[u8], to_p
 }
 
 /// Does what the words ask for, the program's name first. `replay` carries out the schedule of
-/// `input`, and `check` says whether its trace is legal; `serve` wants more than streams, and ends with a socket fault here.
+/// `input`, whose hub keeps its memory until the process ends, and `check` says whether its trace is legal; `serve` wants
+/// more than streams, and ends with a socket fault here.
 /// A text of help, or the version, goes to `output`; what is wrong with the words goes to `errors`, and so does a line that
 /// says what stopped the run.
 pub fn run<R: Read, W: Write, E: Write>(

@@ -14,6 +14,9 @@ use std::marker::Model;
 use th_lines::{Counted, Fed, Feeder, Intake, TakesLines, WriteBuffer, WriteFailed};
 
 /// The hub of a schedule, and the replies that wait to be written.
+///
+/// To let go of it gives back the memory of each event in turn. A program that ends with its schedule may forget it
+/// (`std::mem::forget`): the end of its process gives back all at once.
 #[derive(Drop)]
 pub struct Runner {
     // The topics and the actors. Each line that is answered changes them.
@@ -69,7 +72,7 @@ impl<W: Write> TakesLines<(), Counted<W>> for Runner {
 
 impl Runner {
     /// With an empty hub. It makes the buffer of the replies.
-    pub fn new(alloc: Global) -> Result<Runner, AllocError>
+    pub(crate) fn new(alloc: Global) -> Result<Runner, AllocError>
         ensures { IfOk result (λ r. r ≡ beginning) }
     {
         let hub = Hub::new(alloc)?;
@@ -79,7 +82,7 @@ impl Runner {
 
     /// Reads on to the end of the input by at most so many reads, answers the lines as they come, and answers how many
     /// they were. Before each read all replies are written.
-    pub fn run<R: Read, W: Write>(
+    pub(crate) fn run<R: Read, W: Write>(
         &mut self,
         feeder: &mut Feeder,
         alloc: Global,
