@@ -2,3 +2,4 @@ pub mod Handles
 pub mod Locked
 pub mod Pairs
 pub mod Rows
+pub mod Together

@@ -1,16 +1,19 @@
 //! Senders and receivers of a broadcast channel.
-ghost use Rattle.std.specs.Prelude.{◌≡◌, ◌↔◌, IfErr, IfOk, OnOk};
+ghost use Rattle.std.specs.Prelude.{◌≡◌, ◌<◌, ◌↔◌, [], IfErr, IfOk, Ok, OnOk};
 ghost use Rattle.th_log.specs.History.{IsLimit};
 ghost use Rattle.th_model.specs.Limits.{ClonesAreEqual};
 ghost use Rattle.th_log.specs.Replies.{broadcast_ends, broadcast_made_rx, broadcast_made_tx, made_by};
 ghost use Rattle.th_block.specs.Handles.{Calls, CallsFor, IsFirst, IsNext, Tells, call_of, rx, tx};
 ghost use Rattle.th_block.specs.Pairs.{IsReplaced};
+ghost use Rattle.th_block.specs.Together.{MakesEach, TakesMany};
 
 use crate::handle::{Handle, is_limit, open};
+use crate::queued::Values;
 use crate::replaced::Replaced;
 use crate::shared::Shared;
 use crate::side::{Receives, Sends};
 use std::alloc::Global;
+use std::collections::VecDeque;
 use std::sync::Wait;
 use th_bcast::Broadcast;
 use th_log::{MakeFault, Receipt, Refused};
@@ -87,6 +90,29 @@ impl<T: Clone + Drop> Handle<Broadcast<T, RingShelf<T>>, Sends> {
         self.call(rt, BCall::Send(TxId(number), value))
     }
 
+    /// Sends the values of this queue from its front on, as `send` does each, in a row and under one lock, and wakes
+    /// those that wait once. No value is copied on its way: each is moved out of the queue, and the receipt of its send
+    /// put behind those that the list has. Where it is `Ok`, all were sent. Linear in the values; the lock is held all the
+    /// while.
+    ///
+    /// # Errors
+    ///
+    /// A send was refused, as `send` tells, or there was no memory for its receipt: its value comes back in the call.
+    /// Those before it were sent, and their receipts are in the list; those behind it are left in the queue.
+    pub fn send_many<R: Wait>(
+        &mut self,
+        rt: &R,
+        values: &mut VecDeque<T>,
+        receipts: &mut Vec<Receipt<RingBroadcast<T>>>,
+    ) -> Result<(), Refused<BCall<T>>>
+        requires { ClonesAreEqual T.is_clone }
+        ensures sent { MakesEach (BCall.Send (tx self.old)) self.old self.new
+            values.old.items values.new.items receipts.old.items receipts.new.items result }
+        ensures all { OnOk result (values.new.items ≡ []) }
+    {
+        self.each::<Values, R>(rt, values, receipts)
+    }
+
     /// A new receiver, of what is sent from now on.
     pub fn subscribe<R: Wait>(
         &mut self,
@@ -158,6 +184,37 @@ impl<T: Clone + Drop> Handle<Broadcast<T, RingShelf<T>>, Receives> {
     {
         let number = self.number;
         self.call(rt, BCall::Recv(RxId(number)))
+    }
+
+    /// As `recv`, for many values: it waits for the first answer, and then takes those that are there, under one lock, at
+    /// most so many. It tells how many. Their receipts are put behind those that the list has. No further one is taken
+    /// behind an answer that none will come; where such an answer comes first, it is the only one. A limit of 0 takes
+    /// nothing, and returns at once. As Tokio's `mpsc::Receiver::recv_many`.
+    ///
+    /// It pays where the values are sent in groups as well (`send_many`). Of values that are sent one by one, a receiver
+    /// that takes all that are there runs dry, sleeps, and has to be woken for the next.
+    ///
+    /// # Errors
+    ///
+    /// The first receive was refused, as `recv` tells, or there was no memory for its receipt; then nothing has changed. A
+    /// later one that is refused ends the row, and the next call is told why.
+    pub fn recv_many<R: Wait>(
+        &mut self,
+        rt: &R,
+        receipts: &mut Vec<Receipt<RingBroadcast<T>>>,
+        limit: usize,
+    ) -> Result<usize, Refused<BCall<T>>>
+        requires { ClonesAreEqual T.is_clone }
+        ensures taken { 0 < limit → TakesMany broadcast_ends self.old self.new
+            (BCall.Recv (rx self.old)) limit receipts.old.items receipts.new.items result }
+        ensures none { limit ≡ 0 → (result ≡ Ok 0) × (self.new ≡ self.old)
+            × (receipts.new.items ≡ receipts.old.items) }
+    {
+        if limit == 0 {
+            return Ok(0);
+        }
+        let number = self.number;
+        self.many(rt, BCall::Recv(RxId(number)), limit, receipts)
     }
 
     /// As `recv`, for a loop: `None` once nothing will come any more, when the receipt of that answer is given up.

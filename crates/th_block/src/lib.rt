@@ -84,12 +84,14 @@ pub mod broadcast_handles;
 pub mod handle;
 mod held;
 mod posted;
+mod queued;
 mod ready;
 mod replace;
 pub mod replaced;
 mod seat;
 pub mod shared;
 pub mod side;
+pub mod together;
 pub mod watch_handles;
 
 pub use broadcast_handles::{BReceiver, BSender, Resub, RingBroadcast, broadcast, broadcast_at};

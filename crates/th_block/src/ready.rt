@@ -1,12 +1,66 @@
-//! Events of one call, as many as have their answer at once, on the locked log.
-ghost use Rattle.std.specs.Prelude.{◌≡◌, ◌≤◌, [], length};
-ghost use Rattle.th_block.specs.Handles.{Looked, seen_of};
-ghost use Rattle.th_block.specs.Rows.{AddsReady, EnteredInRow};
+//! Events that are made together on the locked log, as many as have their answer at once.
+ghost use Rattle.std.specs.Prelude.{◌≡◌, ◌<◌, ◌≤◌, [], length, true, IfErr, IfOk, OnErr, OnOk};
+ghost use Rattle.th_block.specs.Handles.{IsBack, Looked, call_of, seen_of};
+ghost use Rattle.th_block.specs.Rows.{AddsOne, AddsReady, EnteredInRow};
+ghost use Rattle.th_block.specs.Together.{EnteredMany, EnteredOf, LeavesOver, StopsAt, has_ended};
 
 use crate::account::Account;
 use crate::held::Held;
+use crate::queued::Queued;
+use std::collections::VecDeque;
 use std::sync::Wait;
-use th_log::{Kind, Receipt};
+use th_log::{Kind, Receipt, Refused};
+
+// One event of this call, which has its answer now, and its receipt behind the others: whether it is news to who waits.
+// Memory for the receipt is asked for before the event, where the list has no room.
+fn one_moved<O: Kind>(
+    held: &mut Held<O>,
+    account: &mut Account,
+    call: O::Call,
+    receipts: &mut Vec<Receipt<O>>,
+) -> Result<bool, Refused<O::Call>>
+    requires lawful { O.lawful }
+    requires ready { O.machine.ready held.old.piece.last call ≡ true }
+    ensures made { OnOk result (AddsOne account.old account.new call held.old.tally held.new.tally
+        receipts.old.items receipts.new.items) }
+    ensures back { IfErr result (λ e. call_of e ≡ call) }
+    ensures same { OnErr result ((account.new ≡ account.old)
+        × (held.new.tally ≡ held.old.tally) × (receipts.new.items ≡ receipts.old.items)) }
+{
+    let Ok(()) = receipts.reserve(1) else {
+        return Err(Refused::Short(call));
+    };
+    match held.event(account, call) {
+        Ok(receipt) => {
+            let news = O::is_news(receipt.call(), receipt.reply());
+            let Ok(()) = receipts.push(receipt) else {
+                unreachable!()
+            };
+            Ok(news)
+        }
+        Err(refused) => Err(refused),
+    }
+}
+
+// One event of a copy of this call, if it has its answer now: whether it was made.
+fn one_more<O: Kind>(
+    held: &mut Held<O>,
+    account: &mut Account,
+    call: &O::Call,
+    receipts: &mut Vec<Receipt<O>>,
+) -> bool
+    requires { O.lawful }
+    ensures { AddsReady result account.old account.new call.now held.old.tally held.new.tally
+        receipts.old.items receipts.new.items }
+{
+    if !held.is_ready(call) {
+        return false;
+    }
+    let Ok(copy) = O::copy_call(call) else {
+        return false;
+    };
+    one_moved(held, account, copy, receipts).is_ok()
+}
 
 // One event of this call, if it has its answer now and there is room for its receipt: whether it was made.
 fn one_ready<O: Kind>(
@@ -19,21 +73,7 @@ fn one_ready<O: Kind>(
     ensures { AddsReady result account.old account.new call.now held.old.tally held.new.tally
         receipts.old.items receipts.new.items }
 {
-    if receipts.len() >= receipts.capacity() || !held.is_ready(call) {
-        return false;
-    }
-    let Ok(copy) = O::copy_call(call) else {
-        return false;
-    };
-    match held.event(account, copy) {
-        Ok(receipt) => {
-            let Ok(()) = receipts.push(receipt) else {
-                unreachable!()
-            };
-            true
-        }
-        Err(_) => false,
-    }
+    receipts.len() < receipts.capacity() && one_more(held, account, call, receipts)
 }
 
 /// Events of this call as long as it has its answer, at most so many, and at most as there is room for their receipts.
@@ -58,6 +98,82 @@ pub(crate) fn all_ready<O: Kind>(
         }
     }
     held.total()
+}
+
+/// Calls of what stands in this queue, from its front on, one behind the other, up to one that would wait. What a call was
+/// made of is taken out of the queue, and so is what the log refuses, which comes back. Whether any is news to who waits.
+pub(crate) fn each_ready<O: Kind, Q: Queued<O>>(
+    held: &mut Held<O>,
+    account: &mut Account,
+    number: u64,
+    queue: &mut VecDeque<Q::Item>,
+    receipts: &mut Vec<Receipt<O>>,
+) -> (bool, Result<(), Refused<O::Call>>)
+    requires { O.lawful }
+    ensures row { LeavesOver (Q.call number) result.1 queue.new.items (λ over.
+        EnteredOf (Q.call number) account.old account.new held.old.tally.total
+        held.new.tally.total queue.old.items over receipts.old.items receipts.new.items) }
+    ensures stop { OnOk result.1 (StopsAt O.machine.ready (Q.call number) queue.new.items) }
+{
+    let mut news = false;
+    while let Some(next) = queue.front() {
+        if !Q::is_ready(held, number, next) {
+            return (news, Ok(()));
+        }
+        let Some(item) = queue.pop_front() else {
+            unreachable!()
+        };
+        match one_moved(held, account, Q::call(number, item), receipts) {
+            Ok(is_news) => news |= is_news,
+            Err(refused) => return (news, Err(refused)),
+        }
+    }
+    (news, Ok(()))
+}
+
+// Whether the last of these receipts says that nothing comes any more.
+fn ended<O: Kind>(receipts: &Vec<Receipt<O>>) -> bool
+    ensures { result ≡ has_ended O.ends receipts.now.items }
+{
+    match receipts.last() {
+        Some(receipt) => O::ends(receipt.reply()),
+        None => false,
+    }
+}
+
+/// Events of this call, whose answer is there: one, and further ones up to the limit, as long as they have their answers
+/// too and the one before does not say that nothing comes any more. It ends too where the log refuses one. How many were
+/// made; or the first comes back.
+pub(crate) fn many_ready<O: Kind>(
+    held: &mut Held<O>,
+    account: &mut Account,
+    call: O::Call,
+    limit: usize,
+    receipts: &mut Vec<Receipt<O>>,
+) -> Result<usize, Refused<O::Call>>
+    requires lawful { O.lawful }
+    requires ready { O.machine.ready held.old.piece.last call ≡ true }
+    requires some { 0 < limit }
+    ensures made { IfOk result (λ count.
+        EnteredMany O.ends account.old account.new call limit held.old.tally.total
+        held.new.tally.total receipts.old.items receipts.new.items count) }
+    ensures back { IfErr result (λ e. IsBack account.old account.new call e) }
+    ensures same { OnErr result (receipts.new.items ≡ receipts.old.items) }
+{
+    let Ok(again) = O::copy_call(&call) else {
+        return Err(Refused::Short(call));
+    };
+    if let Err(refused) = one_moved(held, account, call, receipts) {
+        return Err(refused);
+    }
+    let mut count = 1usize;
+    while count < limit {
+        if ended(receipts) || !one_more(held, account, &again, receipts) {
+            break;
+        }
+        count += 1;
+    }
+    Ok(count)
 }
 
 /// Looks until the handle has seen so many events of its channel, which has had them.

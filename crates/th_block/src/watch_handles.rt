@@ -1,14 +1,17 @@
 //! Senders and readers of a watch channel.
-ghost use Rattle.std.specs.Prelude.{◌≡◌, ◌↔◌, IfErr, IfOk, OnOk};
+ghost use Rattle.std.specs.Prelude.{◌≡◌, ◌↔◌, [], IfErr, IfOk, OnOk};
 ghost use Rattle.th_log.specs.History.{IsLimit};
 ghost use Rattle.th_model.specs.Limits.{ClonesAreEqual};
 ghost use Rattle.th_model.specs.WatchMachine.{IsExact};
 ghost use Rattle.th_log.specs.Replies.{made_by, watch_ends, watch_made_rx, watch_made_tx};
 ghost use Rattle.th_block.specs.Handles.{Calls, CallsFor, IsFirst, IsNext, rx, tx};
+ghost use Rattle.th_block.specs.Together.{MakesEach};
 
 use crate::handle::{Handle, is_limit, open};
+use crate::queued::Values;
 use crate::side::{Receives, Sends};
 use std::alloc::Global;
+use std::collections::VecDeque;
 use std::sync::Wait;
 use th_log::{MakeFault, Receipt, Refused};
 use th_model::{Edit, RxId, TxId, WCall};
@@ -60,6 +63,30 @@ impl<T: Clone + PartialEq + Drop> Handle<Watch<T>, Sends> {
     {
         let number = self.number;
         self.call(rt, WCall::Send(TxId(number), value))
+    }
+
+    /// Publishes the values of this queue from its front on, as `send` does each, in a row and under one lock, and wakes
+    /// the readers that wait once: they see the last of them. No value is copied on its way: each is moved out of the
+    /// queue, and the receipt of its send put behind those that the list has. Where it is `Ok`, all were sent. Linear in
+    /// the values; the lock is held all the while.
+    ///
+    /// # Errors
+    ///
+    /// A send was refused, as `send` tells, or there was no memory for its receipt: its value comes back in the call.
+    /// Those before it were sent, and their receipts are in the list; those behind it are left in the queue.
+    pub fn send_many<R: Wait>(
+        &mut self,
+        rt: &R,
+        values: &mut VecDeque<T>,
+        receipts: &mut Vec<Receipt<Watch<T>>>,
+    ) -> Result<(), Refused<WCall<T>>>
+        requires clones { ClonesAreEqual T.is_clone }
+        requires exact { IsExact T.eq }
+        ensures sent { MakesEach (WCall.Send (tx self.old)) self.old self.new
+            values.old.items values.new.items receipts.old.items receipts.new.items result }
+        ensures all { OnOk result (values.new.items ≡ []) }
+    {
+        self.each::<Values, R>(rt, values, receipts)
     }
 
     /// Publishes a value, readers or not, for the old one, which comes in the reply.

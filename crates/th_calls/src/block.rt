@@ -1,5 +1,6 @@
 //! Calls of th_block, at numbers. What they answer is handed on, so that nothing is let go here.
 use std::alloc::Global;
+use std::collections::VecDeque;
 use std::sync::Wait;
 use th_block::{
     BReceiver, BSender, Receives, Resub, RingBroadcast, Sends, Shared, Side, WReader, WSender,
@@ -153,6 +154,46 @@ pub fn call_while_ready(
     let mut receipts = Vec::new(alloc);
     tx.call_while_ready(rt, &call, 7, &mut receipts);
     receipts
+}
+
+pub fn call_each(
+    rt: &impl Wait,
+    alloc: Global,
+    tx: &mut WSender<u64>,
+    receipts: &mut Vec<Receipt<Light>>,
+) -> Option<Result<(), Refused<WCall<u64>>>> {
+    let call = WCall::Readers(TxId(tx.number()));
+    let mut calls = VecDeque::new(alloc);
+    let Ok(()) = calls.push_back(call) else {
+        return None;
+    };
+    Some(tx.call_each(rt, &mut calls, receipts))
+}
+
+pub fn send_many(
+    rt: &impl Wait,
+    tx: &mut BSender<u64>,
+    values: &mut VecDeque<u64>,
+    receipts: &mut Vec<Receipt<News>>,
+) -> Result<(), Refused<BCall<u64>>> {
+    tx.send_many(rt, values, receipts)
+}
+
+pub fn publish_many(
+    rt: &impl Wait,
+    tx: &mut WSender<u64>,
+    values: &mut VecDeque<u64>,
+    receipts: &mut Vec<Receipt<Light>>,
+) -> Result<(), Refused<WCall<u64>>> {
+    tx.send_many(rt, values, receipts)
+}
+
+pub fn recv_many(
+    rt: &impl Wait,
+    rx: &mut BReceiver<u64>,
+    receipts: &mut Vec<Receipt<News>>,
+) -> Result<usize, Refused<BCall<u64>>> {
+    rx.recv_many(rt, receipts, 7)
 }
 
 pub fn spend(

@@ -10,6 +10,7 @@ pub mod glance;
 pub mod lines;
 pub mod log;
 pub mod model;
+pub mod numbered;
 pub mod program;
 pub mod registry;
 pub mod replay;

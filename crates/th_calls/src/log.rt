@@ -30,6 +30,15 @@ fn apply<O: Kind>(logged: &mut Logged<O>, share: &mut Share, call: O::Call)
     }
 }
 
+fn keep_event<O: Kind>(logged: &mut Logged<O>, share: &mut Share, call: O::Call)
+    requires { O.lawful }
+{
+    if logged.ready(&call) {
+        let _ = logged.keep(share, call);
+    }
+    let _ = logged.last_reply();
+}
+
 fn keep<O: Object>(logged: &mut Logged<O>)
     requires { O.lawful }
 {
@@ -141,7 +150,7 @@ fn call_all<O: Compared + Kind>(
     object: &mut O,
     logged: &mut Logged<O>,
     share: &mut Share,
-    calls: (O::Call, O::Call, O::Call),
+    calls: (O::Call, O::Call, O::Call, O::Call),
     reply: &O::Reply,
     state: &O::State,
 )
@@ -155,6 +164,7 @@ fn call_all<O: Compared + Kind>(
     compare::<O>(&calls.0, reply, state);
     apply(logged, share, calls.0);
     change(object, calls.1, calls.2);
+    keep_event(logged, share, calls.3);
 }
 
 // The calls of what comes of a log.
@@ -181,7 +191,7 @@ pub fn call_with_numbers(
     light: &mut Watch<u64>,
     logged: &mut Logged<Watch<u64>>,
     share: &mut Share,
-    calls: (WCall<u64>, WCall<u64>, WCall<u64>),
+    calls: (WCall<u64>, WCall<u64>, WCall<u64>, WCall<u64>),
     reply: &WReply<u64>,
     state: &PictureParts<u64>,
 ) {

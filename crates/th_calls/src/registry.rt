@@ -45,6 +45,28 @@ pub fn record(
     Some(log.record(call))
 }
 
+pub fn keep_call(log: &mut Recorded<Watch<u64>>, call: WCall<u64>) -> Result<(), NoEvent> {
+    if log.last_reply().is_some() || !log.object().ready(&call) {
+        return Err(NoEvent::Blocked);
+    }
+    log.keep(call)
+}
+
+pub fn keep_at_desk(
+    desk: &mut LocalDesk,
+    verb: SenderVerb<Value>,
+    read: ReceiverVerb,
+) -> [Result<(), NoEvent>; 2] {
+    [
+        desk.keep_by_sender(TopicId(7), TxId(1), verb),
+        desk.keep_by_receiver(TopicId(7), RxId(2), read),
+    ]
+}
+
+pub fn look_at_topic(desk: &LocalDesk) -> Option<&LocalChannel> {
+    desk.channel(TopicId(7))
+}
+
 pub fn cut(log: &mut Recorded<Watch<u64>>) -> Result<Segment<Watch<u64>>, Short<()>> {
     log.cut()
 }

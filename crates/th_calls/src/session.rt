@@ -3,10 +3,11 @@ use std::alloc::Global;
 use std::fs::File;
 use std::time::Clock;
 use th_lines::{Command, Counted, WriteBuffer};
+use th_model::{NameRef, ReceiverVerb, SenderVerb, Value};
 use th_registry::channel::{TopicReceipt, TopicSegment};
 use th_registry::{LocalDesk, TopicId};
 use th_session::{
-    Answer, Gate, Keeping, OpenGate, Session, SessionFault, laws, local, run_session,
+    Answer, Gate, Keeping, OpenGate, Session, SessionFault, laws, local, quiet, run_session,
 };
 
 pub fn law() {
@@ -42,6 +43,18 @@ pub fn put_answer(
     writer: &mut Counted<File>,
 ) {
     let _ = session.put_answer(answer, out, writer);
+}
+
+pub fn act_quietly(
+    session: &Session<LocalDesk>,
+    desk: &mut LocalDesk,
+    name: &NameRef<'_>,
+    verb: SenderVerb<Value>,
+    out: &mut WriteBuffer,
+    writer: &mut Counted<File>,
+) {
+    let _ = quiet::by_sender(session, desk, name, verb, out, writer);
+    let _ = quiet::by_receiver(session, desk, name, ReceiverVerb::TryRecv, out, writer);
 }
 
 pub fn look(session: &Session<LocalDesk>) -> usize {

@@ -1,5 +1,6 @@
 -- A channel's history: its calls with their replies, in parts (docs/HISTORIES.md).
-use Rattle.std.specs.Prelude.{◌≡◌, ℕ, ◌+◌, ◌-◌, ◌^◌, ◌≤◌, ◌<◌, Bool, true, List, [], ◌∷◌, ◌++◌, length}
+use Rattle.std.specs.Prelude.{◌≡◌, ℕ, ◌+◌, ◌-◌, ◌^◌, ◌≤◌, ◌<◌, Bool, true, List, [], ◌∷◌, ◌++◌, length, Option, slice_get}
+use Rattle.std.specs.Option.{option_map}
 use Rattle.th_seats.specs.Tally.{Tally}
 
 -- a machine with states E, seen as pictures S, that is called by C and replies R
@@ -29,6 +30,10 @@ abbrev pub IsRun : {E S C R : Type 0} → Machine E S C R → E → List (C × R
 IsRun m e [] = Unit {0}
 IsRun m e (x ∷ xs) =
     (m.ready (m.see e) x.0 ≡ true) × (x.1 ≡ (m.step e x.0).0) × IsRun m (m.step e x.0).1 xs
+
+-- what the last of these was answered, if there is one
+abbrev pub last_reply : {C R : Type 0} → List (C × R) → Option R
+last_reply entries = option_map (λ x. x.1) (slice_get entries (length entries - 1))
 
 -- a part of a channel's history: its first place, the pictures at its start and its end, and its
 -- entries

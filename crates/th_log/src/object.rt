@@ -156,6 +156,30 @@ pub(crate) fn noted<O: Object>(
     }
 }
 
+/// One event, with what its log keeps of it and nothing else: one copy of the call. It is drawn into each place that
+/// calls it, and knows the call there.
+#[inline(always)]
+pub(crate) fn kept<O: Object>(
+    object: &mut O,
+    call: O::Call,
+) -> Result<(O::Call, O::Reply), Short<O::Call>>
+    requires { O.lawful }
+    ensures step { IfOk result (λ entry.
+        O.machine.answer (O.shows object.old) call ≡ (entry.1, O.shows object.new)) }
+    ensures call { IfOk result (λ entry. entry.0 ≡ call) }
+    ensures short { IfErr result (λ short.
+        (short.call ≡ call) × (O.shows object.new ≡ O.shows object.old)) }
+    ensures always { O.takes_none call → IsOk result }
+{
+    let Ok(copy) = O::copy_call(&call) else {
+        return Err(Short { call });
+    };
+    match object.apply(call) {
+        Ok(reply) => Ok((copy, reply)),
+        Err(short) => Err(short),
+    }
+}
+
 /// An object whose calls, replies and pictures are compared.
 pub trait Compared: Object {
     /// What the test of calls tells.

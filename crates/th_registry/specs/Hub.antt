@@ -95,6 +95,12 @@ IsRefusal (Open name making) opened = opened ≡ Err Refusals.Short
 IsRefusal (On topic event) noted = noted ≡ (Err NoEvents.Short, None)
 IsRefusal (Cut topic) segment = segment ≡ Err NoEvents.Short
 
+-- the reply to a call, if there is room for it in the log
+abbrev pub if_room : {C K R P : Type 0} → ChannelMachine C K R P → C → K → Result R NoEvent × C
+if_room m c call =
+    if m.is_full c call then (Err NoEvents.LogFull, c)
+    else (Ok (m.step c call).0, (m.step c call).1)
+
 -- What a channel replies to a call, or the first reason why there is no event: the kind has no such call; it goes
 -- through the hub's own sender, and that is not live; it would wait; there is no room for it in the log.
 abbrev pub replies : {C K R P : Type 0} → ChannelMachine C K R P → (waits : K → R → Bool)
@@ -103,8 +109,7 @@ replies m waits no_sender c None = (Err NoEvents.WrongKind, c)
 replies m waits no_sender c (Some call) =
     if no_sender then (Err NoEvents.NoSender, c)
     else if waits call (m.step c call).0 then (Err NoEvents.Blocked, c)
-    else if m.is_full c call then (Err NoEvents.LogFull, c)
-    else (Ok (m.step c call).0, (m.step c call).1)
+    else if_room m c call
 
 -- the same of a call that goes through the hub's own sender or not
 abbrev pub hub_replies : {C K R P : Type 0} → ChannelMachine C K R P → (waits : K → R → Bool) →

@@ -9,6 +9,7 @@ pub mod Typed
 pub mod Endless
 pub mod Pictures
 pub mod Outcomes
+pub mod Keeping
 pub mod Laws
 pub mod Live
 pub mod Legal

@@ -6,7 +6,7 @@ use Rattle.th_log.specs.History.{Machine, live_after}
 use Rattle.th_registry.specs.declared.outcome.NoEvent.{NoEvent}
 use Rattle.th_registry.specs.declared.outcome.NoEvent.TheVariants.{Short}
 use Rattle.th_registry.specs.Events.{Event, Told, takes_memory}
-use Rattle.th_registry.specs.Hub.{Noted, channel_event, channel_receipt, cut_channel, hub_replies, moved_by}
+use Rattle.th_registry.specs.Hub.{Noted, channel_event, channel_receipt, cut_channel, hub_replies, if_room, moved_by}
 use Rattle.th_registry.specs.History.{ChannelSegment, History, is_full, recorded}
 use Rattle.th_registry.specs.Pictures.{SeenChannel, seen_broadcast, seen_by, seen_watch}
 use Rattle.th_registry.specs.Receipts.{Receipt, receipt_of, reply_of}
@@ -33,6 +33,16 @@ module _ {E S C R : Type 0} (m : Machine E S C R) (has_sender : S → TxId → B
   KindSays old by_hub call said new =
       let seen = seen_by m has_sender has_receiver in
       CallSays (hub_replies seen waits old by_hub call) call old said new
+
+  -- a call that is to be made, which the log then has room for or not; or the reason why it is none
+  abbrev pub Allows : History S S C R → (by_hub : Bool) → Option C → Result C NoEvent → Type 0
+  Allows old by_hub call (Ok c) =
+      let seen = seen_by m has_sender has_receiver in
+      (call ≡ Some c) × (m.ready old.state c ≡ true)
+      × (hub_replies seen waits old by_hub call ≡ if_room seen old c)
+  Allows old by_hub call (Err why) =
+      let seen = seen_by m has_sender has_receiver in
+      hub_replies seen waits old by_hub call ≡ (Err why, old)
 
   -- a call that is to make a receiver, and where it did, the last call of the old one
   abbrev pub KindMoves : (R → Option RxId) → (last : C) → History S S C R → Option C →

@@ -3,7 +3,8 @@ ghost use Rattle.std.specs.Prelude.{◌≡◌, ◌<◌, true, false};
 ghost use Rattle.th_log.specs.History.{live_after};
 ghost use Rattle.th_registry.specs.Events.{Asks, Binds, DropsRx, DropsTx, Hub, Own, Receives, Resubscribes, Sends, Subscribes, any_sender, sender_of};
 ghost use Rattle.th_registry.specs.History.{is_full, recorded};
-ghost use Rattle.th_registry.specs.Outcomes.{ChannelCuts, ChannelTells, KindEnds, KindMoves, KindSays};
+ghost use Rattle.th_registry.specs.Keeping.{ChannelKeeps, KindKeeps};
+ghost use Rattle.th_registry.specs.Outcomes.{Allows, ChannelCuts, ChannelTells, KindEnds, KindMoves, KindSays};
 ghost use Rattle.th_registry.specs.Typed.{ended, made_rx, made_tx, replied};
 
 use crate::channel::{Channel, HubBroadcast, HubWatch, LocalChannel, TopicReceipt, TopicSegment};
@@ -22,6 +23,28 @@ fn sender_or_hub(sender: Option<TxId>) -> TxId
     sender.unwrap_or(HUB_SENDER)
 }
 
+// The call that is to be made, through the hub's own sender or not; or the first reason why it is not, but for those of the
+// log.
+#[inline(always)]
+fn allowed<K: Kind>(
+    channel: &Recorded<K>,
+    by_hub: bool,
+    call: Option<K::Call>,
+) -> Result<K::Call, NoEvent>
+    ensures { Allows K.machine K.has_sender K.has_receiver K.waits channel.now by_hub call result }
+{
+    let Some(call) = call else {
+        return Err(NoEvent::WrongKind);
+    };
+    if by_hub && !channel.object().has_sender(HUB_SENDER) {
+        return Err(NoEvent::NoSender);
+    }
+    if channel.object().waits(&call) {
+        return Err(NoEvent::Blocked);
+    }
+    Ok(call)
+}
+
 // One call, through the hub's own sender or not; or the first reason why there is no event.
 #[inline(always)]
 fn event<K: Kind>(
@@ -33,16 +56,25 @@ fn event<K: Kind>(
     ensures { KindSays K.machine K.has_sender K.has_receiver K.waits
         channel.old by_hub call result channel.new }
 {
-    let Some(call) = call else {
-        return Err(NoEvent::WrongKind);
+    let call = match allowed(channel, by_hub, call) {
+        Ok(call) => call,
+        Err(why) => return Err(why),
     };
-    if by_hub && !channel.object().has_sender(HUB_SENDER) {
-        return Err(NoEvent::NoSender);
-    }
-    if channel.object().waits(&call) {
-        return Err(NoEvent::Blocked);
-    }
     channel.record(call)
+}
+
+// The same, for whoever keeps no receipt.
+#[inline(always)]
+fn kept<K: Kind>(channel: &mut Recorded<K>, call: Option<K::Call>) -> Result<(), NoEvent>
+    requires { K.lawful }
+    ensures { KindKeeps K.machine K.has_sender K.has_receiver K.waits
+        channel.old call result channel.new }
+{
+    let call = match allowed(channel, false, call) {
+        Ok(call) => call,
+        Err(why) => return Err(why),
+    };
+    channel.keep(call)
 }
 
 // The end of a live handle by its last call. It takes no memory, and no room but what was kept for it.
@@ -138,6 +170,36 @@ pub fn by_receiver(
             let receipt = event(channel, false, HubWatch::by_receiver(verb, rx))?;
             Ok(Channel::Watch(receipt))
         }
+    }
+}
+
+/// What a sender does, for whoever keeps no receipt.
+#[inline(always)]
+pub fn keep_by_sender(
+    channel: &mut LocalChannel,
+    tx: TxId,
+    verb: SenderVerb<Value>,
+) -> Result<(), NoEvent>
+    ensures { ChannelKeeps channel.old (Sends tx verb) result channel.new }
+{
+    match channel {
+        Channel::Broadcast(channel) => kept(channel, HubBroadcast::by_sender(verb, tx)),
+        Channel::Watch(channel) => kept(channel, HubWatch::by_sender(verb, tx)),
+    }
+}
+
+/// What a receiver does, for whoever keeps no receipt.
+#[inline(always)]
+pub fn keep_by_receiver(
+    channel: &mut LocalChannel,
+    rx: RxId,
+    verb: ReceiverVerb,
+) -> Result<(), NoEvent>
+    ensures { ChannelKeeps channel.old (Receives rx verb) result channel.new }
+{
+    match channel {
+        Channel::Broadcast(channel) => kept(channel, HubBroadcast::by_receiver(verb, rx)),
+        Channel::Watch(channel) => kept(channel, HubWatch::by_receiver(verb, rx)),
     }
 }
 

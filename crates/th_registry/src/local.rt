@@ -1,8 +1,11 @@
 //! The desk of one thread, which never waits.
-ghost use Rattle.std.specs.Prelude.{◌≡◌, ◌≤◌, ◌<◌, ◌↔◌, [], IfOk, IsOk};
+ghost use Rattle.std.specs.Prelude.{◌≡◌, ◌≤◌, ◌<◌, ◌↔◌, [], IfOk, IsOk, option_copied, slice_get};
+ghost use Rattle.std.specs.Map.{values_of};
+ghost use Rattle.th_registry.specs.Events.{Receives, Sends};
+ghost use Rattle.th_registry.specs.Keeping.{DeskKeeps};
 ghost use Rattle.th_registry.specs.Pictures.{DeskSays};
 
-use crate::channel::{TopicReceipt, TopicSegment};
+use crate::channel::{LocalChannel, TopicReceipt, TopicSegment};
 use crate::desk::Desk;
 use crate::event;
 use crate::opening::{Found, Refusal, TopicId};
@@ -65,6 +68,51 @@ impl LocalDesk {
             return Err(BadLimit);
         }
         Ok(LocalDesk::empty(alloc, limit))
+    }
+}
+
+impl LocalDesk {
+    /// What a sender of this topic does, for whoever keeps no receipt: the reply stands in the last entry of the topic's log.
+    #[inline(always)]
+    pub fn keep_by_sender(
+        &mut self,
+        topic: TopicId,
+        sender: TxId,
+        verb: SenderVerb<Value>,
+    ) -> Result<(), NoEvent>
+        ensures { DeskKeeps self.old topic.0 (Sends sender verb) result self.new }
+    {
+        let Some(channel) = self.channels.get_index_mut(topic.0 as usize) else {
+            return Err(NoEvent::NoTopic);
+        };
+        event::keep_by_sender(channel, sender, verb)
+    }
+
+    /// What a receiver of this topic does, likewise.
+    #[inline(always)]
+    pub fn keep_by_receiver(
+        &mut self,
+        topic: TopicId,
+        receiver: RxId,
+        verb: ReceiverVerb,
+    ) -> Result<(), NoEvent>
+        ensures { DeskKeeps self.old topic.0 (Receives receiver verb) result self.new }
+    {
+        let Some(channel) = self.channels.get_index_mut(topic.0 as usize) else {
+            return Err(NoEvent::NoTopic);
+        };
+        event::keep_by_receiver(channel, receiver, verb)
+    }
+
+    /// The channel of the topic of this number, with its log.
+    #[inline(always)]
+    pub fn channel(&self, topic: TopicId) -> Option<&LocalChannel>
+        ensures { option_copied result ≡ slice_get (values_of self.now.topics) topic.0 }
+    {
+        match self.channels.get_index(topic.0 as usize) {
+            Some((_, channel)) => Some(channel),
+            None => None,
+        }
     }
 }
 

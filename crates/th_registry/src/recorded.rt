@@ -1,6 +1,6 @@
 //! A channel with its history, at a desk of one thread.
-ghost use Rattle.std.specs.Prelude.{◌≡◌, ◌<◌, ◌≤◌, true, false, IfOk, OnOk, IfErr, IsOk};
-ghost use Rattle.th_log.specs.History.{live_after};
+ghost use Rattle.std.specs.Prelude.{◌≡◌, ◌<◌, ◌≤◌, true, false, IfOk, OnOk, IfErr, IsOk, option_copied};
+ghost use Rattle.th_log.specs.History.{last_reply, live_after};
 ghost use Rattle.th_registry.specs.History.{cut, is_full, opened, recorded, segment};
 ghost use Rattle.th_registry.specs.Receipts.{receipt_of};
 ghost use Rattle.th_registry.specs.Refusals.{RefusesEvent};
@@ -51,6 +51,14 @@ impl<O: Object> Recorded<O> {
         self.log.object()
     }
 
+    /// What the last event of the segment was answered, if there was one.
+    #[inline(always)]
+    pub fn last_reply(&self) -> Option<&O::Reply>
+        ensures { option_copied result ≡ last_reply self.now.entries }
+    {
+        self.log.last_reply()
+    }
+
     /// Hands out the segment so far, and begins the next one.
     pub fn cut(&mut self) -> Result<Segment<O>, Short<()>>
         requires { O.lawful }
@@ -87,6 +95,29 @@ impl<O: Kind> Recorded<O> {
         let _number = self.log.key();
         match self.log.apply(&mut self.share, call) {
             Ok(receipt) => Ok(receipt),
+            Err(Refused::LogFull(_)) => Err(NoEvent::LogFull),
+            Err(Refused::Short(_)) => Err(NoEvent::Short),
+            Err(Refused::Foreign(_)) => unreachable!(),
+        }
+    }
+
+    /// As [`Recorded::record`], for whoever keeps no receipt: the reply stands in the last entry.
+    #[inline(always)]
+    pub fn keep(&mut self, call: O::Call) -> Result<(), NoEvent>
+        requires lawful { O.lawful }
+        requires ready { O.machine.ready self.old.state call ≡ true }
+        ensures event { let s = O.machine.answer self.old.state call in
+            OnOk result (recorded self.old call s ≡ (s.0, self.new)) }
+        ensures room { OnOk result
+            (is_full self.old (live_after O.machine self.old.state call) ≡ false) }
+        ensures refused { IfErr result (λ why. RefusesEvent self.old self.new
+            (live_after O.machine self.old.state call) why) }
+    {
+        // What is kept of every log is said here.
+        let _entries = self.log.len();
+        let _number = self.log.key();
+        match self.log.keep(&mut self.share, call) {
+            Ok(()) => Ok(()),
             Err(Refused::LogFull(_)) => Err(NoEvent::LogFull),
             Err(Refused::Short(_)) => Err(NoEvent::Short),
             Err(Refused::Foreign(_)) => unreachable!(),

@@ -2,7 +2,8 @@
 use Rattle.std.proofs.Common.{◌≡◌, ◌⊎◌, inl, inr, ℕ, Bool, true, false, ap, sym, subst, refl, ◌∙◌}
 use Rattle.th_lines.specs.declared.command.Command.{Command}
 use Rattle.th_lines.specs.declared.reply.Reply.{Reply}
-use Rattle.th_lines.specs.declared.reply.Reply.TheVariants.{Refused}
+use Rattle.th_lines.specs.declared.reply.Reply.TheVariants as Replies
+use Rattle.th_lines.specs.declared.reply.Reply.TheVariants.{Bye, Refused}
 use Rattle.th_lines.specs.declared.reply.Code.TheVariants as Codes
 use Rattle.th_registry.specs.Pictures.{SeenTopics, pictures}
 use Rattle.th_registry.specs.History.{ChannelSegment}
@@ -66,3 +67,25 @@ pub only_replies_quit : (answer : Answer) → ((reply : Reply) → told answer �
 only_replies_quit (Replied reply) none = absurd (none reply refl)
 only_replies_quit (Told n r) none = refl
 only_replies_quit (Traced n s) none = refl
+
+-- an answer that is not the one to `QUIT`
+pub no_quit : (answer : Answer) → (answer ≡ Replied Bye → ⊥) → has_quit answer ≡ false
+no_quit (Told n r) other = refl
+no_quit (Traced n s) other = refl
+no_quit (Replied Bye) other = absurd (other refl)
+no_quit (Replied Replies.Done) other = refl
+no_quit (Replied (Replies.Count n)) other = refl
+no_quit (Replied (Replies.Value v)) other = refl
+no_quit (Replied (Replies.Lagged n)) other = refl
+no_quit (Replied Replies.Empty) other = refl
+no_quit (Replied Replies.Closed) other = refl
+no_quit (Replied Replies.Blocked) other = refl
+no_quit (Replied (Replies.Was v)) other = refl
+no_quit (Replied (Replies.New v)) other = refl
+no_quit (Replied (Replies.Same v)) other = refl
+no_quit (Replied Replies.Yes) other = refl
+no_quit (Replied Replies.No) other = refl
+no_quit (Replied Replies.Changed) other = refl
+no_quit (Replied Replies.NotYet) other = refl
+no_quit (Replied (Replies.Topics l)) other = refl
+no_quit (Replied (Replies.Refused c)) other = refl

@@ -3,6 +3,8 @@ ghost use Rattle.std.specs.Prelude.{◌≡◌, ◌||◌, List, ℕ, None, slice_
 ghost use Rattle.std.specs.Map.{values_of};
 ghost use Rattle.th_lines.specs.Intake.{line_given};
 ghost use Rattle.th_lines.specs.Output.{AddsOrFails, output};
+ghost use Rattle.th_lines.specs.declared.command.Action.TheVariants.{ByReceiver, BySender};
+ghost use Rattle.th_lines.specs.declared.command.Command.TheVariants.{On};
 ghost use Rattle.th_session.specs.Kept.{told};
 ghost use Rattle.th_session.specs.Script as script;
 ghost use Rattle.th_session.specs.Script.{Replied};
@@ -14,12 +16,13 @@ use std::alloc::{AllocError, Global};
 use std::io::Write;
 use std::marker::Model;
 use th_lines::{
-    Code, Command, Counted, LineFault, Reply, WriteBuffer, WriteFailed, name_and_rest, read_command,
+    Action, Code, Command, Counted, LineFault, Reply, WriteBuffer, WriteFailed, name_and_rest,
+    read_command,
 };
-use th_model::{Name, NameRef};
+use th_model::{Name, NameRef, ReceiverVerb, SenderVerb, Value};
 use th_registry::LocalDesk;
 use th_session::local::step;
-use th_session::{Answer, Keeping, Session};
+use th_session::{Answer, Keeping, Session, quiet};
 
 /// The most actors at one time.
 const MOST_ACTORS: usize = 1024;
@@ -139,10 +142,78 @@ impl Hub {
         }
     }
 
-    // Carries out a command of the actor at this place, who is gone where it has quit. That takes time with the number of
-    // actors; nothing else here does.
+    // Carries out a command of the actor at this place. Of what its own sender or receiver does nothing is kept, so that is told
+    // from the topic's log.
     #[inline(always)]
     fn carry_out<W: Write>(
+        &mut self,
+        place: usize,
+        command: Command<'_>,
+        out: &mut WriteBuffer,
+        writer: &mut Counted<W>,
+    ) -> Result<(), WriteFailed>
+        ensures { let held = slice_get (values_of self.old.actors) place in
+            PutsAnswer (by_holding picture_step self.old place command.entry held)
+            (asks_by_holding picture_asks self.old command.entry held) self.old self.new
+            (output W.contents writer.old out.old) (output W.contents writer.new out.new) result }
+    {
+        match command {
+            Command::On(name, action) => match action {
+                Action::BySender(verb) => self.by_sender(place, &name, verb, out, writer),
+                Action::ByReceiver(verb) => self.by_receiver(place, &name, verb, out, writer),
+                other => self.by_step(place, Command::On(name, other), out, writer),
+            },
+            other => self.by_step(place, other, out, writer),
+        }
+    }
+
+    // What the own sender of the actor at this place does.
+    #[inline(always)]
+    fn by_sender<W: Write>(
+        &mut self,
+        place: usize,
+        name: &NameRef<'_>,
+        verb: SenderVerb<Value>,
+        out: &mut WriteBuffer,
+        writer: &mut Counted<W>,
+    ) -> Result<(), WriteFailed>
+        ensures { let held = slice_get (values_of self.old.actors) place in
+            let command = On name.now (BySender verb) in
+            PutsAnswer (by_holding picture_step self.old place command held)
+            (asks_by_holding picture_asks self.old command held) self.old self.new
+            (output W.contents writer.old out.old) (output W.contents writer.new out.new) result }
+    {
+        let Some((_, session)) = self.actors.get_index(place) else {
+            return out.append(writer, &Reply::Refused(Code::NotHeld));
+        };
+        quiet::by_sender(session, &mut self.desk, name, verb, out, writer)
+    }
+
+    // What the own receiver of the actor at this place does.
+    #[inline(always)]
+    fn by_receiver<W: Write>(
+        &mut self,
+        place: usize,
+        name: &NameRef<'_>,
+        verb: ReceiverVerb,
+        out: &mut WriteBuffer,
+        writer: &mut Counted<W>,
+    ) -> Result<(), WriteFailed>
+        ensures { let held = slice_get (values_of self.old.actors) place in
+            let command = On name.now (ByReceiver verb) in
+            PutsAnswer (by_holding picture_step self.old place command held)
+            (asks_by_holding picture_asks self.old command held) self.old self.new
+            (output W.contents writer.old out.old) (output W.contents writer.new out.new) result }
+    {
+        let Some((_, session)) = self.actors.get_index(place) else {
+            return out.append(writer, &Reply::Refused(Code::NotHeld));
+        };
+        quiet::by_receiver(session, &mut self.desk, name, verb, out, writer)
+    }
+
+    // Carries out any command of the actor at this place, who is gone where it has quit. That takes time with the number of
+    // actors; nothing else here does.
+    fn by_step<W: Write>(
         &mut self,
         place: usize,
         command: Command<'_>,

@@ -10,17 +10,20 @@ use std::alloc::{AllocError, Global};
 use std::collections::{BTreeMap, VecDeque};
 use std::marker::Model;
 use th_model::{Capacity, RxId, Short};
-use th_shelf::places::{add_reader, next_reader, reader_at, skip_to};
+use th_numbered::ByNumber;
+use th_shelf::places::skip_to;
 use th_shelf::{Received, Shelf, WindowParts};
 
-/// A slot for each position of the window, and an ordered map of the places.
+/// A slot for each position of the window, and the places by the receivers' numbers.
 ///
 /// `push`, `value` and the readers of a number cost a constant, `low` a logarithm of the capacity.
-/// `receive`, `take`, `jump`, `join`, `place` and `next_reader` are logarithmic in live receivers,
-/// and none of them looks at another receiver or at the window. `leave` and `join_oldest` are linear in
-/// the kept values that the receiver has still to read. `reader_at(k)` is linear in `k`. `from_window`
-/// counts the places for each kept value. All slots are made with the shelf: afterwards only `join`
-/// and `join_oldest` take memory, and a read for its clones: the last one of a value needs none.
+/// `receive`, `take`, `jump`, `place` and `next_reader` find a receiver by its number, at once where no
+/// number is missing and by halving else, and none of them looks at the window. So does `join`, which
+/// costs no more where the number is the highest, but for a list that grows; else it moves the places
+/// behind. `leave` and `join_oldest` are linear in the kept values that the receiver has still to read.
+/// `reader_at(k)` is linear in `k` and the gaps on the way. `from_window` counts the places for each kept
+/// value, and copies them. All slots are made with the shelf: afterwards only `join` and `join_oldest`
+/// take memory, and a read for its clones: the last one of a value needs none.
 #[derive(Drop)]
 pub struct RingShelf<T> {
     // The most values that are kept: a power of two, and the number of slots. It never changes.
@@ -32,7 +35,7 @@ pub struct RingShelf<T> {
     slots: Vec<Slot<T>>,
     // The position that each live receiver reads next, by its number. None is past the tail; one
     // may be behind the window, until its receiver is told so.
-    places: BTreeMap<u64, u64>,
+    places: ByNumber<u64>,
 }
 
 impl<T> Model for RingShelf<T> {
@@ -56,12 +59,7 @@ fn low_bits(position: u64, capacity: u64) -> usize
 
 // The least position of the window that a receiver has still to read, or the tail. The counts rise
 // with the position, so it is found by halving.
-fn least_awaited<T>(
-    slots: &Vec<Slot<T>>,
-    capacity: u64,
-    tail: u64,
-    places: &BTreeMap<u64, u64>,
-) -> u64
+fn least_awaited<T>(slots: &Vec<Slot<T>>, capacity: u64, tail: u64, places: &ByNumber<u64>) -> u64
     requires { IsRing capacity tail slots.now.items places.now.entries }
     ensures { result ≡ low_of tail capacity places.now.entries }
 {
@@ -188,7 +186,7 @@ impl<T: Clone> Shelf<T> for RingShelf<T> {
             capacity: in_force,
             tail: base,
             slots,
-            places: BTreeMap::new(alloc),
+            places: ByNumber::new(alloc),
         })
     }
 
@@ -201,6 +199,9 @@ impl<T: Clone> Shelf<T> for RingShelf<T> {
         let Ok(mut slots) = vacant_slots(alloc, capacity) else {
             return Err(Short { call: parts });
         };
+        let Ok(own) = ByNumber::copied_from(alloc, parts.places()) else {
+            return Err(Short { call: parts });
+        };
         let (kept, places) = parts.into_parts();
         let low = tail - kept.len() as u64;
         fill(&mut slots, capacity, low, kept, tail, &places);
@@ -208,7 +209,7 @@ impl<T: Clone> Shelf<T> for RingShelf<T> {
             capacity,
             tail,
             slots,
-            places,
+            places: own,
         })
     }
 
@@ -229,7 +230,7 @@ impl<T: Clone> Shelf<T> for RingShelf<T> {
     }
 
     fn place(&self, rx: RxId) -> Option<u64> {
-        self.places.get(&rx.0).copied()
+        self.places.get(rx.0).copied()
     }
 
     fn value(&self, position: u64) -> Option<&T> {
@@ -240,16 +241,26 @@ impl<T: Clone> Shelf<T> for RingShelf<T> {
     }
 
     fn reader_at(&self, k: u64) -> Option<(RxId, u64)> {
-        reader_at(&self.places, k)
+        match self.places.nth(k) {
+            Some((rx, place)) => Some((RxId(rx), *place)),
+            None => None,
+        }
     }
 
     fn next_reader(&self, after: Option<RxId>) -> Option<(RxId, u64)> {
-        next_reader(&self.places, after)
+        let number = match after {
+            Some(rx) => Some(rx.0),
+            None => None,
+        };
+        match self.places.next_after(number) {
+            Some((rx, place)) => Some((RxId(rx), *place)),
+            None => None,
+        }
     }
 
     // A receiver at the tail has nothing to read, so no count changes.
     fn join(&mut self, rx: RxId) -> Result<(), Short<RxId>> {
-        let Ok(()) = add_reader(&mut self.places, rx, self.tail) else {
+        let Ok(()) = self.places.insert(rx.0, self.tail) else {
             return Err(Short { call: rx });
         };
         Ok(())
@@ -260,7 +271,7 @@ impl<T: Clone> Shelf<T> for RingShelf<T> {
     fn join_oldest(&mut self, rx: RxId) -> Result<(), Short<RxId>> {
         let low = least_awaited(&self.slots, self.capacity, self.tail, &self.places);
         let _ = self.places.len();
-        let Ok(()) = add_reader(&mut self.places, rx, low) else {
+        let Ok(()) = self.places.insert(rx.0, low) else {
             return Err(Short { call: rx });
         };
         wait_from(&mut self.slots, self.capacity, low, self.tail);
@@ -268,7 +279,7 @@ impl<T: Clone> Shelf<T> for RingShelf<T> {
     }
 
     fn leave(&mut self, rx: RxId) {
-        let Some(place) = self.places.remove(&rx.0) else {
+        let Some(place) = self.places.remove(rx.0) else {
             unreachable!()
         };
         let first = place.max(self.tail.saturating_sub(self.capacity));
@@ -295,7 +306,7 @@ impl<T: Clone> Shelf<T> for RingShelf<T> {
         rx: RxId,
         wanted: bool,
     ) -> Result<(Received<T>, Option<T>), Short<RxId>> {
-        let Some(place) = self.places.get_mut(&rx.0) else {
+        let Some(place) = self.places.get_mut(rx.0) else {
             return Ok((Received::Nobody, None));
         };
         let at = *place;
@@ -315,7 +326,7 @@ impl<T: Clone> Shelf<T> for RingShelf<T> {
     }
 
     fn jump(&mut self, rx: RxId) -> u64 {
-        let Some(place) = self.places.get_mut(&rx.0) else {
+        let Some(place) = self.places.get_mut(rx.0) else {
             unreachable!()
         };
         skip_to(place, self.tail - self.capacity)

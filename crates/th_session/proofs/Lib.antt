@@ -9,3 +9,4 @@ pub mod Live
 pub mod Living
 mod Telling
 mod Running
+mod Unkept

@@ -6,5 +6,6 @@ pub mod Step
 pub mod Live
 pub mod Laws
 pub mod Answer
+pub mod Quiet
 pub mod Pieces
 pub mod Run

@@ -14,9 +14,9 @@ use crate::handles::{
 };
 use crate::session::Answer;
 use crate::table::{replied_ended, replied_none};
-use std::collections::BTreeMap;
 use th_lines::{Action, Code, Reply};
 use th_model::{Question, ReceiverVerb, SenderVerb, Start, Value};
+use th_numbered::ByNumber;
 use th_registry::channel::TopicReceipt;
 use th_registry::{Desk, Made, NoEvent, TopicId};
 
@@ -42,7 +42,7 @@ fn note(
 
 // The sender that was made is held. Where none was, new handles go again.
 fn hold_made_sender<Tx: Drop, Rx: Drop>(
-    handles: &mut BTreeMap<u64, Handles<Tx, Rx>>,
+    handles: &mut ByNumber<Handles<Tx, Rx>>,
     n: u64,
     are_new: bool,
     made: Option<Tx>,
@@ -59,7 +59,7 @@ fn hold_made_sender<Tx: Drop, Rx: Drop>(
 
 // The same of what is said of an event, of which the receipt goes on.
 fn keep_sender<Tx: Drop, Rx: Drop>(
-    handles: &mut BTreeMap<u64, Handles<Tx, Rx>>,
+    handles: &mut ByNumber<Handles<Tx, Rx>>,
     n: u64,
     are_new: bool,
     said: Result<Made<Tx>, NoEvent>,
@@ -84,7 +84,7 @@ fn keep_sender<Tx: Drop, Rx: Drop>(
 
 // The receiver that was made is held. Where none was, new handles go again.
 fn hold_made_receiver<Tx: Drop, Rx: Drop>(
-    handles: &mut BTreeMap<u64, Handles<Tx, Rx>>,
+    handles: &mut ByNumber<Handles<Tx, Rx>>,
     n: u64,
     are_new: bool,
     made: Option<Rx>,
@@ -101,7 +101,7 @@ fn hold_made_receiver<Tx: Drop, Rx: Drop>(
 
 // The same of what is said of an event, of which the receipt goes on.
 fn keep_receiver<Tx: Drop, Rx: Drop>(
-    handles: &mut BTreeMap<u64, Handles<Tx, Rx>>,
+    handles: &mut ByNumber<Handles<Tx, Rx>>,
     n: u64,
     are_new: bool,
     said: Result<Made<Rx>, NoEvent>,
@@ -126,7 +126,7 @@ fn keep_receiver<Tx: Drop, Rx: Drop>(
 
 // A new sender, by the hub's.
 fn bind<D: Desk>(
-    handles: &mut BTreeMap<u64, Handles<D::Tx, D::Rx>>,
+    handles: &mut ByNumber<Handles<D::Tx, D::Rx>>,
     receipts: &mut Vec<(TopicId, TopicReceipt)>,
     desk: &mut D,
     topic: TopicId,
@@ -151,7 +151,7 @@ fn bind<D: Desk>(
 
 // A new receiver, by the actor's own sender or else by the hub's.
 fn subscribe<D: Desk>(
-    handles: &mut BTreeMap<u64, Handles<D::Tx, D::Rx>>,
+    handles: &mut ByNumber<Handles<D::Tx, D::Rx>>,
     receipts: &mut Vec<(TopicId, TopicReceipt)>,
     desk: &mut D,
     topic: TopicId,
@@ -178,7 +178,7 @@ fn subscribe<D: Desk>(
 
 // A new receiver, where the handles are ready. What is held stays the same.
 fn subscribe_by<D: Desk>(
-    handles: &mut BTreeMap<u64, Handles<D::Tx, D::Rx>>,
+    handles: &mut ByNumber<Handles<D::Tx, D::Rx>>,
     desk: &mut D,
     topic: TopicId,
     start: Start,
@@ -191,7 +191,7 @@ fn subscribe_by<D: Desk>(
     ensures same { (handles_at handles.old.entries topic.0).sender ≡ None →
         handles.new.entries ≡ handles.old.entries }
 {
-    let Some(own) = handles.get_mut(&topic.0) else {
+    let Some(own) = handles.get_mut(topic.0) else {
         unreachable!()
     };
     desk.subscribe(topic, start, &mut own.sender)
@@ -199,7 +199,7 @@ fn subscribe_by<D: Desk>(
 
 // A question through the actor's own sender or else through the hub's.
 fn ask<D: Desk>(
-    handles: &mut BTreeMap<u64, Handles<D::Tx, D::Rx>>,
+    handles: &mut ByNumber<Handles<D::Tx, D::Rx>>,
     receipts: &mut Vec<(TopicId, TopicReceipt)>,
     desk: &mut D,
     topic: TopicId,
@@ -212,7 +212,7 @@ fn ask<D: Desk>(
     let Ok(()) = receipts.reserve(1) else {
         return Answer::Reply(Reply::Refused(Code::NoMemory));
     };
-    match handles.get_mut(&topic.0) {
+    match handles.get_mut(topic.0) {
         Some(own) => note(receipts, topic, desk.ask(topic, &mut own.sender, question)),
         None => note(receipts, topic, desk.ask(topic, &mut None, question)),
     }
@@ -221,7 +221,7 @@ fn ask<D: Desk>(
 // By the actor's own sender.
 #[inline(always)]
 fn by_sender<D: Desk>(
-    handles: &mut BTreeMap<u64, Handles<D::Tx, D::Rx>>,
+    handles: &mut ByNumber<Handles<D::Tx, D::Rx>>,
     receipts: &mut Vec<(TopicId, TopicReceipt)>,
     desk: &mut D,
     topic: TopicId,
@@ -231,7 +231,7 @@ fn by_sender<D: Desk>(
         handles.old.entries receipts.old.items desk.old
         result handles.new.entries receipts.new.items desk.new }
 {
-    let Some(own) = handles.get_mut(&topic.0) else {
+    let Some(own) = handles.get_mut(topic.0) else {
         return Answer::Reply(Reply::Refused(Code::NotHeld));
     };
     let Some(sender) = &mut own.sender else {
@@ -247,7 +247,7 @@ fn by_sender<D: Desk>(
 // By the actor's own receiver.
 #[inline(always)]
 fn by_receiver<D: Desk>(
-    handles: &mut BTreeMap<u64, Handles<D::Tx, D::Rx>>,
+    handles: &mut ByNumber<Handles<D::Tx, D::Rx>>,
     receipts: &mut Vec<(TopicId, TopicReceipt)>,
     desk: &mut D,
     topic: TopicId,
@@ -257,7 +257,7 @@ fn by_receiver<D: Desk>(
         handles.old.entries receipts.old.items desk.old
         result handles.new.entries receipts.new.items desk.new }
 {
-    let Some(own) = handles.get_mut(&topic.0) else {
+    let Some(own) = handles.get_mut(topic.0) else {
         return Answer::Reply(Reply::Refused(Code::NotHeld));
     };
     let Some(receiver) = &mut own.receiver else {
@@ -272,7 +272,7 @@ fn by_receiver<D: Desk>(
 
 // A new receiver takes the place of the actor's own, which is spent.
 fn resubscribe<D: Desk>(
-    handles: &mut BTreeMap<u64, Handles<D::Tx, D::Rx>>,
+    handles: &mut ByNumber<Handles<D::Tx, D::Rx>>,
     receipts: &mut Vec<(TopicId, TopicReceipt)>,
     desk: &mut D,
     topic: TopicId,
@@ -281,7 +281,7 @@ fn resubscribe<D: Desk>(
         handles.old.entries receipts.old.items desk.old
         result handles.new.entries receipts.new.items desk.new }
 {
-    let Some(own) = handles.get_mut(&topic.0) else {
+    let Some(own) = handles.get_mut(topic.0) else {
         return Answer::Reply(Reply::Refused(Code::NotHeld));
     };
     let Some(receiver) = &mut own.receiver else {
@@ -297,14 +297,14 @@ fn resubscribe<D: Desk>(
 
 // The last event of the actor's own sender, which is held again where there was none.
 fn unbind<D: Desk>(
-    handles: &mut BTreeMap<u64, Handles<D::Tx, D::Rx>>,
+    handles: &mut ByNumber<Handles<D::Tx, D::Rx>>,
     desk: &mut D,
     topic: TopicId,
 ) -> Reply
     ensures { Spends D.says D.tx D.rx Action.Unbind topic.0 handles.old.entries desk.old
         result handles.new.entries desk.new }
 {
-    let Some(own) = handles.get_mut(&topic.0) else {
+    let Some(own) = handles.get_mut(topic.0) else {
         return Reply::Refused(Code::NotHeld);
     };
     let Some(sender) = own.sender.take() else {
@@ -321,14 +321,14 @@ fn unbind<D: Desk>(
 
 // The last event of the actor's own receiver, which is held again where there was none.
 fn unsubscribe<D: Desk>(
-    handles: &mut BTreeMap<u64, Handles<D::Tx, D::Rx>>,
+    handles: &mut ByNumber<Handles<D::Tx, D::Rx>>,
     desk: &mut D,
     topic: TopicId,
 ) -> Reply
     ensures { Spends D.says D.tx D.rx Action.Unsubscribe topic.0 handles.old.entries desk.old
         result handles.new.entries desk.new }
 {
-    let Some(own) = handles.get_mut(&topic.0) else {
+    let Some(own) = handles.get_mut(topic.0) else {
         return Reply::Refused(Code::NotHeld);
     };
     let Some(receiver) = own.receiver.take() else {
@@ -346,7 +346,7 @@ fn unsubscribe<D: Desk>(
 // The one event of an action on a topic that is there and of its kind.
 #[inline(always)]
 pub(crate) fn act<D: Desk>(
-    handles: &mut BTreeMap<u64, Handles<D::Tx, D::Rx>>,
+    handles: &mut ByNumber<Handles<D::Tx, D::Rx>>,
     receipts: &mut Vec<(TopicId, TopicReceipt)>,
     desk: &mut D,
     topic: TopicId,

@@ -3,7 +3,7 @@ ghost use Rattle.std.specs.Prelude.{◌≡◌, List, ℕ, IfOk, OnErr, IsSome, i
 ghost use Rattle.th_session.specs.Held.{IsReady, handles_at, handles_of, with_sender, with_receiver};
 
 use std::alloc::AllocError;
-use std::collections::BTreeMap;
+use th_numbered::ByNumber;
 
 /// The handles on one topic.
 #[derive(Drop)]
@@ -13,26 +13,20 @@ pub struct Handles<Tx, Rx> {
 }
 
 // Whether a sender of topic `n` is held.
-pub(crate) fn has_sender<Tx: Drop, Rx: Drop>(
-    handles: &BTreeMap<u64, Handles<Tx, Rx>>,
-    n: u64,
-) -> bool
+pub(crate) fn has_sender<Tx: Drop, Rx: Drop>(handles: &ByNumber<Handles<Tx, Rx>>, n: u64) -> bool
     ensures { result ≡ is_some (handles_at handles.now.entries n).sender }
 {
-    match handles.get(&n) {
+    match handles.get(n) {
         Some(both) => both.sender.is_some(),
         None => false,
     }
 }
 
 // Whether a receiver of topic `n` is held.
-pub(crate) fn has_receiver<Tx: Drop, Rx: Drop>(
-    handles: &BTreeMap<u64, Handles<Tx, Rx>>,
-    n: u64,
-) -> bool
+pub(crate) fn has_receiver<Tx: Drop, Rx: Drop>(handles: &ByNumber<Handles<Tx, Rx>>, n: u64) -> bool
     ensures { result ≡ is_some (handles_at handles.now.entries n).receiver }
 {
-    match handles.get(&n) {
+    match handles.get(n) {
         Some(both) => both.receiver.is_some(),
         None => false,
     }
@@ -40,7 +34,7 @@ pub(crate) fn has_receiver<Tx: Drop, Rx: Drop>(
 
 // Handles of topic `n`, empty ones where there are none: whether they are new.
 pub(crate) fn make_ready<Tx: Drop, Rx: Drop>(
-    handles: &mut BTreeMap<u64, Handles<Tx, Rx>>,
+    handles: &mut ByNumber<Handles<Tx, Rx>>,
     n: u64,
 ) -> Result<bool, AllocError>
     ensures ready { IfOk result (λ are_new.
@@ -48,7 +42,7 @@ pub(crate) fn make_ready<Tx: Drop, Rx: Drop>(
     ensures there { IfOk result (λ are_new. IsSome (handles_of handles.new.entries n)) }
     ensures refused { OnErr result (handles.new.entries ≡ handles.old.entries) }
 {
-    if handles.contains_key(&n) {
+    if handles.get(n).is_some() {
         return Ok(false);
     }
     let empty = Handles {
@@ -63,7 +57,7 @@ pub(crate) fn make_ready<Tx: Drop, Rx: Drop>(
 
 // Takes new handles of topic `n` out again.
 pub(crate) fn take_back<Tx: Drop, Rx: Drop>(
-    handles: &mut BTreeMap<u64, Handles<Tx, Rx>>,
+    handles: &mut ByNumber<Handles<Tx, Rx>>,
     n: u64,
     are_new: bool,
 )
@@ -71,34 +65,34 @@ pub(crate) fn take_back<Tx: Drop, Rx: Drop>(
         handles.new.entries ≡ h }
 {
     if are_new {
-        let _ = handles.remove(&n);
+        let _ = handles.remove(n);
     }
 }
 
 // Holds the sender at topic `n`.
 pub(crate) fn hold_sender<Tx: Drop, Rx: Drop>(
-    handles: &mut BTreeMap<u64, Handles<Tx, Rx>>,
+    handles: &mut ByNumber<Handles<Tx, Rx>>,
     n: u64,
     sender: Tx,
 )
     requires { IsSome (handles_of handles.old.entries n) }
     ensures { handles.new.entries ≡ with_sender handles.old.entries n sender }
 {
-    if let Some(both) = handles.get_mut(&n) {
+    if let Some(both) = handles.get_mut(n) {
         both.sender = Some(sender);
     }
 }
 
 // Holds the receiver at topic `n`.
 pub(crate) fn hold_receiver<Tx: Drop, Rx: Drop>(
-    handles: &mut BTreeMap<u64, Handles<Tx, Rx>>,
+    handles: &mut ByNumber<Handles<Tx, Rx>>,
     n: u64,
     receiver: Rx,
 )
     requires { IsSome (handles_of handles.old.entries n) }
     ensures { handles.new.entries ≡ with_receiver handles.old.entries n receiver }
 {
-    if let Some(both) = handles.get_mut(&n) {
+    if let Some(both) = handles.get_mut(n) {
         both.receiver = Some(receiver);
     }
 }

@@ -26,6 +26,7 @@ pub mod handles;
 mod keeping;
 pub mod laws;
 pub mod local;
+pub mod quiet;
 mod quit;
 mod replies;
 mod run;

@@ -5,8 +5,8 @@ ghost use Rattle.th_session.specs.Held.{Holding, held, numbers};
 ghost use Rattle.th_session.specs.Script.{Answer, Plays, Replied, Script, spend_all, spend_receiver, spend_sender};
 
 use crate::handles::Handles;
-use std::collections::BTreeMap;
 use th_lines::Reply;
+use th_numbered::ByNumber;
 use th_registry::{Desk, TopicId};
 
 // The last event of a sender, if there is one.
@@ -46,7 +46,7 @@ fn leave<D: Desk>(desk: &mut D, topic: TopicId, handles: Handles<D::Tx, D::Rx>)
 }
 
 // Spends each handle, topics in order of opening, whatever is said of it.
-pub(crate) fn quit<D: Desk>(handles: &mut BTreeMap<u64, Handles<D::Tx, D::Rx>>, desk: &mut D)
+pub(crate) fn quit<D: Desk>(handles: &mut ByNumber<Handles<D::Tx, D::Rx>>, desk: &mut D)
     ensures spent { Plays D.says (spend_all (held D.tx D.rx handles.old.entries)) desk.old
         (Replied Reply.Bye) [] desk.new }
     ensures none { handles.new.entries ≡ [] }

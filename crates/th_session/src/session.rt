@@ -1,7 +1,8 @@
 //! One actor, and its commands carried out.
 ghost use Rattle.std.specs.Prelude.{◌≡◌, [], option_copied};
+ghost use Rattle.std.specs.Option.{option_map};
 ghost use Rattle.th_registry.specs.Hub.{Find};
-ghost use Rattle.th_session.specs.Held.{Holding, held};
+ghost use Rattle.th_session.specs.Held.{Holding, handles_at, held};
 ghost use Rattle.th_session.specs.Kept.{Tells, kept_by, last_of, with_receipt, with_segment};
 ghost use Rattle.th_session.specs.Script.{Ask, Plays, Replied, at_topic, spend_all, traced};
 ghost use Rattle.th_session.specs.Step.{IsStep};
@@ -12,10 +13,10 @@ use crate::keeping::Keeping;
 use crate::quit::quit;
 use crate::table::{is_for, replied_list, replied_none, replied_opening};
 use std::alloc::Global;
-use std::collections::BTreeMap;
 use std::marker::Model;
 use th_lines::{Action, Code, Command, Reply};
 use th_model::NameRef;
+use th_numbered::ByNumber;
 use th_registry::channel::{TopicReceipt, TopicSegment};
 use th_registry::{Desk, TopicId};
 
@@ -38,7 +39,7 @@ pub enum Answer {
 #[derive(Drop)]
 pub struct Session<D: Desk> {
     // What is held, by the numbers of the topics.
-    handles: BTreeMap<u64, Handles<D::Tx, D::Rx>>,
+    handles: ByNumber<Handles<D::Tx, D::Rx>>,
     // In the order of the answers, of all topics: so a receipt costs no look-up.
     receipts: Vec<(TopicId, TopicReceipt)>,
     // In the order of the answers.
@@ -61,7 +62,7 @@ impl<D: Desk> Model for Session<D> {
 // An action on the topic of this name.
 #[inline(always)]
 fn on_topic<D: Desk>(
-    handles: &mut BTreeMap<u64, Handles<D::Tx, D::Rx>>,
+    handles: &mut ByNumber<Handles<D::Tx, D::Rx>>,
     receipts: &mut Vec<(TopicId, TopicReceipt)>,
     desk: &mut D,
     name: &NameRef<'_>,
@@ -109,7 +110,7 @@ fn trace<D: Desk>(
 // Of so many next calls by the actor's own receiver of this topic, how many have their answer now: all, where there is no
 // such receiver.
 fn ready<D: Desk>(
-    handles: &mut BTreeMap<u64, Handles<D::Tx, D::Rx>>,
+    handles: &mut ByNumber<Handles<D::Tx, D::Rx>>,
     desk: &mut D,
     topic: TopicId,
     most: usize,
@@ -117,7 +118,7 @@ fn ready<D: Desk>(
     ensures held { held D.tx D.rx handles.new.entries ≡ held D.tx D.rx handles.old.entries }
     ensures desk { desk.new ≡ desk.old }
 {
-    let Some(own) = handles.get_mut(&topic.0) else {
+    let Some(own) = handles.get_mut(topic.0) else {
         return most;
     };
     let Some(receiver) = &mut own.receiver else {
@@ -132,7 +133,7 @@ impl<D: Desk> Session<D> {
         ensures { result ≡ record { handles = []; receipts = []; segments = [] } }
     {
         Session {
-            handles: BTreeMap::new(alloc),
+            handles: ByNumber::new(alloc),
             receipts: Vec::new(alloc),
             segments: Vec::new(alloc),
         }
@@ -173,6 +174,30 @@ impl<D: Desk> Session<D> {
         }
     }
 
+    // The actor's own sender of this topic.
+    #[inline(always)]
+    pub(crate) fn sender_of(&self, topic: TopicId) -> Option<&D::Tx>
+        ensures { option_map D.tx (option_copied result)
+            ≡ (handles_at self.now.handles topic.0).sender }
+    {
+        match self.handles.get(topic.0) {
+            Some(own) => own.sender.as_ref(),
+            None => None,
+        }
+    }
+
+    // The actor's own receiver of this topic.
+    #[inline(always)]
+    pub(crate) fn receiver_of(&self, topic: TopicId) -> Option<&D::Rx>
+        ensures { option_map D.rx (option_copied result)
+            ≡ (handles_at self.now.handles topic.0).receiver }
+    {
+        match self.handles.get(topic.0) {
+            Some(own) => own.receiver.as_ref(),
+            None => None,
+        }
+    }
+
     /// Carries out a command: of all that the desk said, in its order, the answer is the hub's, and so is what the
     /// actor holds afterwards. The first refusal that holds is the reply. Where there is no room for a new handle, a
     /// receipt or a segment, the reply is `NoMemory`, the hub is not asked for it and nothing has changed. A handle that is
@@ -180,8 +205,8 @@ impl<D: Desk> Session<D> {
     /// others, and so is a segment that is answered.
     ///
     /// It costs one look-up of the topic's name, and a few of what is held on it, each at most the logarithm of the
-    /// number of topics of which the actor once held a handle. Only a new handle, a segment, and what the desk does,
-    /// takes memory.
+    /// number of topics of which the actor once held a handle. A new handle moves the entries of those topics that were
+    /// opened later. Only a new handle, a segment, and what the desk does, takes memory.
     #[inline(always)]
     pub fn step(&mut self, desk: &mut D, command: Command<'_>) -> Answer
         ensures { Tells result (λ answer.

@@ -1,6 +1,9 @@
 //! What a topic replied to an event, put behind what waits as the receipt has it.
+ghost use Rattle.std.specs.Prelude.{◌≡◌, Some};
 ghost use Rattle.th_lines.specs.Output.{AddsOrFails, output};
 ghost use Rattle.th_lines.specs.Replies.{spell};
+ghost use Rattle.th_registry.specs.Events.{ChannelReply};
+ghost use Rattle.th_registry.specs.Keeping.{last_told};
 ghost use Rattle.th_registry.specs.Receipts.{reply_in};
 ghost use Rattle.th_session.specs.Table.{replied_broadcast, replied_channel, replied_watch};
 
@@ -8,7 +11,7 @@ use std::io::Write;
 use th_lines::{Code, Counted, Reply, ValueWord, WriteBuffer, WriteFailed};
 use th_model::{BReply, Value, WReply};
 use th_registry::Channel;
-use th_registry::channel::TopicReceipt;
+use th_registry::channel::{LocalChannel, TopicReceipt};
 
 // The reply of a broadcast channel. A value stays where it is.
 #[inline(always)]
@@ -86,5 +89,28 @@ pub(crate) fn append_told<W: Write>(
     match receipt {
         Channel::Broadcast(receipt) => append_broadcast(receipt.reply(), out, writer),
         Channel::Watch(receipt) => append_watch(receipt.reply(), out, writer),
+    }
+}
+
+/// What the topic replied to its last event.
+#[inline(always)]
+pub(crate) fn append_last<W: Write>(
+    channel: &LocalChannel,
+    out: &mut WriteBuffer,
+    writer: &mut Counted<W>,
+) -> Result<(), WriteFailed>
+    ensures { (reply : ChannelReply) → last_told channel.now ≡ Some reply →
+        AddsOrFails (spell (replied_channel reply))
+        (output W.contents writer.old out.old) (output W.contents writer.new out.new) result }
+{
+    match channel {
+        Channel::Broadcast(channel) => match channel.last_reply() {
+            Some(reply) => append_broadcast(reply, out, writer),
+            None => Ok(()),
+        },
+        Channel::Watch(channel) => match channel.last_reply() {
+            Some(reply) => append_watch(reply, out, writer),
+            None => Ok(()),
+        },
     }
 }

@@ -28,7 +28,7 @@ returns-in-Some g c =
     let kept = sender-seen g.D.Desk.tx g.D.Desk.rx c.in-Some.own.now c.ask.new.sender c.ask.ensures.sender in
     let same = held-set g.D.Desk.tx g.D.Desk.rx c.args.handles.now.entries _ c.args.topic.0 c.in-Some.own.now _
     (sym c.in-Some.ensures.value)
-    (c.get_mut.follows.holds (record { sender = c.ask.new.sender; receiver = c.in-Some.own.now.receiver })).0 kept in
+    refl kept in
     let answer = answered c.args.topic.0 (replied c.ask.result) in (
       answer,
       c.note.ensures.0,
@@ -50,7 +50,7 @@ returns-in-None g c =
       (
         plays-by g.D.Desk.says (Actions.Ask c.args.question) c.args.topic.0 _ _ (replied c.ask-in-None.result) _ _ refl
             (said-by g.D.Desk.says event c.args.topic.0 _ _ _ _ _ lacks c.ask-in-None.ensures.event) refl
-            (ap (λ m. held g.D.Desk.tx g.D.Desk.rx m.entries) c.get_mut.follows.holds-at-none),
+            refl,
         c.note-in-None.ensures.1 ∙ ap (λ l. with_receipt l answer) c.reserve.ensures.items,
       ),
     )

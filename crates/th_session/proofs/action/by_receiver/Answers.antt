@@ -21,7 +21,7 @@ returns-in_default g c =
       (
         plays-not g.D.Desk.says (ByReceiver c.args.verb) c.args.topic.0 _ _ _
             (receiver-out g.D.Desk.tx g.D.Desk.rx event c.args.handles.now.entries c.args.topic.0 (sym c.in_default.ensures.value))
-            (ap (λ m. held g.D.Desk.tx g.D.Desk.rx m.entries) c.get_mut.follows.holds-at-none),
+            refl,
         refl,
       ),
     )
@@ -36,7 +36,7 @@ returns-in_default-receiver g c =
         plays-not g.D.Desk.says (ByReceiver c.args.verb) c.args.topic.0 _ _ _
             (receiver-lacks g.D.Desk.tx g.D.Desk.rx event c.args.handles.now.entries c.args.topic.0 _ at c.in_default-receiver.is)
             (held-set g.D.Desk.tx g.D.Desk.rx c.args.handles.now.entries _ c.args.topic.0 c.in-Some.own.now _ at
-            (c.get_mut.follows.holds c.in-Some.own.now).0 refl),
+            refl refl),
         refl,
       ),
     )
@@ -53,7 +53,7 @@ returns-in_default-reserve g c =
         no-room g.D.Desk.says c.args.topic.0 _ _ _ (ByReceiver c.args.verb) (λ s. refl)
             (receiver-own g.D.Desk.tx g.D.Desk.rx event c.args.handles.now.entries c.args.topic.0 _ _ at holds)
             (held-set g.D.Desk.tx g.D.Desk.rx c.args.handles.now.entries _ c.args.topic.0 c.in-Some.own.now _ at
-            (c.get_mut.follows.holds (record { sender = c.in-Some.own.now.sender; receiver = Some c.in-Some-receiver.receiver })).0
+            refl
             kept),
         c.reserve.ensures.items,
       ),
@@ -74,7 +74,7 @@ returns g c =
             (receiver-own g.D.Desk.tx g.D.Desk.rx event c.args.handles.now.entries c.args.topic.0 _ _ at holds)
             c.by_receiver-told.ensures.event refl
             (held-set g.D.Desk.tx g.D.Desk.rx c.args.handles.now.entries _ c.args.topic.0 c.in-Some.own.now _ at
-            (c.get_mut.follows.holds (record { sender = c.in-Some.own.now.sender; receiver = Some c.by_receiver-told.new.receiver })).0
+            refl
             kept),
         c.note.ensures.1 ∙ ap (λ l. with_receipt l answer) c.reserve.ensures.items,
       ),

@@ -9,7 +9,7 @@ use Rattle.th_session.specs.Script.{Replied, answered}
 use Rattle.th_registry.specs.Typed.{replied}
 use Rattle.th_session.specs.Held.{held}
 use Rattle.th_session.proofs.Rooms.{no-room}
-use Rattle.th_session.proofs.HoldLemmas.{held-set, receiver-kept}
+use Rattle.th_session.proofs.HoldLemmas.{held-set, receiver-kept, there-set}
 use Rattle.th_session.proofs.Playing.{receiver-out, receiver-lacks, receiver-own, plays-not, plays-resubscribe}
 use Rattle.th_session.proofs.action.resubscribe.Goals as goal
 
@@ -23,7 +23,7 @@ returns-in_default g c = (
   (
     plays-not g.D.Desk.says Actions.Resubscribe c.args.topic.0 _ _ _
         (receiver-out g.D.Desk.tx g.D.Desk.rx event c.args.handles.now.entries c.args.topic.0 (sym c.in_default.ensures.value))
-        (ap (λ m. held g.D.Desk.tx g.D.Desk.rx m.entries) c.get_mut.follows.holds-at-none),
+        refl,
     refl,
   ),
 )
@@ -37,7 +37,7 @@ returns-in_default-receiver g c =
         plays-not g.D.Desk.says Actions.Resubscribe c.args.topic.0 _ _ _
             (receiver-lacks g.D.Desk.tx g.D.Desk.rx event c.args.handles.now.entries c.args.topic.0 _ at c.in_default-receiver.is)
             (held-set g.D.Desk.tx g.D.Desk.rx c.args.handles.now.entries _ c.args.topic.0 c.in-Some.own.now _ at
-            (c.get_mut.follows.holds c.in-Some.own.now).0 refl),
+            refl refl),
         refl,
       ),
     )
@@ -53,7 +53,7 @@ returns-in_default-reserve g c =
         no-room g.D.Desk.says c.args.topic.0 _ _ _ Actions.Resubscribe (λ s. refl)
             (receiver-own g.D.Desk.tx g.D.Desk.rx event c.args.handles.now.entries c.args.topic.0 _ _ at holds)
             (held-set g.D.Desk.tx g.D.Desk.rx c.args.handles.now.entries _ c.args.topic.0 c.in-Some.own.now _ at
-            (c.get_mut.follows.holds (record { sender = c.in-Some.own.now.sender; receiver = Some c.in-Some-receiver.receiver })).0
+            refl
             kept),
         c.reserve.ensures.items,
       ),
@@ -75,8 +75,13 @@ returns g c =
             (ap (λ told. answered c.args.topic.0 (replied told)) c.keep_receiver-told.ensures.told)
             (c.keep_receiver-told.ensures.kept _ refl)
             (held-set g.D.Desk.tx g.D.Desk.rx c.args.handles.now.entries _ c.args.topic.0 c.in-Some.own.now _ at
-            (c.get_mut.follows.holds (record { sender = c.in-Some.own.now.sender; receiver = Some c.resubscribe-said.new.receiver })).0
+            refl
             kept),
         c.note.ensures.1 ∙ ap (λ l. with_receipt l answer) c.reserve.ensures.items,
       ),
     )
+
+pub keep_receiver-told-requires : goal.keep_receiver-told-requires
+keep_receiver-told-requires g c =
+    let there = sym c.in-Some.ensures.value in
+    there-set c.args.handles.now.entries _ c.args.topic.0 c.in-Some.own.now _ there refl

@@ -1,4 +1,4 @@
-use Rattle.std.proofs.Common.{Option, sym, ap, ◌∙◌}
+use Rattle.std.proofs.Common.{Option, refl, sym, ap, ◌∙◌}
 use Rattle.std.specs.Ordering.{nat_cmp}
 use Rattle.std.specs.Map.{set_value}
 use Rattle.std.specs.BTreeMap.{is_at}
@@ -20,13 +20,12 @@ pub returns-clause-held : goal.returns-clause-held
 returns-clause-held g c =
     let kept = sender-seen g.D.Desk.tx g.D.Desk.rx c.in-Some.own.now c.subscribe.new.sender c.subscribe.ensures.sender in
     held-set g.D.Desk.tx g.D.Desk.rx c.args.handles.now.entries _ c.args.topic.0 c.in-Some.own.now _ (sym c.in-Some.ensures.value)
-    (c.get_mut.follows.holds (record { sender = c.subscribe.new.sender; receiver = c.in-Some.own.now.receiver })).0 kept
+    refl kept
 
 pub returns-clause-same : goal.returns-clause-same
 returns-clause-same g c = λ lacks.
     let at = at-in c.args.handles.now.entries c.args.topic.0 _ (sym c.in-Some.ensures.value) in
     let none = sym (ap (λ s. s.sender) at) ∙ lacks in
     let still = sender-still-none g.D.Desk.tx g.D.Desk.rx c.in-Some.own.now c.subscribe.new.sender c.subscribe.ensures.sender none in
-    (c.get_mut.follows.holds (record { sender = c.subscribe.new.sender; receiver = c.in-Some.own.now.receiver })).0
-    ∙ ap (set_value (is_at (nat_cmp c.args.topic.0)) c.args.handles.now.entries) still
+    ap (set_value (is_at (nat_cmp c.args.topic.0)) c.args.handles.now.entries) still
     ∙ set_value_same _ c.args.handles.now.entries c.in-Some.own.now (sym c.in-Some.ensures.value)

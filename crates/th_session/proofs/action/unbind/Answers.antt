@@ -14,7 +14,7 @@ returns-in_default g c =
     let event : TxId → Event = λ (t : TxId). DropsTx (Own t) in
     plays-not g.D.Desk.says Unbind c.args.topic.0 _ _ _
     (sender-out g.D.Desk.tx g.D.Desk.rx event c.args.handles.now.entries c.args.topic.0 (sym c.in_default.ensures.value))
-    (ap (λ m. held g.D.Desk.tx g.D.Desk.rx m.entries) c.get_mut.follows.holds-at-none)
+    refl
 
 pub returns-in_default-take : goal.returns-in_default-take
 returns-in_default-take g c =
@@ -25,7 +25,7 @@ returns-in_default-take g c =
     (c.take.ensures.after ∙ sym lacks) in
     plays-not g.D.Desk.says Unbind c.args.topic.0 _ _ _
     (sender-lacks g.D.Desk.tx g.D.Desk.rx event c.args.handles.now.entries c.args.topic.0 _ at lacks)
-    (held-set g.D.Desk.tx g.D.Desk.rx c.args.handles.now.entries _ c.args.topic.0 c.in-Some.own.now _ at (c.get_mut.follows.holds _).0 same)
+    (held-set g.D.Desk.tx g.D.Desk.rx c.args.handles.now.entries _ c.args.topic.0 c.in-Some.own.now _ at refl same)
 
 pub returns-in-Ok : goal.returns-in-Ok
 returns-in-Ok g c =
@@ -36,7 +36,7 @@ returns-in-Ok g c =
     plays-by g.D.Desk.says Unbind c.args.topic.0 _ _ (Ok Ended, None) _ _
     (sender-own g.D.Desk.tx g.D.Desk.rx event c.args.handles.now.entries c.args.topic.0 _ _ at holds) c.in-Ok.ensures.event refl
     (sender-gone g.D.Desk.tx g.D.Desk.rx c.args.handles.now.entries _ c.args.topic.0 c.in-Some.own.now _ c.get_mut.ensures.ordered at
-    (c.get_mut.follows.holds _).0 gone)
+    refl gone)
 
 pub returns-in-Err : goal.returns-in-Err
 returns-in-Err g c =
@@ -48,4 +48,4 @@ returns-in-Err g c =
     (sender-own g.D.Desk.tx g.D.Desk.rx event c.args.handles.now.entries c.args.topic.0 _ _ at holds) c.in-Err.ensures.event
     (ap (λ reply. answers.Replied reply) c.replied_none.ensures)
     (held-set g.D.Desk.tx g.D.Desk.rx c.args.handles.now.entries _ c.args.topic.0 c.in-Some.own.now _ at
-    (c.get_mut.follows.holds (record { sender = Some c.in-Err.unspent.handle; receiver = c.in-Some.own.now.receiver })).0 kept)
+    refl kept)

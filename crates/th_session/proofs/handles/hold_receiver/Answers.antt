@@ -4,6 +4,5 @@ use Rattle.th_session.proofs.handles.hold_receiver.Goals as goal
 
 pub returns-in-Some : goal.returns-in-Some
 returns-in-Some g c =
-    (c.get_mut.follows.holds (record { sender = c.in-Some.both.now.sender; receiver = Some c.args.receiver })).0
-    ∙ receiver-some c.args.handles.now.entries c.args.n c.in-Some.both.now c.args.receiver c.get_mut.ensures.ordered
+    receiver-some c.args.handles.now.entries c.args.n c.in-Some.both.now c.args.receiver c.get_mut.ensures.ordered
     (sym c.in-Some.ensures.value)

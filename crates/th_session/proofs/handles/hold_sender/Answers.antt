@@ -4,6 +4,5 @@ use Rattle.th_session.proofs.handles.hold_sender.Goals as goal
 
 pub returns-in-Some : goal.returns-in-Some
 returns-in-Some g c =
-    (c.get_mut.follows.holds (record { sender = Some c.args.sender; receiver = c.in-Some.both.now.receiver })).0
-    ∙ sender-some c.args.handles.now.entries c.args.n c.in-Some.both.now c.args.sender c.get_mut.ensures.ordered
+    sender-some c.args.handles.now.entries c.args.n c.in-Some.both.now c.args.sender c.get_mut.ensures.ordered
     (sym c.in-Some.ensures.value)

@@ -1,4 +1,4 @@
-use Rattle.std.proofs.Common.{◌≡◌, ◌-◌, length, ap, arith}
+use Rattle.std.proofs.Common.{◌≡◌, ◌-◌, length, sym, ap, ◌∙◌, arith}
 use Rattle.th_ring.proofs.Counts.{low_of-ge}
 use Rattle.th_ring.proofs.Calls.{ring_of_parts, window_of_parts}
 use Rattle.th_ring.proofs.ring.RingShelfShelf.from_window.Goals as goal
@@ -14,7 +14,8 @@ invariant_of-result g c =
     let kept = c.into_parts-kept.ensures.kept in
     let low : c.tail-tail.result - c.len.result ≡ c.args.parts.low =
     omega (arith, w.kept, c.tail-tail.ensures.tail, c.len.ensures, ap length kept) in
-    ring_of_parts c.args.parts w _ _ _ _ _ c.capacity-capacity.ensures c.tail-tail.ensures.tail low kept c.into_parts-kept.ensures.places c.in-Ok.slots.items c.fill.new.slots.items c.in-Ok.ensures c.fill.ensures.size c.fill.ensures.filled c.fill.ensures.others
+    let same : c.into_parts-kept.result.1.entries ≡ c.in-Ok-copied_from.own.entries = c.into_parts-kept.ensures.places ∙ sym (c.in-Ok-copied_from.ensures ∙ c.places.ensures) in
+    rw (← same) (ring_of_parts c.args.parts w _ _ _ _ _ c.capacity-capacity.ensures c.tail-tail.ensures.tail low kept c.into_parts-kept.ensures.places c.in-Ok.slots.items c.fill.new.slots.items c.in-Ok.ensures c.fill.ensures.size c.fill.ensures.filled c.fill.ensures.others)
 
 pub returns-clause-ok : goal.returns-clause-ok
 returns-clause-ok g c =
@@ -22,4 +23,5 @@ returns-clause-ok g c =
     let kept = c.into_parts-kept.ensures.kept in
     let low : c.tail-tail.result - c.len.result ≡ c.args.parts.low =
     omega (arith, w.kept, c.tail-tail.ensures.tail, c.len.ensures, ap length kept) in
-    window_of_parts c.args.parts w _ _ _ _ _ c.capacity-capacity.ensures c.tail-tail.ensures.tail low kept c.into_parts-kept.ensures.places c.in-Ok.slots.items c.fill.new.slots.items c.in-Ok.ensures c.fill.ensures.size c.fill.ensures.filled c.fill.ensures.others
+    let same : c.into_parts-kept.result.1.entries ≡ c.in-Ok-copied_from.own.entries = c.into_parts-kept.ensures.places ∙ sym (c.in-Ok-copied_from.ensures ∙ c.places.ensures) in
+    rw (← same) (window_of_parts c.args.parts w _ _ _ _ _ c.capacity-capacity.ensures c.tail-tail.ensures.tail low kept c.into_parts-kept.ensures.places c.in-Ok.slots.items c.fill.new.slots.items c.in-Ok.ensures c.fill.ensures.size c.fill.ensures.filled c.fill.ensures.others)

@@ -13,14 +13,14 @@ pub invariant_of-self-then-at-self : goal.invariant_of-self-then-at-self
 invariant_of-self-then-at-self g c =
     let ps : Places = c.self.inside.places.entries in
     let here : place_of ps c.args.rx.0 ≡ Some c.in-Some.place.now = sym c.in-Some.ensures.value in
-    let same = (c.get_mut.follows.holds c.in-Some.place.now).0 ∙ set_value_same (is_at (nat_cmp c.args.rx.0)) ps c.in-Some.place.now here in
+    let same = set_value_same (is_at (nat_cmp c.args.rx.0)) ps c.in-Some.place.now here in
     rw same c.self.invariant
 
 pub returns-then-at-self-clause-ok : goal.returns-then-at-self-clause-ok
 returns-then-at-self-clause-ok g c =
     let ps : Places = c.self.inside.places.entries in
     let here : place_of ps c.args.rx.0 ≡ Some c.in-Some.place.now = sym c.in-Some.ensures.value in
-    let same = (c.get_mut.follows.holds c.in-Some.place.now).0 ∙ set_value_same (is_at (nat_cmp c.args.rx.0)) ps c.in-Some.place.now here in
+    let same = set_value_same (is_at (nat_cmp c.args.rx.0)) ps c.in-Some.place.now here in
     rw (← c.self.view_is, same) (here ∙ ap (λ k. Some k) c.if-at-self.true, refl)
 
 pub invariant_of-self-then-at-first : goal.invariant_of-self-then-at-first
@@ -28,7 +28,7 @@ invariant_of-self-then-at-first g c =
     let ps : Places = c.self.inside.places.entries in
     let here : place_of ps c.args.rx.0 ≡ Some c.in-Some.place.now = sym c.in-Some.ensures.value in
     let rising = rising_from_sorted _ c.get_mut.ensures.ordered in
-    let moved = (c.get_mut.follows.holds c.skip_to.new.place).0 ∙ set_value-with ps c.args.rx.0 _ c.skip_to.new.place rising here in
+    let moved = set_value-with ps c.args.rx.0 _ c.skip_to.new.place rising here in
     let first = c.skip_to.ensures.moved ∙ c.saturating_sub-first.ensures in
     let behind : c.in-Some.place.now < c.self.inside.tail - c.self.inside.capacity = omega (arith, c.if-at-first.true, c.saturating_sub-first.ensures) in
     rw (moved, first) (ring_jumped c.self.inside.capacity c.self.inside.tail c.self.inside.slots.items c.self.inside.places.entries c.self.invariant c.args.rx.0 _ rising here behind)
@@ -38,7 +38,7 @@ returns-then-at-first-clause-ok g c =
     let ps : Places = c.self.inside.places.entries in
     let here : place_of ps c.args.rx.0 ≡ Some c.in-Some.place.now = sym c.in-Some.ensures.value in
     let rising = rising_from_sorted _ c.get_mut.ensures.ordered in
-    let moved = (c.get_mut.follows.holds c.skip_to.new.place).0 ∙ set_value-with ps c.args.rx.0 _ c.skip_to.new.place rising here in
+    let moved = set_value-with ps c.args.rx.0 _ c.skip_to.new.place rising here in
     let first = c.skip_to.ensures.moved ∙ c.saturating_sub-first.ensures in
     let behind : c.in-Some.place.now < c.self.inside.tail - c.self.inside.capacity = omega (arith, c.if-at-first.true, c.saturating_sub-first.ensures) in
     rw (← c.self.view_is, moved, first) (record {
@@ -73,7 +73,7 @@ pub invariant_of-self-in_default-read : goal.invariant_of-self-in_default-read
 invariant_of-self-in_default-read g c =
     let ps : Places = c.self.inside.places.entries in
     let here : place_of ps c.args.rx.0 ≡ Some c.in-Some.place.now = sym c.in-Some.ensures.value in
-    let same = (c.get_mut.follows.holds c.in-Some.place.now).0 ∙ set_value_same (is_at (nat_cmp c.args.rx.0)) ps c.in-Some.place.now here in
+    let same = set_value_same (is_at (nat_cmp c.args.rx.0)) ps c.in-Some.place.now here in
     let slots : set c.self.inside.slots.items c.low_bits-index.result c.read.new.slot ≡ c.self.inside.slots.items = ap (set c.self.inside.slots.items c.low_bits-index.result) (c.in_default-read.ensures.short ∙ c.index_mut.ensures.value) ∙ set-get_or c.self.inside.slots.items c.low_bits-index.result c.index_mut.result.now in
     rw (same, slots) c.self.invariant
 
@@ -81,7 +81,7 @@ pub returns-in_default-read-clause-short : goal.returns-in_default-read-clause-s
 returns-in_default-read-clause-short g c =
     let ps : Places = c.self.inside.places.entries in
     let here : place_of ps c.args.rx.0 ≡ Some c.in-Some.place.now = sym c.in-Some.ensures.value in
-    let same = (c.get_mut.follows.holds c.in-Some.place.now).0 ∙ set_value_same (is_at (nat_cmp c.args.rx.0)) ps c.in-Some.place.now here in
+    let same = set_value_same (is_at (nat_cmp c.args.rx.0)) ps c.in-Some.place.now here in
     let slots : set c.self.inside.slots.items c.low_bits-index.result c.read.new.slot ≡ c.self.inside.slots.items = ap (set c.self.inside.slots.items c.low_bits-index.result) (c.in_default-read.ensures.short ∙ c.index_mut.ensures.value) ∙ set-get_or c.self.inside.slots.items c.low_bits-index.result c.index_mut.result.now in
     (refl, rw (← c.self.view_is, same, slots) refl)
 
@@ -102,7 +102,7 @@ invariant_of-self-2 g c =
     let before : c.in-Some.place.now < c.self.inside.tail = omega (arith, le, c.if-at-self.false) in
     let inside : c.self.inside.tail - c.self.inside.capacity ≤ c.in-Some.place.now = omega (arith, c.if-at-first.false, c.saturating_sub-first.ensures) in
     let rising = rising_from_sorted _ c.get_mut.ensures.ordered in
-    let moved = (c.get_mut.follows.holds (c.in-Some.place.now + 1)).0 ∙ set_value-with ps c.args.rx.0 _ (c.in-Some.place.now + 1) rising here in
+    let moved = set_value-with ps c.args.rx.0 _ (c.in-Some.place.now + 1) rising here in
     let slots = slots_are c.self.inside.capacity c.self.inside.slots.items c.self.invariant.size c.self.invariant.is_capacity.1 c.in-Some.place.now c.low_bits-index.result c.low_bits-index.ensures c.index_mut.result.now c.read.new.slot c.index_mut.ensures.value c.in-Ok.ensures.ok in
     rw moved (ring_taken c.self.inside.capacity c.self.inside.tail c.self.inside.slots.items c.self.inside.places.entries c.self.invariant c.args.rx.0 c.in-Some.place.now rising here inside before _ slots)
 
@@ -115,7 +115,7 @@ returns-clause-ok g c =
     let inside : c.self.inside.tail - c.self.inside.capacity ≤ c.in-Some.place.now = omega (arith, c.if-at-first.false, c.saturating_sub-first.ensures) in
     let item = slot_is c.self.inside.capacity c.self.inside.slots.items c.self.invariant.size c.self.invariant.is_capacity.1 c.in-Some.place.now c.low_bits-index.result c.low_bits-index.ensures c.index_mut.result.now c.index_mut.ensures.value in
     let rising = rising_from_sorted _ c.get_mut.ensures.ordered in
-    let moved = (c.get_mut.follows.holds (c.in-Some.place.now + 1)).0 ∙ set_value-with ps c.args.rx.0 _ (c.in-Some.place.now + 1) rising here in
+    let moved = set_value-with ps c.args.rx.0 _ (c.in-Some.place.now + 1) rising here in
     let slots = slots_are c.self.inside.capacity c.self.inside.slots.items c.self.invariant.size c.self.invariant.is_capacity.1 c.in-Some.place.now c.low_bits-index.result c.low_bits-index.ensures c.index_mut.result.now c.read.new.slot c.index_mut.ensures.value c.in-Ok.ensures.ok in
     rw (← c.self.view_is, moved) (record {
       at = c.in-Some.place.now;

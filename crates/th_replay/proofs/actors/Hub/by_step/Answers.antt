@@ -14,7 +14,7 @@ use Rattle.th_replay.specs.Schedule.{Actors, Hub, PutsAnswer, asks_by_holding, b
 use Rattle.th_replay.proofs.Holdings.{at-held, handles, set-held}
 use Rattle.th_replay.proofs.Orders.{goes_on, gone, lacks, stays}
 use Rattle.th_replay.proofs.Steps.{ends_so, keeps, only_replies_quit, told_reply}
-use Rattle.th_replay.proofs.actors.Hub.carry_out.Goals as goal
+use Rattle.th_replay.proofs.actors.Hub.by_step.Goals as goal
 
 pub returns-in_default : goal.returns-in_default
 returns-in_default g c =

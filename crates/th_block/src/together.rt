@@ -1,0 +1,104 @@
+//! Calls of a handle that are made together, under one lock.
+ghost use Rattle.std.specs.Prelude.{◌≡◌, ◌<◌, All, OnOk, Some};
+ghost use Rattle.th_block.specs.Together.{MakesEach, StopsAt, TakesMany};
+
+use crate::handle::Handle;
+use crate::queued::{Calls, Queued};
+use crate::ready::{each_ready, many_ready, see_all};
+use crate::side::Side;
+use std::collections::VecDeque;
+use std::sync::Wait;
+use th_log::{Kind, Receipt, Refused};
+
+impl<O: Kind, S> Handle<O, S> {
+    // Calls of what stands in this queue, one behind the other, under one lock; whoever waits is woken once.
+    pub(crate) fn each<Q: Queued<O>, R: Wait>(
+        &mut self,
+        rt: &R,
+        queue: &mut VecDeque<Q::Item>,
+        receipts: &mut Vec<Receipt<O>>,
+    ) -> Result<(), Refused<O::Call>>
+        requires { O.lawful }
+        ensures made { MakesEach (Q.call self.old.number) self.old self.new
+            queue.old.items queue.new.items receipts.old.items receipts.new.items result }
+        ensures stop { OnOk result
+            (StopsAt O.machine.ready (Q.call self.old.number) queue.new.items) }
+    {
+        let Handle {
+            shared,
+            number,
+            account,
+            ..
+        } = self;
+        let room = &*shared.room;
+        let mut held = room.held.lock(rt);
+        let log = &mut *held;
+        let (news, end) = each_ready::<O, Q>(log, account, *number, queue, receipts);
+        let total = log.total();
+        let wakes = news && log.wakes();
+        drop(held);
+        room.wake(wakes);
+        see_all(rt, account, total);
+        end
+    }
+
+    // Events of one call, which is news to nobody, under one lock. It waits until the call is ready, and then makes as many
+    // as have their answers, up to the limit. Nobody is woken.
+    pub(crate) fn many<R: Wait>(
+        &mut self,
+        rt: &R,
+        call: O::Call,
+        limit: usize,
+        receipts: &mut Vec<Receipt<O>>,
+    ) -> Result<usize, Refused<O::Call>>
+        requires lawful { O.lawful }
+        requires some { 0 < limit }
+        ensures { TakesMany O.ends self.old self.new call limit
+            receipts.old.items receipts.new.items result }
+    {
+        let Handle {
+            shared,
+            account,
+            ..
+        } = self;
+        let room = &*shared.room;
+        let locked = room.held.lock(rt);
+        let mut held = if locked.is_ready(&call) {
+            locked
+        } else {
+            room.news.wait_while(rt, locked, |held| held.waits(&call))
+        };
+        let log = &mut *held;
+        let answer = many_ready(log, account, call, limit, receipts);
+        let total = log.total();
+        drop(held);
+        let count = answer?;
+        see_all(rt, account, total);
+        Ok(count)
+    }
+}
+
+impl<O: Kind, S: Side<O>> Handle<O, S> {
+    /// Events of these calls of this very handle, from the front of the queue on, one behind the other, under one lock;
+    /// whoever waits is woken once. No call is copied: one that is made is moved out of the queue, and its receipt put
+    /// behind those that the list has. It ends before a call that would wait, and waits for nothing but the lock.
+    ///
+    /// # Errors
+    ///
+    /// The log refuses a call, or there is no memory for its receipt: that call comes back. Those before it were made, and
+    /// their receipts are in the list; those behind it are left in the queue.
+    pub fn call_each<R: Wait>(
+        &mut self,
+        rt: &R,
+        calls: &mut VecDeque<O::Call>,
+        receipts: &mut Vec<Receipt<O>>,
+    ) -> Result<(), Refused<O::Call>>
+        requires lawful { O.lawful }
+        requires own { All (λ call. S.caller call ≡ Some self.old.number) calls.old.items }
+        ensures made { MakesEach (λ call. call) self.old self.new
+            calls.old.items calls.new.items receipts.old.items receipts.new.items result }
+        ensures stop { OnOk result (StopsAt O.machine.ready (λ call. call) calls.new.items) }
+    {
+        self.each::<Calls, R>(rt, calls, receipts)
+    }
+}
