@@ -1,41 +1,42 @@
 -- The name at the front of bytes.
-use Rattle.std.proofs.Common.{◌≡◌, ℕ, zero, suc, ◌+◌, ◌<◌, ◌≤◌, true, false, List, [], ◌∷◌, length, get_or, take, drop, refl, arith, Some, None, inl, inr}
+use Rattle.std.proofs.Common.{◌≡◌, ℕ, ◌+◌, ◌<◌, ◌≤◌, true, List, length, take, drop, refl, arith, Some, cond, eqb, sym, ap, subst, ◌∙◌, Bool}
 use Rattle.std.specs.List.{list_all, prefix_len}
-use Rattle.std.specs.Prelude.{◌&&◌, ◌⊎◌, Bool}
-use Rattle.std.proofs.lemmas.Bool.{false≢true, le-leb, lt-leb, lt-ltb}
-use Rattle.std.proofs.lemmas.List.{length-take-le}
+use Rattle.std.proofs.lemmas.Bool.{le-leb, lt-ltb, eq-eqb, ne_eqb, cond-true, cond-false}
+use Rattle.std.proofs.lemmas.List.{length-take-le, take-append-drop, get_or-take}
+use Rattle.std.proofs.lemmas.List.Elements.{All-from_get_or}
+use Rattle.std.proofs.lemmas.List.Folds.{prefix_len-append}
+use Rattle.std.proofs.lemmas.List.Sums.{prefix_len-le-length, prefix_len_passes, list_all-from_AllPass}
 use Rattle.th_model.specs.Names.{front_name, is_name, is_name_byte}
 
-both-true : (a b : Bool) → (a && b) ≡ true → (a ≡ true) × (b ≡ true)
-both-true true b h = (refl, h)
-both-true false b h = absurd (false≢true h)
+-- a run that ends within the first n is the whole run, and one of all n goes on behind them
+module _ (p : ℕ → Bool) (bs : List ℕ) (n : ℕ) (le : n ≤ length bs) where
+  parts : prefix_len p bs ≡ cond (eqb (prefix_len p (take n bs)) n) (n + prefix_len p (drop n bs)) (prefix_len p (take n bs))
+  parts =
+      ap (prefix_len p) (sym (take-append-drop n bs)) ∙ prefix_len-append p (take n bs) (drop n bs)
+      ∙ ap (λ k. cond (eqb (prefix_len p (take n bs)) k) (k + prefix_len p (drop n bs)) (prefix_len p (take n bs))) (length-take-le n bs le)
 
--- the bytes that a name may have end where the next is none of them
-front-ends : (bs : List ℕ) (k : ℕ) → k ≤ length bs → list_all is_name_byte (take k bs) ≡ true → (k < length bs → is_name_byte (get_or bs k 0) ≡ false) → prefix_len is_name_byte bs ≡ k
-front-ends [] zero le all next = refl
-front-ends [] (suc k) le all next = absurd (omega arith)
-front-ends (b ∷ bs) zero le all next = rw (next (omega arith)) refl
-front-ends (b ∷ bs) (suc k) le all next =
-    let both : (is_name_byte b ≡ true) × (list_all is_name_byte (take k bs) ≡ true) = both-true _ _ all in
-    let rest : prefix_len is_name_byte bs ≡ k = front-ends bs k (omega (arith, le)) both.1 (λ lt. next (omega (arith, lt))) in
-    let one : 1 + k ≡ suc k = omega arith in
-    rw (both.0, rest) one
+  pub run-ends : prefix_len p (take n bs) < n → prefix_len p (take n bs) ≡ prefix_len p bs
+  run-ends short = sym (parts ∙ cond-false _ _ _ (ne_eqb (prefix_len p (take n bs)) n (λ whole. omega (arith, short, whole))))
 
-module _ (bs : List ℕ) (k : ℕ) (le : k ≤ length bs) (all : list_all is_name_byte (take k bs) ≡ true) (next : k < length bs → is_name_byte (get_or bs k 0) ≡ false) where
-  long : length (take k bs) ≡ k
-  long = length-take-le k bs le
+  pub run-goes-on : (k : ℕ) → k ≡ prefix_len p (take n bs) → n ≤ k → (k ≡ n) × (k + prefix_len p (drop k bs) ≡ prefix_len p bs)
+  run-goes-on k found whole =
+      let all : k ≡ n = omega (arith, found, whole, prefix_len-le-length p (take n bs), length-take-le n bs le) in
+      (all, ap (λ m. m + prefix_len p (drop m bs)) all ∙ sym (parts ∙ cond-true _ _ _ (eq-eqb _ _ (sym found ∙ all))))
 
-  -- a name stands in front
-  pub front-name : (k ≡ 0 → ⊥) → k ≤ 32 → front_name bs ≡ Some (take k bs, drop k bs)
-  front-name some most =
-      let name : is_name (take k bs) ≡ true = rw (long, lt-ltb 0 k (omega (arith, some)), le-leb k 32 most, all) refl in
-      rw (front-ends bs k le all next, name) refl
+-- the bytes before the first that no name has, where they are some and not too many
+module _ (bs : List ℕ) (n : ℕ) (found : n ≡ prefix_len is_name_byte bs) (some : n ≡ 0 → ⊥) (most : n ≤ 32) where
+  long : length (take n bs) ≡ n
+  long = length-take-le n bs (omega (arith, found, prefix_len-le-length is_name_byte bs))
 
-  -- none does, as it is too short or too long
-  pub front-none : (k ≡ 0) ⊎ (((k ≡ 0) → ⊥) × (32 < k)) → front_name bs ≡ None
-  front-none (inl none) =
-      let name : is_name (take k bs) ≡ false = rw none refl in
-      rw (front-ends bs k le all next, name) refl
-  front-none (inr more) =
-      let name : is_name (take k bs) ≡ false = rw (long, lt-ltb 0 k (omega (arith, more.1)), lt-leb k 32 more.1) refl in
-      rw (front-ends bs k le all next, name) refl
+  passes : list_all is_name_byte (take n bs) ≡ true
+  passes =
+      list_all-from_AllPass is_name_byte (take n bs) (All-from_get_or (λ b. is_name_byte b ≡ true) (take n bs) 0 (λ i inside.
+      ap is_name_byte (get_or-take n bs i 0 (omega (arith, inside, long))) ∙ prefix_len_passes is_name_byte bs i 0 (omega (arith, inside, long, found))))
+
+  pub front-is-name : is_name (take n bs) ≡ true
+  front-is-name = rw (long, lt-ltb 0 n (omega (arith, some)), le-leb n 32 most, passes) refl
+
+  pub front-name : front_name bs ≡ Some (take n bs, drop n bs)
+  front-name =
+      let name : is_name (take (prefix_len is_name_byte bs) bs) ≡ true = subst (λ m. is_name (take m bs) ≡ true) found front-is-name in
+      rw name (ap (λ m. Some (take m bs, drop m bs)) (sym found))

@@ -1,24 +1,20 @@
-use Rattle.std.proofs.Common.{arith, ◌≡◌, ◌<◌, ℕ, List, length, take, get_or, Some, false, sym, ap, ◌∙◌}
-use Rattle.th_model.specs.Names.{is_name_byte}
-use Rattle.th_model.proofs.Fronts.{front-name, front-none}
+use Rattle.std.proofs.Common.{arith, ◌≡◌, ℕ, List, take, true, Some, sym, ap, subst, ◌∙◌}
+use Rattle.std.proofs.lemmas.List.Sums.{prefix_len-le-length}
+use Rattle.th_model.specs.Names.{is_name, is_name_byte}
+use Rattle.th_model.proofs.Fronts.{front-is-name, front-name}
 use Rattle.th_model.proofs.name.NameRef.front.Goals as goal
-use Rattle.th_model.proofs.name.NameRef.front.Goals.{then-loop-count-test+else-is_name_byte, else-loop-count-test}
 
-pub returns-then-count-eq0 : goal.returns-then-count-eq0
-returns-then-count-eq0 c =
-    let bs : List ℕ = c.args.bytes.now in
-    let k : ℕ = c.loop-count.count in
-    let next : k < length bs → is_name_byte (get_or bs k 0) ≡ false =
-    elim c.loop-count-test.branch [ then-loop-count-test+else-is_name_byte w ↦ λ lt. sym w.if-is_name_byte.ensures | else-loop-count-test w ↦ λ lt. absurd (omega (arith, lt, w.loop-count-test.false)) ] in
-    sym (front-none bs k c.loop-count.invariant.within c.loop-count.invariant.names next c.then-count-eq0.either)
+pub split_at-requires : goal.split_at-requires
+split_at-requires c = omega (arith, c.name_run-count.ensures, prefix_len-le-length is_name_byte c.args.bytes.now)
+
+pub invariant_of-result : goal.invariant_of-result
+invariant_of-result c =
+    let name = front-is-name c.args.bytes.now c.name_run-count.result c.name_run-count.ensures c.if-count-eq0.false c.if-count-gt-MOST_BYTES.false in
+    subst (λ (bs : List ℕ). is_name bs ≡ true) (sym c.split_at.ensures.front) name
 
 pub returns : goal.returns
 returns c =
-    let bs : List ℕ = c.args.bytes.now in
-    let k : ℕ = c.loop-count.count in
-    let next : k < length bs → is_name_byte (get_or bs k 0) ≡ false =
-    elim c.loop-count-test.branch [ then-loop-count-test+else-is_name_byte w ↦ λ lt. sym w.if-is_name_byte.ensures | else-loop-count-test w ↦ λ lt. absurd (omega (arith, lt, w.loop-count-test.false)) ] in
-    let found = front-name bs k c.loop-count.invariant.within c.loop-count.invariant.names next c.if-count-eq0.false (omega (arith, c.if-count-gt-MOST_BYTES.false)) in
-    ap (λ (n : List ℕ). Some (n, c.split_at.result.1.now)) c.split_at.ensures.front
-    ∙ ap (λ (m : List ℕ). Some (take k bs, m)) c.split_at.ensures.back
-    ∙ sym found
+    let n : ℕ = c.name_run-count.result in
+    ap (λ (name : List ℕ). Some (name, c.split_at.result.1.now)) c.split_at.ensures.front
+    ∙ ap (λ (rest : List ℕ). Some (take n c.args.bytes.now, rest)) c.split_at.ensures.back
+    ∙ sym (front-name c.args.bytes.now n c.name_run-count.ensures c.if-count-eq0.false c.if-count-gt-MOST_BYTES.false)

@@ -1,12 +1,12 @@
-use Rattle.std.proofs.Common.{◌≡◌, ◌-◌, ◌≤◌, length, take, true}
-use Rattle.std.specs.List.{list_all}
+use Rattle.std.proofs.Common.{◌≡◌, ◌+◌, ◌-◌, ◌≤◌, length, drop}
+use Rattle.std.specs.List.{prefix_len}
 use Rattle.th_model.specs.Names.{is_name_byte}
-use Rattle.th_model.proofs.name.NameRef.front.Given as goal
+use Rattle.th_model.proofs.name.name_run.Given as goal
 
 abbrev pub invariant-loop-count : goal.invariant-loop-count
 invariant-loop-count l = record {
   within : l.count ≤ length l.bytes;
-  names : list_all is_name_byte (take l.count l.bytes) ≡ true;
+  left : l.count + prefix_len is_name_byte (drop l.count l.bytes) ≡ prefix_len is_name_byte l.bytes;
 }
 
 abbrev pub decreases-loop-count : goal.decreases-loop-count
