@@ -1,5 +1,5 @@
 -- From the lanes of one load to the bytes at its front that pass a test.
-use Rattle.std.proofs.Common.{◌≡◌, ℕ, ◌+◌, ◌%◌, ◌^◌, ◌<◌, ◌≤◌, Bool, true, false, List, [], ◌∷◌, map, length, get_or, take, cond, Fits, w8, w64, refl, sym, ap, ap₂, ◌∙◌, arith, inl, inr}
+use Rattle.std.proofs.Common.{◌≡◌, ℕ, ◌+◌, ◌%◌, ◌^◌, ◌<◌, ◌≤◌, Bool, true, false, List, [], ◌∷◌, map, length, get_or, cond, Fits, w8, w64, refl, sym, ap, ap₂, ◌∙◌, arith, inl, inr}
 use Rattle.std.specs.List.{prefix_len}
 use Rattle.std.specs.Int.{trailing_ones}
 use Rattle.std.proofs.Math.Pow.{pow_mono}
@@ -7,8 +7,8 @@ use Rattle.std.proofs.lemmas.Bool.{agree_below, agree_below_at, cases_lt, true�
 use Rattle.std.proofs.lemmas.Nat.Bits.{bit_at-trailing_ones}
 use Rattle.std.proofs.lemmas.List.{length-map, get_or_past}
 use Rattle.std.proofs.lemmas.List.Sums.{prefix_len_is}
-use Rattle.std.proofs.lemmas.Simd.{map-map, mask_l-lt, mask_l-mod, bit_mask_l, length-chunk, chunk-fits}
-use lib.Lanes.{Each1, chunk, mask_l, top}
+use Rattle.std.proofs.lemmas.Simd.{map-map, mask_l-lt, mask_l-mod, bit_mask_l}
+use lib.Lanes.{Each1, mask_l, top}
 
 is-set : (b : Bool) (n : ℕ) → n ≡ cond b 1 0 → n ≡ 1 → b ≡ true
 is-set true n e one = refl
@@ -51,13 +51,11 @@ prefix_len-agree p q [] all fits = refl
 prefix_len-agree p q (x ∷ xs) all fits =
     ap₂ (λ b n. cond b (1 + n) 0) (agree_below_at p q 256 x all fits.0.fits) (prefix_len-agree p q xs all fits.1)
 
--- where each of the 16 lanes of z is computed by f, and tells whether q passes
-pub lanes_tell : (q : ℕ → Bool) (f : ℕ → ℕ) (bs z : List ℕ) → 16 ≤ length bs → ((k : ℕ) → Fits w8 (get_or bs k 0)) → z ≡ map f (chunk 0 16 bs)
-    → agree_below (λ x. top 7 (f x)) q 256 ≡ true → trailing_ones w64 (mask_l (map (top 7) z) % 2 ^ 64) ≡ prefix_len q (take 16 bs)
-lanes_tell q f bs z long fits lanes all =
-    let v = chunk 0 16 bs in
+-- where each of the 16 lanes of z is computed by f from one of v, and tells whether q passes that one
+pub lanes_tell : (q : ℕ → Bool) (f : ℕ → ℕ) (v z : List ℕ) → length v ≡ 16 → Each1 (Fits w8) v → z ≡ map f v → agree_below (λ x. top 7 (f x)) q 256 ≡ true
+    → trailing_ones w64 (mask_l (map (top 7) z) % 2 ^ 64) ≡ prefix_len q v
+lanes_tell q f v z long fits lanes all =
     let passes : ℕ → Bool = λ x. top 7 (f x) in
-    let sixteen = length-chunk 0 16 bs long in
-    let few : length (map passes v) < 64 = omega (arith, length-map v passes, sixteen) in
+    let few : length (map passes v) < 64 = omega (arith, length-map v passes, long) in
     let mask = ap (λ l. mask_l l % 2 ^ 64) (ap (map (top 7)) lanes ∙ map-map (top 7) f v) ∙ mask_l-mod (map passes v) 64 (omega (arith, few)) in
-    ap (trailing_ones w64) mask ∙ ones_of_mask (map passes v) few ∙ prefix_len-map passes v ∙ prefix_len-agree passes q v all (chunk-fits w8 0 16 bs fits)
+    ap (trailing_ones w64) mask ∙ ones_of_mask (map passes v) few ∙ prefix_len-map passes v ∙ prefix_len-agree passes q v all fits
