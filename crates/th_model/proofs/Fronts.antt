@@ -35,47 +35,51 @@ module _ (bs : List ℕ) (h : ℕ) (le : h ≤ length bs) where
   ends-are = ap (λ zs. take h bs ++ zs) whole-last
 
   pub ends-long : length (take h bs ++ take h (drop (length bs - h) bs)) ≡ h + h
-  ends-long = omega (arith, length-append (take h bs) (take h (drop (length bs - h) bs)), length-take-le h bs le, ap length whole-last, last)
+  ends-long =
+      let both = length-append (take h bs) (take h (drop (length bs - h) bs)) in
+      omega (arith, both, length-take-le h bs le, ap length whole-last, last)
 
 -- the first h bytes and the last h, which together are all of them, tested as one run of r
-module _ (p : ℕ → Bool) (bs : List ℕ) (h r : ℕ) (le : h ≤ length bs) (most : length bs ≤ h + h) (found : r ≡ prefix_len p (take h bs ++ drop (length bs - h) bs)) where
+module _ (p : ℕ → Bool) (bs : List ℕ) (h r : ℕ) (le : h ≤ length bs) (most : length bs ≤ h + h)
+    (found : r ≡ prefix_len p (take h bs ++ drop (length bs - h) bs)) where
   abbrev back : ℕ
   back = length bs - h
 
-  abbrev front : ℕ
-  front = prefix_len p (take h bs)
+  abbrev first : ℕ
+  first = prefix_len p (take h bs)
 
-  joined : r ≡ cond (eqb front h) (h + prefix_len p (drop back bs)) front
-  joined = found ∙ prefix_len-append p (take h bs) (drop back bs) ∙ ap (λ k. cond (eqb front k) (k + prefix_len p (drop back bs)) front) (length-take-le h bs le)
+  abbrev rest : ℕ
+  rest = prefix_len p (drop back bs)
 
-  at-most : front ≤ h
+  joined : r ≡ cond (eqb first h) (h + rest) first
+  joined =
+      found ∙ prefix_len-append p (take h bs) (drop back bs)
+      ∙ ap (λ k. cond (eqb first k) (k + rest) first) (length-take-le h bs le)
+
+  at-most : first ≤ h
   at-most = omega (arith, prefix_len-le-length p (take h bs), length-take-le h bs le)
 
-  late : h ≤ r → (front ≡ h) × (r ≡ h + prefix_len p (drop back bs))
-  late full = elim (cases_eq front h) [
-    | inl whole ↦ (whole, joined ∙ cond-true _ _ _ (eq-eqb front h whole))
-    | inr short ↦ absurd (omega (arith, full, at-most, short, joined ∙ cond-false _ _ _ (ne_eqb front h short)))
+  both : h ≤ r → (first ≡ h) × (r ≡ h + rest)
+  both full = elim (cases_eq first h) [
+    | inl whole ↦ (whole, joined ∙ cond-true _ _ _ (eq-eqb first h whole))
+    | inr short ↦ absurd (omega (arith, full, at-most, short, joined ∙ cond-false _ _ _ (ne_eqb first h short)))
   ]
 
-  pub ends-early : r < h → r ≡ prefix_len p bs
-  ends-early short = elim (cases_eq front h) [
-    | inl whole ↦ absurd (omega (arith, short, joined ∙ cond-true _ _ _ (eq-eqb front h whole)))
-    | inr other ↦ joined ∙ cond-false _ _ _ (ne_eqb front h other) ∙ run-ends p bs h le (omega (arith, at-most, other))
+  passes-on : first ≡ h → (k : ℕ) → k < back + rest → p (get_or bs k 0) ≡ true
+  passes-on whole k before = elim (cases_lt k h) [
+    | inl early ↦ ap p (sym (get_or-take h bs k 0 early)) ∙ prefix_len_passes p (take h bs) k 0 (omega (arith, early, whole))
+    | inr later ↦
+        let at : back + (k - back) ≡ k = omega (arith, later, le, most) in
+        ap (λ j. p (get_or bs j 0)) (sym at) ∙ ap p (sym (get_or-drop back bs (k - back) 0))
+        ∙ prefix_len_passes p (drop back bs) (k - back) 0 (omega (arith, before, at))
   ]
 
   pub ends-late : h ≤ r → back + (r - h) ≡ prefix_len p bs
   ends-late full =
-      let rest : ℕ = prefix_len p (drop back bs) in
-      let both = late full in
       let long = length-drop back bs in
-      let end : back + (r - h) ≡ back + rest = omega (arith, both.1) in
-      end ∙ sym (prefix_len_is p bs (back + rest) 0 (omega (arith, prefix_len-le-length p (drop back bs), long))
-      (λ k before. elim (cases_lt k h) [
-        | inl early ↦ ap p (sym (get_or-take h bs k 0 early)) ∙ prefix_len_passes p (take h bs) k 0 (omega (arith, early, both.0))
-        | inr later ↦
-            let at : back + (k - back) ≡ k = omega (arith, later, le, most) in
-            ap (λ j. p (get_or bs j 0)) (sym at) ∙ ap p (sym (get_or-drop back bs (k - back) 0)) ∙ prefix_len_passes p (drop back bs) (k - back) 0 (omega (arith, before, at))
-      ])
+      let end : back + (r - h) ≡ back + rest = omega (arith, (both full).1) in
+      end
+      ∙ sym (prefix_len_is p bs (back + rest) 0 (omega (arith, prefix_len-le-length p (drop back bs), long)) (passes-on (both full).0)
       (λ short. ap p (sym (get_or-drop back bs rest 0)) ∙ prefix_len_stops p (drop back bs) 0 (omega (arith, short, long))))
 
 -- lanes behind a run that fail add nothing to it
@@ -92,7 +96,8 @@ module _ (bs : List ℕ) (n : ℕ) (found : n ≡ prefix_len is_name_byte bs) (s
   passes : list_all is_name_byte (take n bs) ≡ true
   passes =
       list_all-from_AllPass is_name_byte (take n bs) (All-from_get_or (λ b. is_name_byte b ≡ true) (take n bs) 0 (λ i inside.
-      ap is_name_byte (get_or-take n bs i 0 (omega (arith, inside, long))) ∙ prefix_len_passes is_name_byte bs i 0 (omega (arith, inside, long, found))))
+      ap is_name_byte (get_or-take n bs i 0 (omega (arith, inside, long)))
+      ∙ prefix_len_passes is_name_byte bs i 0 (omega (arith, inside, long, found))))
 
   pub front-is-name : is_name (take n bs) ≡ true
   front-is-name = rw (long, lt-ltb 0 n (omega (arith, some)), le-leb n 32 most, passes) refl

@@ -1,4 +1,4 @@
--- From the lanes of one load to the bytes at its front that pass a test.
+-- From the lanes of a vector to those at its front that pass a test.
 use Rattle.std.proofs.Common.{◌≡◌, ℕ, ◌+◌, ◌%◌, ◌^◌, ◌<◌, ◌≤◌, Bool, true, false, List, [], ◌∷◌, map, length, get_or, cond, Fits, w8, w64, refl, sym, ap, ap₂, ◌∙◌, arith, inl, inr}
 use Rattle.std.specs.List.{prefix_len}
 use Rattle.std.specs.Int.{trailing_ones}
@@ -52,10 +52,11 @@ prefix_len-agree p q (x ∷ xs) all fits =
     ap₂ (λ b n. cond b (1 + n) 0) (agree_below_at p q 256 x all fits.0.fits) (prefix_len-agree p q xs all fits.1)
 
 -- where each of the 16 lanes of z is computed by f from one of v, and tells whether q passes that one
-pub lanes_tell : (q : ℕ → Bool) (f : ℕ → ℕ) (v z : List ℕ) → length v ≡ 16 → Each1 (Fits w8) v → z ≡ map f v → agree_below (λ x. top 7 (f x)) q 256 ≡ true
-    → trailing_ones w64 (mask_l (map (top 7) z) % 2 ^ 64) ≡ prefix_len q v
+pub lanes_tell : (q : ℕ → Bool) (f : ℕ → ℕ) (v z : List ℕ) → length v ≡ 16 → Each1 (Fits w8) v → z ≡ map f v
+    → agree_below (λ x. top 7 (f x)) q 256 ≡ true → trailing_ones w64 (mask_l (map (top 7) z) % 2 ^ 64) ≡ prefix_len q v
 lanes_tell q f v z long fits lanes all =
     let passes : ℕ → Bool = λ x. top 7 (f x) in
     let few : length (map passes v) < 64 = omega (arith, length-map v passes, long) in
-    let mask = ap (λ l. mask_l l % 2 ^ 64) (ap (map (top 7)) lanes ∙ map-map (top 7) f v) ∙ mask_l-mod (map passes v) 64 (omega (arith, few)) in
+    let tops = ap (map (top 7)) lanes ∙ map-map (top 7) f v in
+    let mask = ap (λ l. mask_l l % 2 ^ 64) tops ∙ mask_l-mod (map passes v) 64 (omega (arith, few)) in
     ap (trailing_ones w64) mask ∙ ones_of_mask (map passes v) few ∙ prefix_len-map passes v ∙ prefix_len-agree passes q v all fits

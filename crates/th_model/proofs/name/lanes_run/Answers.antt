@@ -12,7 +12,7 @@ returns c =
     ∙ lanes_tell is_name_byte _ v _ long c.fits-v.1
     (zip2_of_maps _ _ _ v
     (zip2_of_maps _ _ _ v
-    (zip2_of_maps _ _ _ v (zip2_splat _ v 16 97 long) (splat_is_map v 16 26 long))
-    (zip2_of_maps _ _ _ v (zip2_splat _ v 16 48 long) (splat_is_map v 16 10 long)))
-    (zip2_of_maps _ _ _ v (zip2_splat _ v 16 95 long) (zip2_splat _ v 16 45 long)))
+    (zip2_of_maps _ _ _ v (zip2_splat _ v 16 _ long) (splat_is_map v 16 _ long))
+    (zip2_of_maps _ _ _ v (zip2_splat _ v 16 _ long) (splat_is_map v 16 _ long)))
+    (zip2_of_maps _ _ _ v (zip2_splat _ v 16 _ long) (zip2_splat _ v 16 _ long)))
     refl

@@ -14,6 +14,9 @@ returns-else-run-lt4 c =
     let eight : length both ≡ 8 = ends-long bs 4 c.requires.0 in
     let sixteen : length (both ++ replicate 8 0) ≡ 16 = length-append both (replicate 8 0) ∙ ap (λ n. n + 8) eight in
     let ends = pick_l_whole 0 both 8 eight in
-    let lanes = ap (λ (xs : List ℕ). pick_l 0 (xs ++ replicate 8 0) (range_with_len 0 16)) ends ∙ pick_l_whole 0 (both ++ replicate 8 0) 16 sixteen in
-    let found = c.lanes_run-run.ensures ∙ ap (prefix_len is_name_byte) lanes ∙ ends-before is_name_byte both 8 0 refl ∙ ap (prefix_len is_name_byte) (ends-are bs 4 c.requires.0) in
+    let all = pick_l_whole 0 (both ++ replicate 8 0) 16 sixteen in
+    let lanes = ap (λ (xs : List ℕ). pick_l 0 (xs ++ replicate 8 0) (range_with_len 0 16)) ends ∙ all in
+    let behind = ends-before is_name_byte both 8 0 refl in
+    let whole = ap (prefix_len is_name_byte) (ends-are bs 4 c.requires.0) in
+    let found = c.lanes_run-run.ensures ∙ ap (prefix_len is_name_byte) lanes ∙ behind ∙ whole in
     ends-late is_name_byte bs 4 c.lanes_run-run.result c.requires.0 c.requires.1 found c.if-run-lt4.false

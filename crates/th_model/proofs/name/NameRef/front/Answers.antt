@@ -9,7 +9,8 @@ split_at-requires c = omega (arith, c.name_run-count.ensures, prefix_len-le-leng
 
 pub invariant_of-result : goal.invariant_of-result
 invariant_of-result c =
-    let name = front-is-name c.args.bytes.now c.name_run-count.result c.name_run-count.ensures c.if-count-eq0.false c.if-count-gt-MOST_BYTES.false in
+    let count = c.name_run-count in
+    let name = front-is-name c.args.bytes.now count.result count.ensures c.if-count-eq0.false c.if-count-gt-MOST_BYTES.false in
     subst (λ (bs : List ℕ). is_name bs ≡ true) (sym c.split_at.ensures.front) name
 
 pub returns : goal.returns
