@@ -123,7 +123,8 @@ module _ {C R : Type 0} where
   ended_last ends (x ∷ xs) r there = ended_at ends (x ∷ xs) (length (x ∷ xs) - 1) r (omega arith) there
 
   pub more_taken : (ends : R → Bool) (old mid new : Known) (call : C) (limit first : ℕ) (book book' : Tally)
-      → (rs rs' rs'' : List (Told C R)) (count : ℕ) → EnteredMany ends old mid call limit first book.total rs rs' count → count < limit → has_ended ends rs' ≡ false
+      → (rs rs' rs'' : List (Told C R)) (count : ℕ) → EnteredMany ends old mid call limit first book.total rs rs' count → count < limit →
+      has_ended ends rs' ≡ false
       → AddsOne mid new call book book' rs' rs'' → EnteredMany ends old new call limit first book'.total rs rs'' (count + 1)
   more_taken ends old mid new call limit first book book' rs rs' rs'' count so_far less on adds =
       let r = adds.receipt in
@@ -135,7 +136,8 @@ module _ {C R : Type 0} where
         behind = refl;
       } in
       let goes : has_ended ends so_far.added ≡ false =
-      sym (ended_behind ends rs so_far.added (omega (arith, so_far.some, so_far.count_is))) ∙ ap (has_ended ends) (sym so_far.behind) ∙ on in
+      sym (ended_behind ends rs so_far.added (omega (arith, so_far.some, so_far.count_is))) ∙ ap (has_ended ends) (sym so_far.behind)
+      ∙ on in
       record {
         added = so_far.added ++ r ∷ [];
         behind = adds.behind ∙ ap (λ l. l ++ r ∷ []) so_far.behind ∙ append_assoc rs so_far.added (r ∷ []);

@@ -42,7 +42,8 @@ module _ {C R : Type 0} where
       subst (λ (l : List (Told C R)). EnteredInRow old new call first book'.total l) (sym adds.behind) (record {
         row = row_on old call first rs r so_far.row told (adds.place ∙ so_far.total_is);
         total_is = omega (arith, total, so_far.total_is, more);
-        share = adds.entered.share ∙ ap counted so_far.share ∙ ap (λ (k : ℕ). record { key = old.share.key; count = k }) (omega (arith, more));
+        share =
+            adds.entered.share ∙ ap counted so_far.share ∙ ap (λ (k : ℕ). record { key = old.share.key; count = k }) (omega (arith, more));
         eye = adds.entered.eye ∙ so_far.eye;
       })
 

@@ -29,7 +29,8 @@ pub count-length : (gs : List Glance) → IsCounted gs → last_count gs + 1 ≡
 count-length [] c = absurd (omega arith)
 count-length (x ∷ xs) c = let last : last_count (x ∷ xs) ≡ length xs = c.1 (length xs) (last_of (x ∷ xs)) (get-last x xs) in omega arith
 
-get-snoc : (gs : List Glance) (g : Glance) (k : ℕ) (h : Glance) → slice_get (gs ++ g ∷ []) k ≡ Some h → (slice_get gs k ≡ Some h) ⊎ ((k ≡ length gs) × (g ≡ h))
+get-snoc : (gs : List Glance) (g : Glance) (k : ℕ) (h : Glance) → slice_get (gs ++ g ∷ []) k ≡ Some h → (slice_get gs k ≡ Some h)
+    ⊎ ((k ≡ length gs) × (g ≡ h))
 get-snoc [] g zero h e = inr (refl, cc (e))
 get-snoc [] g (suc k) h e = absurd (cc (e))
 get-snoc (x ∷ xs) g zero h e = inl e
@@ -38,7 +39,10 @@ get-snoc (x ∷ xs) g (suc k) h e = ⊎_elim (λ t. inl t) (λ (t : (k ≡ lengt
 pub counted-snoc : (gs : List Glance) (closed : Bool) → IsCounted gs → IsCounted (gs ++ glance_of (last_count gs + 1) closed ∷ [])
 counted-snoc gs closed c = let n = count-length gs c in let g : Glance = glance_of (last_count gs + 1) closed in (
   omega (arith, length-append gs (g ∷ [])),
-  λ k h e. ⊎_elim (λ (t : slice_get gs k ≡ Some h). c.1 k h t) (λ (t : (k ≡ length gs) × (g ≡ h)). let same : last_count gs + 1 ≡ h.count = ap (λ (z : Glance). z.count) t.1 in omega arith) (get-snoc gs g k h e),
+  λ k h e.
+      ⊎_elim (λ (t : slice_get gs k ≡ Some h). c.1 k h t)
+      (λ (t : (k ≡ length gs) × (g ≡ h)). let same : last_count gs + 1 ≡ h.count = ap (λ (z : Glance). z.count) t.1 in omega arith)
+      (get-snoc gs g k h e),
 )
 
 same_parts : (a c : ℕ) (b d : Bool) → 2 * a + bit b ≡ 2 * c + bit d → glance_of a b ≡ glance_of c d
@@ -52,8 +56,10 @@ pub word-injective : (g h : Glance) → word_of g ≡ word_of h → g ≡ h
 word-injective g h e = same_parts g.count h.count g.closed h.closed e
 
 parts_of : (n c : ℕ) (b : Bool) → n ≡ 2 * c + bit b → glance_of (n / 2) (eqb (n % 2) 1) ≡ glance_of c b
-parts_of n c true e = let half : n / 2 ≡ c = omega arith in let odd : n % 2 ≡ 1 = omega arith in λ i. glance_of (half i) (eq-eqb (n % 2) 1 odd i)
-parts_of n c false e = let half : n / 2 ≡ c = omega arith in let even : n % 2 ≡ 0 = omega arith in λ i. glance_of (half i) (ne_eqb (n % 2) 1 (λ odd. omega arith) i)
+parts_of n c true e = let half : n / 2 ≡ c = omega arith in let odd : n % 2 ≡ 1 = omega arith in
+    λ i. glance_of (half i) (eq-eqb (n % 2) 1 odd i)
+parts_of n c false e = let half : n / 2 ≡ c = omega arith in let even : n % 2 ≡ 0 = omega arith in
+    λ i. glance_of (half i) (ne_eqb (n % 2) 1 (λ odd. omega arith) i)
 
 -- the glance that a word says
 pub word-parts : (n : ℕ) (g : Glance) → n ≡ word_of g → glance_of (n / 2) (eqb (n % 2) 1) ≡ g

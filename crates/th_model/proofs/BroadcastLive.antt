@@ -26,19 +26,23 @@ module _ {T : Type 0} where
   unfolding left trimmed
   places-left w rx = refl
 
-  cases : (b : Bool) (x y : BReply T × Picture T) (n m : ℕ) → (b ≡ true → live_handles x.1 ≡ n) → (b ≡ false → live_handles y.1 ≡ m) → live_handles (cond b x y).1 ≡ cond b n m
+  cases : (b : Bool) (x y : BReply T × Picture T) (n m : ℕ) → (b ≡ true → live_handles x.1 ≡ n) → (b ≡ false → live_handles y.1 ≡ m) →
+      live_handles (cond b x y).1 ≡ cond b n m
   cases true x y n m h k = h refl
   cases false x y n m h k = k refl
 
-  same : (b : Bool) (x y : BReply T × Picture T) (n : ℕ) → (b ≡ true → live_handles x.1 ≡ n) → (b ≡ false → live_handles y.1 ≡ n) → live_handles (cond b x y).1 ≡ n
+  same : (b : Bool) (x y : BReply T × Picture T) (n : ℕ) → (b ≡ true → live_handles x.1 ≡ n) → (b ≡ false → live_handles y.1 ≡ n) →
+      live_handles (cond b x y).1 ≡ n
   same true x y n h k = h refl
   same false x y n h k = k refl
 
-  there : (p : Picture T) (o : Option ℕ) (given : ℕ → BReply T × Picture T) (n : ℕ) → ((i : ℕ) → o ≡ Some i → live_handles (given i).1 ≡ n) → live_handles (at_place p o given).1 ≡ if_there o n (live_handles p)
+  there : (p : Picture T) (o : Option ℕ) (given : ℕ → BReply T × Picture T) (n : ℕ) →
+      ((i : ℕ) → o ≡ Some i → live_handles (given i).1 ≡ n) → live_handles (at_place p o given).1 ≡ if_there o n (live_handles p)
   there p None given n h = refl
   there p (Some i) given n h = h i refl
 
-  there-same : (p : Picture T) (o : Option ℕ) (given : ℕ → BReply T × Picture T) → ((i : ℕ) → o ≡ Some i → live_handles (given i).1 ≡ live_handles p) → live_handles (at_place p o given).1 ≡ live_handles p
+  there-same : (p : Picture T) (o : Option ℕ) (given : ℕ → BReply T × Picture T) →
+      ((i : ℕ) → o ≡ Some i → live_handles (given i).1 ≡ live_handles p) → live_handles (at_place p o given).1 ≡ live_handles p
   there-same p None given h = refl
   there-same p (Some i) given h = h i refl
 
@@ -55,19 +59,28 @@ module _ {T : Type 0} where
     joined i = cases (is_full (length p.window.places) p.next) _ _ _ _ (λ _. refl) (λ _. more i)
 
     received : (rx i : ℕ) → place_of p.window.places rx ≡ Some i → live_handles (receive p rx i).1 ≡ live_handles p
-    received rx i is = same (eqb i p.window.tail) _ _ _ (λ _. refl) (λ _. same (nat_lt i (first_of p.window)) _ _ _ (λ _. moved rx i _ is) (λ _. moved rx i _ is))
+    received rx i is =
+        same (eqb i p.window.tail) _ _ _ (λ _. refl)
+        (λ _. same (nat_lt i (first_of p.window)) _ _ _ (λ _. moved rx i _ is) (λ _. moved rx i _ is))
 
     pub live_after : (call : BCall T) → live_handles (answer p call).1 ≡ live_then p call
     live_after (Send tx v) = same (is_sender p.senders tx.0) _ _ _ (λ _.
-        same (eqb (length p.window.places) 0) _ _ _ (λ _. refl) (λ _. same (eqb p.window.tail (2 ^ 64 - 1)) _ _ _ (λ _. refl) (λ _. ap (λ ps. length p.senders + length ps) (places-pushed p.window v)))) (λ _. refl)
+        same (eqb (length p.window.places) 0) _ _ _ (λ _. refl)
+        (λ _. same (eqb p.window.tail (2 ^ 64 - 1)) _ _ _ (λ _. refl)
+        (λ _. ap (λ ps. length p.senders + length ps) (places-pushed p.window v)))) (λ _. refl)
     live_after (TryRecv rx) = there-same p (place_of p.window.places rx.0) _ (received rx.0)
     live_after (Recv rx) = there-same p (place_of p.window.places rx.0) _ (received rx.0)
     live_after (Subscribe tx) = cases (is_sender p.senders tx.0) _ _ _ _ (λ _. joined p.window.tail) (λ _. refl)
     live_after (SubscribeOldest tx) = cases (is_sender p.senders tx.0) _ _ _ _ (λ _. joined p.window.low) (λ _. refl)
     live_after (Resubscribe rx) = there p (place_of p.window.places rx.0) _ _ (λ i is. joined p.window.tail)
-    live_after (CloneTx tx) = cases (is_sender p.senders tx.0) _ _ _ _ (λ _. cases (is_full (length p.senders) p.next) _ _ _ _ (λ _. refl) (λ _. omega (arith, length-cloned p.next p.senders _ s.handles))) (λ _. refl)
+    live_after (CloneTx tx) =
+        cases (is_sender p.senders tx.0) _ _ _ _
+        (λ _. cases (is_full (length p.senders) p.next) _ _ _ _ (λ _. refl)
+        (λ _. omega (arith, length-cloned p.next p.senders _ s.handles))) (λ _. refl)
     live_after (DropTx tx) = cases (is_sender p.senders tx.0) _ _ _ _ (λ is. omega (arith, length-dropped p.senders tx.0 is)) (λ _. refl)
-    live_after (DropRx rx) = there p (place_of p.window.places rx.0) _ _ (λ i is. omega (arith, ap length (places-left p.window rx.0), entry-left p.window.places rx.0 i is))
+    live_after (DropRx rx) =
+        there p (place_of p.window.places rx.0) _ _
+        (λ i is. omega (arith, ap length (places-left p.window rx.0), entry-left p.window.places rx.0 i is))
     live_after (Queued tx) = same (is_sender p.senders tx.0) _ _ _ (λ _. refl) (λ _. refl)
     live_after (Left rx) = there-same p (place_of p.window.places rx.0) _ (λ i is. refl)
     live_after (Readers tx) = same (is_sender p.senders tx.0) _ _ _ (λ _. refl) (λ _. refl)

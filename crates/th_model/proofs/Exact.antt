@@ -162,7 +162,8 @@ exact_breply T P d exact =
       )
       | breply.Empty ↦ (refl, λ y. elim y as (Same breply.Empty) [ breply.Empty ↦ λ h. refl | _ ↦ differ ])
       | breply.Closed ↦ (refl, λ y. elim y as (Same breply.Closed) [ breply.Closed ↦ λ h. refl | _ ↦ differ ])
-      | breply.Lagged a ↦ (eq-self a, λ y. elim y as (Same (breply.Lagged a)) [ breply.Lagged b ↦ of_number breply.Lagged a b | _ ↦ differ ])
+      | breply.Lagged a ↦
+          (eq-self a, λ y. elim y as (Same (breply.Lagged a)) [ breply.Lagged b ↦ of_number breply.Lagged a b | _ ↦ differ ])
       | breply.NewRx a ↦ (eq-self a.0, λ y. elim y as (Same (breply.NewRx a)) [ breply.NewRx b ↦ of_rx breply.NewRx a b | _ ↦ differ ])
       | breply.NewTx a ↦ (eq-self a.0, λ y. elim y as (Same (breply.NewTx a)) [ breply.NewTx b ↦ of_tx breply.NewTx a b | _ ↦ differ ])
       | breply.Count a ↦ (eq-self a, λ y. elim y as (Same (breply.Count a)) [ breply.Count b ↦ of_number breply.Count a b | _ ↦ differ ])

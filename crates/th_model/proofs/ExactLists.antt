@@ -22,7 +22,8 @@ exact_number x y = (eqb-true x y, eq-eqb x y)
 pub exact_bool : IsExact beq
 exact_bool x y = (same_bool x y, bool_same x y)
 
-pub exact_pair : {X Y : Type 0} (eq : X → X → Bool) (eq' : Y → Y → Bool) → IsExact eq → IsExact eq' → IsExact {T = X × Y} (λ p q. eq p.0 q.0 && eq' p.1 q.1)
+pub exact_pair : {X Y : Type 0} (eq : X → X → Bool) (eq' : Y → Y → Bool) → IsExact eq → IsExact eq' →
+    IsExact {T = X × Y} (λ p q. eq p.0 q.0 && eq' p.1 q.1)
 exact_pair {X = X} {Y = Y} eq eq' exact exact' p q = (
   λ h. ap (λ (x : X). (x, p.1)) ((exact p.0 q.0).0 (and-left _ _ h)) ∙ ap (λ (y : Y). (q.0, y)) ((exact' p.1 q.1).0 (and-right _ _ h)),
   λ e. both ((exact p.0 q.0).1 (ap (λ (r : X × Y). r.0) e)) ((exact' p.1 q.1).1 (ap (λ (r : X × Y). r.1) e)),

@@ -19,19 +19,23 @@ length-unseen [] = refl
 length-unseen (r ∷ rs) = omega (arith, length-unseen rs)
 
 module _ {T : Type 0} where
-  cases : (b : Bool) (x y : WReply T × Picture T) (n m : ℕ) → (b ≡ true → live_watchers x.1 ≡ n) → (b ≡ false → live_watchers y.1 ≡ m) → live_watchers (cond b x y).1 ≡ cond b n m
+  cases : (b : Bool) (x y : WReply T × Picture T) (n m : ℕ) → (b ≡ true → live_watchers x.1 ≡ n) → (b ≡ false → live_watchers y.1 ≡ m) →
+      live_watchers (cond b x y).1 ≡ cond b n m
   cases true x y n m h k = h refl
   cases false x y n m h k = k refl
 
-  same : (b : Bool) (x y : WReply T × Picture T) (n : ℕ) → (b ≡ true → live_watchers x.1 ≡ n) → (b ≡ false → live_watchers y.1 ≡ n) → live_watchers (cond b x y).1 ≡ n
+  same : (b : Bool) (x y : WReply T × Picture T) (n : ℕ) → (b ≡ true → live_watchers x.1 ≡ n) → (b ≡ false → live_watchers y.1 ≡ n) →
+      live_watchers (cond b x y).1 ≡ n
   same true x y n h k = h refl
   same false x y n h k = k refl
 
-  there : (p : Picture T) (o : Option Bool) (given : Bool → WReply T × Picture T) (n : ℕ) → ((u : Bool) → o ≡ Some u → live_watchers (given u).1 ≡ n) → live_watchers (at_reader p o given).1 ≡ if_there o n (live_watchers p)
+  there : (p : Picture T) (o : Option Bool) (given : Bool → WReply T × Picture T) (n : ℕ) →
+      ((u : Bool) → o ≡ Some u → live_watchers (given u).1 ≡ n) → live_watchers (at_reader p o given).1 ≡ if_there o n (live_watchers p)
   there p None given n h = refl
   there p (Some u) given n h = h u refl
 
-  there-same : (p : Picture T) (o : Option Bool) (given : Bool → WReply T × Picture T) → ((u : Bool) → o ≡ Some u → live_watchers (given u).1 ≡ live_watchers p) → live_watchers (at_reader p o given).1 ≡ live_watchers p
+  there-same : (p : Picture T) (o : Option Bool) (given : Bool → WReply T × Picture T) →
+      ((u : Bool) → o ≡ Some u → live_watchers (given u).1 ≡ live_watchers p) → live_watchers (at_reader p o given).1 ≡ live_watchers p
   there-same p None given h = refl
   there-same p (Some u) given h = h u refl
 
@@ -50,13 +54,16 @@ module _ {T : Type 0} where
         ap (λ n. length p.senders + n) (entry-moved p.next p.senders p.readers rx w s.handles here)
 
     joined : (w : Bool) → live_watchers (subscribe p w).1 ≡ one_more p (length p.readers)
-    joined w = cases (is_full (length p.readers) p.next) _ _ _ _ (λ _. refl) (λ _. omega (arith, entry-joined p.next p.senders p.readers w s.handles))
+    joined w =
+        cases (is_full (length p.readers) p.next) _ _ _ _ (λ _. refl)
+        (λ _. omega (arith, entry-joined p.next p.senders p.readers w s.handles))
 
     changes : (rx : ℕ) (u : Bool) → reader_of p.readers rx ≡ Some u → live_watchers (changed p rx u).1 ≡ live_watchers p
     changes rx u is = same u _ _ _ (λ _. moved rx u false is) (λ _. refl)
 
     pub live_after : (eq : T → T → Bool) (call : WCall T) → live_watchers (answer eq p call).1 ≡ live_then p call
-    live_after eq (Send tx v) = same (is_sender p.senders tx.0) _ _ _ (λ _. same (eqb (length p.readers) 0) _ _ _ (λ _. refl) (λ _. published v _)) (λ _. refl)
+    live_after eq (Send tx v) =
+        same (is_sender p.senders tx.0) _ _ _ (λ _. same (eqb (length p.readers) 0) _ _ _ (λ _. refl) (λ _. published v _)) (λ _. refl)
     live_after eq (Replace tx v) = same (is_sender p.senders tx.0) _ _ _ (λ _. published v _) (λ _. refl)
     live_after eq (EditBy tx w) = same (is_sender p.senders tx.0) _ _ _ (λ _. edited eq w) (λ _. refl)
     live_after eq (Borrow rx) = there-same p (reader_of p.readers rx.0) _ (λ u is. refl)
@@ -68,7 +75,10 @@ module _ {T : Type 0} where
     live_after eq (MarkUnchanged rx) = there-same p (reader_of p.readers rx.0) _ (λ u is. moved rx.0 u false is)
     live_after eq (Subscribe tx) = cases (is_sender p.senders tx.0) _ _ _ _ (λ _. joined false) (λ _. refl)
     live_after eq (CloneRx rx) = there p (reader_of p.readers rx.0) _ _ (λ u is. joined u)
-    live_after eq (CloneTx tx) = cases (is_sender p.senders tx.0) _ _ _ _ (λ _. cases (is_full (length p.senders) p.next) _ _ _ _ (λ _. refl) (λ _. omega (arith, length-cloned p.next p.senders _ s.handles))) (λ _. refl)
+    live_after eq (CloneTx tx) =
+        cases (is_sender p.senders tx.0) _ _ _ _
+        (λ _. cases (is_full (length p.senders) p.next) _ _ _ _ (λ _. refl)
+        (λ _. omega (arith, length-cloned p.next p.senders _ s.handles))) (λ _. refl)
     live_after eq (DropTx tx) = cases (is_sender p.senders tx.0) _ _ _ _ (λ is. omega (arith, length-dropped p.senders tx.0 is)) (λ _. refl)
     live_after eq (DropRx rx) = there p (reader_of p.readers rx.0) _ _ (λ u is. omega (arith, entry-left p.readers rx.0 u is))
     live_after eq (IsClosed tx) = same (is_sender p.senders tx.0) _ _ _ (λ _. refl) (λ _. refl)

@@ -29,8 +29,12 @@ module _ {T : Type 0} where
   less-slot n m s e h = split (nat_eq s.to_come 1) refl
     where
       split : (b : Bool) → nat_eq s.to_come 1 ≡ b → IsSlot m (cond b vacant (record { value = s.value; to_come = s.to_come - 1 }))
-      split true t = (let last : s.to_come ≡ 1 = grind (arith, nat_tests) in record { count = omega (arith, h.count); kept = λ lt. absurd (omega (arith, h.count)); freed = λ _. refl })
-      split false t = (let more : s.to_come ≢ 1 = grind (arith, nat_tests) in record { count = omega (arith, h.count); kept = λ lt. h.kept (omega arith); freed = λ z. absurd (more (omega (arith, h.count))) })
+      split true t =
+          (let last : s.to_come ≡ 1 = grind (arith, nat_tests) in
+          record { count = omega (arith, h.count); kept = λ lt. absurd (omega (arith, h.count)); freed = λ _. refl })
+      split false t =
+          (let more : s.to_come ≢ 1 = grind (arith, nat_tests) in
+          record { count = omega (arith, h.count); kept = λ lt. h.kept (omega arith); freed = λ z. absurd (more (omega (arith, h.count))) })
 
   -- the value stays where others have still to read it
   pub less-value : (s : Slot T) → 1 < s.to_come → (less_one s).value ≡ s.value
@@ -142,28 +146,36 @@ module _ {T : Type 0} where
 
     -- each kept position has its value
     pub there : AreThere slots c (low_of n c ps) (n - low_of n c ps)
-    there j le lt = (r.counted j (omega (arith, low_of-ge n c ps)) (omega (arith, low_of-le n c ps))).kept (awaited n c ps j le (omega (arith, low_of-le n c ps)))
+    there j le lt =
+        (r.counted j (omega (arith, low_of-ge n c ps)) (omega (arith, low_of-le n c ps))).kept
+        (awaited n c ps j le (omega (arith, low_of-le n c ps)))
 
     -- where no value is added, and none is lost that is still kept
-    trimmed_values : (slots' : List (Slot T)) (ps' : Places) → low_of n c ps ≤ low_of n c ps' → ((j : ℕ) → low_of n c ps' ≤ j → j < n → (slot_at slots' c j).value ≡ (slot_at slots c j).value)
-        → values_from slots' c (low_of n c ps') (n - low_of n c ps') ≡ drop (low_of n c ps' - low_of n c ps) (values_from slots c (low_of n c ps) (n - low_of n c ps))
+    trimmed_values : (slots' : List (Slot T)) (ps' : Places) → low_of n c ps ≤ low_of n c ps' →
+        ((j : ℕ) → low_of n c ps' ≤ j → j < n → (slot_at slots' c j).value ≡ (slot_at slots c j).value)
+        → values_from slots' c (low_of n c ps') (n - low_of n c ps')
+        ≡ drop (low_of n c ps' - low_of n c ps) (values_from slots c (low_of n c ps) (n - low_of n c ps))
     trimmed_values slots' ps' rises same =
         let low : ℕ = low_of n c ps in
         let low' : ℕ = low_of n c ps' in
         let a : low + (low' - low) ≡ low' = omega arith in
         let b : n - low - (low' - low) ≡ n - low' = omega arith in
         values-same slots' slots c low' (n - low') (λ j le lt. same j le (omega (arith, low_of-le n c ps')))
-        ∙ sym (values-drop slots c low (n - low) (low' - low) there (omega (arith, low_of-le n c ps')) ∙ ap (λ x. values_from slots c x (n - low - (low' - low))) a ∙ ap (values_from slots c low') b)
+        ∙ sym (values-drop slots c low (n - low) (low' - low) there (omega (arith, low_of-le n c ps'))
+        ∙ ap (λ x. values_from slots c x (n - low - (low' - low))) a ∙ ap (values_from slots c low') b)
 
     -- the count that code reads at the low bits of a position of the window
     pub count_at : (i at : ℕ) (item : Slot T) → at ≡ i % c → item ≡ get_or slots at item → n ≤ i + c → i < n → item.to_come ≡ to_come ps i
-    count_at i at item e h a lt = ap (λ (s : Slot T). s.to_come) (slot_is c slots r.size r.is_capacity.1 i at e item h) ∙ (r.counted i a lt).count
+    count_at i at item e h a lt =
+        ap (λ (s : Slot T). s.to_come) (slot_is c slots r.size r.is_capacity.1 i at e item h) ∙ (r.counted i a lt).count
 
     -- the value at a kept position
-    pub value_kept : (i : ℕ) → low_of n c ps ≤ i → i < n → slice_get (values_from slots c (low_of n c ps) (n - low_of n c ps)) (i - low_of n c ps) ≡ (slot_at slots c i).value
+    pub value_kept : (i : ℕ) → low_of n c ps ≤ i → i < n →
+        slice_get (values_from slots c (low_of n c ps) (n - low_of n c ps)) (i - low_of n c ps) ≡ (slot_at slots c i).value
     value_kept i le lt =
         let e : low_of n c ps + (i - low_of n c ps) ≡ i = omega arith in
-        values-get slots c (low_of n c ps) (n - low_of n c ps) (i - low_of n c ps) there (omega arith) ∙ ap (λ k. (slot_at slots c k).value) e
+        values-get slots c (low_of n c ps) (n - low_of n c ps) (i - low_of n c ps) there (omega arith)
+        ∙ ap (λ k. (slot_at slots c k).value) e
 
     nobody_left : (i : ℕ) → n - c ≤ i → i < low_of n c ps → to_come ps i ≡ 0
     nobody_left i a below = nobody-before n c ps i a below
@@ -171,7 +183,9 @@ module _ {T : Type 0} where
     -- a position of the window has in its slot what is kept there
     pub value_in : (i : ℕ) → n - c ≤ i → i < n → value_at (ring_window c n slots ps) i ≡ (slot_at slots c i).value
     value_in i a lt = elim (cases_lt i (low_of n c ps)) [
-      | inl freed ↦ (let yes : nat_lt i (low_of n c ps) ≡ true = grind (arith, nat_tests) in rw yes (sym ((r.counted i (omega arith) lt).freed (nobody_left i a freed))))
+      | inl freed ↦
+          (let yes : nat_lt i (low_of n c ps) ≡ true = grind (arith, nat_tests) in
+          rw yes (sym ((r.counted i (omega arith) lt).freed (nobody_left i a freed))))
       | inr kept ↦ (let no : nat_lt i (low_of n c ps) ≡ false = grind (arith, nat_tests) in rw no (value_kept i kept lt))
     ]
 
@@ -181,22 +195,30 @@ module _ {T : Type 0} where
     pub value_out : (i : ℕ) → (i < n → i < n - c) → value_at (ring_window c n slots ps) i ≡ None
     value_out i out = elim (cases_lt i (low_of n c ps)) [
       | inl below ↦ (let yes : nat_lt i (low_of n c ps) ≡ true = grind (arith, nat_tests) in rw yes refl)
-      | inr above ↦ (let no : nat_lt i (low_of n c ps) ≡ false = grind (arith, nat_tests) in rw no (slice_get_past (values_from slots c (low_of n c ps) (n - low_of n c ps)) (i - low_of n c ps) (omega (arith, length-values_from slots c (low_of n c ps) (n - low_of n c ps) there, past i out above))))
+      | inr above ↦
+          (let no : nat_lt i (low_of n c ps) ≡ false = grind (arith, nat_tests) in
+          rw no (slice_get_past (values_from slots c (low_of n c ps) (n - low_of n c ps)) (i - low_of n c ps)
+          (omega (arith, length-values_from slots c (low_of n c ps) (n - low_of n c ps) there, past i out above))))
     ]
 
-    pub value_taken : (rx i : ℕ) → place_of ps rx ≡ Some i → n - c ≤ i → i < n → slice_get (values_from slots c (low_of n c ps) (n - low_of n c ps)) (i - low_of n c ps) ≡ (slot_at slots c i).value
+    pub value_taken : (rx i : ℕ) → place_of ps rx ≡ Some i → n - c ≤ i → i < n →
+        slice_get (values_from slots c (low_of n c ps) (n - low_of n c ps)) (i - low_of n c ps) ≡ (slot_at slots c i).value
     value_taken rx i here in_window sent = value_kept i (omega (arith, low_of-at n c ps rx i here)) sent
 
     -- a receiver reads what stands at its place
-    module _ (rx i : ℕ) (sorted : IsRising (keys_of ps)) (here : place_of ps rx ≡ Some i) (in_window : n - c ≤ i) (sent : i < n) (slots' : List (Slot T)) (e : slots' ≡ set slots (i % c) (less_one (slot_at slots c i))) where
+    module _ (rx i : ℕ) (sorted : IsRising (keys_of ps)) (here : place_of ps rx ≡ Some i) (in_window : n - c ≤ i) (sent : i < n)
+        (slots' : List (Slot T)) (e : slots' ≡ set slots (i % c) (less_one (slot_at slots c i))) where
       at_place : slot_at slots' c i ≡ less_one (slot_at slots c i)
-      at_place = ap (λ xs. get_or xs (i % c) vacant) e ∙ get_or-set_same slots (i % c) _ vacant (omega (arith, r.size, mod_below i c r.is_capacity.1))
+      at_place =
+          ap (λ xs. get_or xs (i % c) vacant) e
+          ∙ get_or-set_same slots (i % c) _ vacant (omega (arith, r.size, mod_below i c r.is_capacity.1))
 
       elsewhere : (j : ℕ) → i % c ≢ j % c → slot_at slots' c j ≡ slot_at slots c j
       elsewhere j apart = ap (λ xs. get_or xs (j % c) vacant) e ∙ get_or-set_other slots (i % c) (j % c) _ vacant (λ h. apart (sym h))
 
       apart_from : (j : ℕ) → n ≤ j + c → j < n + c → j ≢ i → i < j + c → j < i + c → i % c ≢ j % c
-      apart_from j a b ne x y = elim (cases_lt i j) [ inl lt ↦ apart_bits i j c lt y | inr ge ↦ (λ h. apart_bits j i c (omega arith) x (sym h)) ]
+      apart_from j a b ne x y =
+          elim (cases_lt i j) [ inl lt ↦ apart_bits i j c lt y | inr ge ↦ (λ h. apart_bits j i c (omega arith) x (sym h)) ]
 
       moved : (j : ℕ) → to_come (with_place ps rx (i + 1)) j + one i j ≡ to_come ps j + one (i + 1) j
       moved j = to_come-moved ps rx i (i + 1) j sorted here
@@ -206,11 +228,21 @@ module _ {T : Type 0} where
 
       slot_after : (j : ℕ) → n ≤ j + c → j < n → IsSlot (to_come (with_place ps rx (i + 1)) j) (slot_at slots' c j)
       slot_after j a lt = elim (cases_lt i j) [
-        | inl later ↦ same-slot (to_come ps j) _ (slot_at slots c j) (slot_at slots' c j) (omega (arith, moved j, one_yes i j (omega arith), one_yes (i + 1) j (omega arith))) (elsewhere j (apart_from j a (omega arith) (omega arith) (omega arith) (omega arith))) (r.counted j a lt)
+        | inl later ↦
+            same-slot (to_come ps j) _ (slot_at slots c j) (slot_at slots' c j)
+            (omega (arith, moved j, one_yes i j (omega arith), one_yes (i + 1) j (omega arith)))
+            (elsewhere j (apart_from j a (omega arith) (omega arith) (omega arith) (omega arith))) (r.counted j a lt)
         | inr ge ↦ elim (cases_lt j i) [
-          | inl earlier ↦ same-slot (to_come ps j) _ (slot_at slots c j) (slot_at slots' c j) (omega (arith, moved j, one_no i j earlier, one_no (i + 1) j (omega arith))) (elsewhere j (apart_from j a (omega arith) (omega arith) (omega arith) (omega arith))) (r.counted j a lt)
-          | inr le ↦ (let same : j ≡ i = omega arith in subst (λ (k : ℕ). IsSlot (to_come (with_place ps rx (i + 1)) k) (slot_at slots' c k)) (sym same)
-              (subst (IsSlot (to_come (with_place ps rx (i + 1)) i)) (sym at_place) (less-slot (to_come ps i) _ (slot_at slots c i) (omega (arith, moved i, one_yes i i (omega arith), one_no (i + 1) i (omega arith))) (r.counted i (omega arith) sent))))
+          | inl earlier ↦
+              same-slot (to_come ps j) _ (slot_at slots c j) (slot_at slots' c j)
+              (omega (arith, moved j, one_no i j earlier, one_no (i + 1) j (omega arith)))
+              (elsewhere j (apart_from j a (omega arith) (omega arith) (omega arith) (omega arith))) (r.counted j a lt)
+          | inr le ↦
+              (let same : j ≡ i = omega arith in
+              subst (λ (k : ℕ). IsSlot (to_come (with_place ps rx (i + 1)) k) (slot_at slots' c k)) (sym same)
+              (subst (IsSlot (to_come (with_place ps rx (i + 1)) i)) (sym at_place)
+              (less-slot (to_come ps i) _ (slot_at slots c i)
+              (omega (arith, moved i, one_yes i i (omega arith), one_no (i + 1) i (omega arith))) (r.counted i (omega arith) sent))))
         ]
       ]
 
@@ -228,21 +260,42 @@ module _ {T : Type 0} where
 
       value_after : (j : ℕ) → low_of n c (with_place ps rx (i + 1)) ≤ j → j < n → (slot_at slots' c j).value ≡ (slot_at slots c j).value
       value_after j le lt = elim (cases_lt i j) [
-        | inl later ↦ ap (λ (s : Slot T). s.value) (elsewhere j (apart_from j (omega (arith, low_of-ge n c (with_place ps rx (i + 1)))) (omega arith) (omega arith) (omega arith) (omega arith)))
+        | inl later ↦
+            ap (λ (s : Slot T). s.value)
+            (elsewhere j
+            (apart_from j (omega (arith, low_of-ge n c (with_place ps rx (i + 1)))) (omega arith) (omega arith) (omega arith)
+            (omega arith)))
         | inr ge ↦ elim (cases_lt j i) [
-          | inl earlier ↦ ap (λ (s : Slot T). s.value) (elsewhere j (apart_from j (omega (arith, low_of-ge n c (with_place ps rx (i + 1)))) (omega arith) (omega arith) (omega (arith, low_of-ge n c (with_place ps rx (i + 1)))) (omega arith)))
+          | inl earlier ↦
+              ap (λ (s : Slot T). s.value)
+              (elsewhere j
+              (apart_from j (omega (arith, low_of-ge n c (with_place ps rx (i + 1)))) (omega arith) (omega arith)
+              (omega (arith, low_of-ge n c (with_place ps rx (i + 1)))) (omega arith)))
           | inr eq ↦ (let same : j ≡ i = omega arith in subst (λ (k : ℕ). (slot_at slots' c k).value ≡ (slot_at slots c k).value) (sym same)
-              (ap (λ (s : Slot T). s.value) at_place ∙ less-value (slot_at slots c i) (omega (arith, (r.counted i (omega arith) sent).count, moved i, one_yes i i (omega arith), one_no (i + 1) i (omega arith), awaited n c (with_place ps rx (i + 1)) i (omega arith) sent))))
+              (ap (λ (s : Slot T). s.value) at_place
+              ∙ less-value (slot_at slots c i)
+              (omega (
+                arith,
+                (r.counted i (omega arith) sent).count,
+                moved i,
+                one_yes i i (omega arith),
+                one_no (i + 1) i (omega arith),
+                awaited n c (with_place ps rx (i + 1)) i (omega arith) sent,
+              ))))
         ]
       ]
 
       pub window_taken : ring_window c n slots' (with_place ps rx (i + 1)) ≡ placed (ring_window c n slots ps) rx (i + 1)
       unfolding placed trimmed
-      window_taken = ap (λ (xs : List T). record { capacity = c; tail = n; low = low_of n c (with_place ps rx (i + 1)); kept = xs; places = with_place ps rx (i + 1) }) (trimmed_values slots' (with_place ps rx (i + 1)) rises value_after)
+      window_taken =
+          ap (λ (xs : List T). record
+          { capacity = c; tail = n; low = low_of n c (with_place ps rx (i + 1)); kept = xs; places = with_place ps rx (i + 1) })
+          (trimmed_values slots' (with_place ps rx (i + 1)) rises value_after)
 
     -- and its value stood there
     pub value_there : (rx i : ℕ) → place_of ps rx ≡ Some i → n - c ≤ i → i < n → IsSome (slot_at slots c i).value
-    value_there rx i here in_window sent = (r.counted i (omega arith) sent).kept (omega (arith, counted ps rx i i here, one_yes i i (omega arith)))
+    value_there rx i here in_window sent =
+        (r.counted i (omega arith) sent).kept (omega (arith, counted ps rx i i here, one_yes i i (omega arith)))
 
     -- only a place changes, which no position of the window sees
     module _ (ps' : Places) (all : ArePlaces n ps') (same : (j : ℕ) → n ≤ j + c → j < n → to_come ps' j ≡ to_come ps j) where
@@ -263,8 +316,11 @@ module _ {T : Type 0} where
 
       pub window_jumped : ring_window c n slots (with_place ps rx (n - c)) ≡ placed (ring_window c n slots ps) rx (n - c)
       unfolding placed trimmed
-      window_jumped = ap (λ (xs : List T). record { capacity = c; tail = n; low = low_of n c (with_place ps rx (n - c)); kept = xs; places = with_place ps rx (n - c) })
-          (trimmed_values slots (with_place ps rx (n - c)) (low_of-with n c ps rx (n - c) (omega (arith, low_of-at n c ps rx i here))) (λ j le lt. refl))
+      window_jumped =
+          ap (λ (xs : List T). record
+          { capacity = c; tail = n; low = low_of n c (with_place ps rx (n - c)); kept = xs; places = with_place ps rx (n - c) })
+          (trimmed_values slots (with_place ps rx (n - c)) (low_of-with n c ps rx (n - c) (omega (arith, low_of-at n c ps rx i here)))
+          (λ j le lt. refl))
 
     -- a receiver joins between the least kept position and the tail
     module _ (rx i : ℕ) (absent : place_of ps rx ≡ None) (above : low_of n c ps ≤ i) (le : i ≤ n)
@@ -319,7 +375,8 @@ module _ {T : Type 0} where
       unfolding placed trimmed
       window_joined =
           let rises = low_of-with n c ps rx i (omega arith) in
-          ap (λ (xs : List T). record { capacity = c; tail = n; low = low_of n c (with_place ps rx i); kept = xs; places = with_place ps rx i })
+          ap (λ (xs : List T). record
+          { capacity = c; tail = n; low = low_of n c (with_place ps rx i); kept = xs; places = with_place ps rx i })
           (trimmed_values slots' (with_place ps rx i) rises value_joined)
 
     -- the window is a sound one
@@ -338,13 +395,20 @@ module _ {T : Type 0} where
     count-le i a lt = omega (arith, (r.counted i a lt).count, to_come-le ps i)
 
     -- a receiver leaves
-    module _ (rx i first : ℕ) (here : place_of ps rx ≡ Some i) (from : first ≡ max i (n - c)) (slots' : List (Slot T)) (size : length slots' ≡ c)
+    module _ (rx i first : ℕ) (here : place_of ps rx ≡ Some i) (from : first ≡ max i (n - c)) (slots' : List (Slot T))
+        (size : length slots' ≡ c)
         (passed : (j : ℕ) → first ≤ j → j < n → slot_at slots' c j ≡ less_one (slot_at slots c j))
         (others : (j : ℕ) → n ≤ j + c → j < first + c → (first ≤ j → n ≤ j) → slot_at slots' c j ≡ slot_at slots c j) where
       slot_left : (j : ℕ) → n ≤ j + c → j < n → IsSlot (to_come (without_place ps rx) j) (slot_at slots' c j)
       slot_left j a lt = elim (cases_lt j first) [
-        | inl before ↦ same-slot (to_come ps j) _ (slot_at slots c j) (slot_at slots' c j) (omega (arith, to_come-left ps rx i j here, one_no i j (omega arith))) (others j a (omega arith) (λ h. absurd (omega arith))) (r.counted j a lt)
-        | inr after ↦ subst (IsSlot (to_come (without_place ps rx) j)) (sym (passed j after lt)) (less-slot (to_come ps j) _ (slot_at slots c j) (omega (arith, to_come-left ps rx i j here, one_yes i j (omega arith))) (r.counted j a lt))
+        | inl before ↦
+            same-slot (to_come ps j) _ (slot_at slots c j) (slot_at slots' c j)
+            (omega (arith, to_come-left ps rx i j here, one_no i j (omega arith))) (others j a (omega arith) (λ h. absurd (omega arith)))
+            (r.counted j a lt)
+        | inr after ↦
+            subst (IsSlot (to_come (without_place ps rx) j)) (sym (passed j after lt))
+            (less-slot (to_come ps j) _ (slot_at slots c j) (omega (arith, to_come-left ps rx i j here, one_yes i j (omega arith)))
+            (r.counted j a lt))
       ]
 
       pub ring_left : IsRing c n slots' (without_place ps rx)
@@ -358,31 +422,55 @@ module _ {T : Type 0} where
 
       value_left : (j : ℕ) → low_of n c (without_place ps rx) ≤ j → j < n → (slot_at slots' c j).value ≡ (slot_at slots c j).value
       value_left j le lt = elim (cases_lt j first) [
-        | inl before ↦ ap (λ (s : Slot T). s.value) (others j (omega (arith, low_of-ge n c (without_place ps rx))) (omega arith) (λ h. absurd (omega arith)))
-        | inr after ↦ ap (λ (s : Slot T). s.value) (passed j after lt) ∙ less-value (slot_at slots c j) (omega (arith, (r.counted j (omega arith) lt).count, to_come-left ps rx i j here, one_yes i j (omega arith), awaited n c (without_place ps rx) j le lt))
+        | inl before ↦
+            ap (λ (s : Slot T). s.value)
+            (others j (omega (arith, low_of-ge n c (without_place ps rx))) (omega arith) (λ h. absurd (omega arith)))
+        | inr after ↦
+            ap (λ (s : Slot T). s.value) (passed j after lt)
+            ∙ less-value (slot_at slots c j)
+            (omega (
+              arith,
+              (r.counted j (omega arith) lt).count,
+              to_come-left ps rx i j here,
+              one_yes i j (omega arith),
+              awaited n c (without_place ps rx) j le lt,
+            ))
       ]
 
       pub window_left : ring_window c n slots' (without_place ps rx) ≡ left (ring_window c n slots ps) rx
       unfolding left trimmed
-      window_left = ap (λ (xs : List T). record { capacity = c; tail = n; low = low_of n c (without_place ps rx); kept = xs; places = without_place ps rx }) (trimmed_values slots' (without_place ps rx) (low_of-without n c ps rx) value_left)
+      window_left =
+          ap (λ (xs : List T). record
+          { capacity = c; tail = n; low = low_of n c (without_place ps rx); kept = xs; places = without_place ps rx })
+          (trimmed_values slots' (without_place ps rx) (low_of-without n c ps rx) value_left)
 
     -- a receiver that is there waits for each position from its place on
     pub waited : (rx i j : ℕ) → place_of ps rx ≡ Some i → max i (n - c) ≤ j → j < n → 0 < (slot_at slots c j).to_come
     waited rx i j here le lt = omega (arith, (r.counted j (omega arith) lt).count, counted ps rx i j here, one_yes i j (omega arith))
 
     -- a value is sent
-    module _ (v : T) (some : 0 < length ps) (slots' : List (Slot T)) (e : slots' ≡ set slots (n % c) (record { value = Some v; to_come = length ps })) where
+    module _ (v : T) (some : 0 < length ps) (slots' : List (Slot T))
+        (e : slots' ≡ set slots (n % c) (record { value = Some v; to_come = length ps })) where
       sent_at : slot_at slots' c n ≡ record { value = Some v; to_come = length ps }
-      sent_at = ap (λ xs. get_or xs (n % c) vacant) e ∙ get_or-set_same slots (n % c) _ vacant (omega (arith, r.size, mod_below n c r.is_capacity.1))
+      sent_at =
+          ap (λ xs. get_or xs (n % c) vacant) e
+          ∙ get_or-set_same slots (n % c) _ vacant (omega (arith, r.size, mod_below n c r.is_capacity.1))
 
       sent_else : (j : ℕ) → j % c ≢ n % c → slot_at slots' c j ≡ slot_at slots c j
       sent_else j apart = ap (λ xs. get_or xs (j % c) vacant) e ∙ get_or-set_other slots (n % c) (j % c) _ vacant apart
 
       slot_sent : (j : ℕ) → n + 1 ≤ j + c → j < n + 1 → IsSlot (to_come ps j) (slot_at slots' c j)
       slot_sent j a lt = elim (cases_lt j n) [
-        | inl before ↦ subst (IsSlot (to_come ps j)) (sym (sent_else j (apart_bits j n c before (omega arith)))) (r.counted j (omega arith) before)
+        | inl before ↦
+            subst (IsSlot (to_come ps j)) (sym (sent_else j (apart_bits j n c before (omega arith)))) (r.counted j (omega arith) before)
         | inr here ↦ (let same : j ≡ n = omega arith in subst (λ (k : ℕ). IsSlot (to_come ps k) (slot_at slots' c k)) (sym same)
-            (subst (IsSlot (to_come ps n)) (sym sent_at) (record { count = sym (all_to_come n ps r.places_in); kept = λ _. refl; freed = λ z. absurd (omega (arith, all_to_come n ps r.places_in)) })))
+            (subst (IsSlot (to_come ps n)) (sym sent_at)
+            (record {
+              count = sym (all_to_come n ps r.places_in);
+              kept = λ _. refl;
+              freed =
+                  λ z. absurd (omega (arith, all_to_come n ps r.places_in));
+            })))
       ]
 
       pub ring_sent : IsRing c (n + 1) slots' ps
@@ -391,14 +479,17 @@ module _ {T : Type 0} where
         size = ap length e ∙ length-set slots (n % c) _ ∙ r.size;
         places_in = places-more n (n + 1) ps (omega arith) r.places_in;
         counted = slot_sent;
-        unused = λ j le lt. subst (IsSlot 0) (sym (sent_else j (λ h. apart_bits n j c (omega arith) (omega arith) (sym h)))) (r.unused j (omega arith) lt);
+        unused =
+            λ j le lt.
+            subst (IsSlot 0) (sym (sent_else j (λ h. apart_bits n j c (omega arith) (omega arith) (sym h)))) (r.unused j (omega arith) lt);
       }
 
       -- a receiver waits for the new value, so that it is kept
       low_sent : low_of (n + 1) c ps ≤ n
       low_sent = low-awaited (n + 1) c ps n (omega (arith, r.is_capacity.1)) (omega (arith, all_to_come n ps r.places_in))
 
-      values_sent : values_from slots' c (low_of (n + 1) c ps) (n + 1 - low_of (n + 1) c ps) ≡ drop (low_of (n + 1) c ps - low_of n c ps) (values_from slots c (low_of n c ps) (n - low_of n c ps) ++ v ∷ [])
+      values_sent : values_from slots' c (low_of (n + 1) c ps) (n + 1 - low_of (n + 1) c ps)
+          ≡ drop (low_of (n + 1) c ps - low_of n c ps) (values_from slots c (low_of n c ps) (n - low_of n c ps) ++ v ∷ [])
       values_sent =
           let low : ℕ = low_of n c ps in
           let low' : ℕ = low_of (n + 1) c ps in
@@ -410,13 +501,19 @@ module _ {T : Type 0} where
           let b : n - low - (low' - low) ≡ n - low' = omega arith in
           ap (values_from slots' c low') count
           ∙ values-snoc slots' c low' (n - low') v (ap (λ k. (slot_at slots' c k).value) top ∙ ap (λ (s : Slot T). s.value) sent_at)
-          ∙ ap (λ (xs : List T). xs ++ v ∷ []) (values-same slots' slots c low' (n - low') (λ j l lt. ap (λ (s : Slot T). s.value) (sent_else j (apart_bits j n c (omega arith) (omega (arith, low_of-ge (n + 1) c ps)))))
-          ∙ sym (values-drop slots c low (n - low) (low' - low) there (omega arith) ∙ ap (λ x. values_from slots c x (n - low - (low' - low))) a ∙ ap (values_from slots c low') b))
-          ∙ sym (drop-append-le (low' - low) (values_from slots c low (n - low)) (v ∷ []) (omega (arith, length-values_from slots c low (n - low) there)))
+          ∙ ap (λ (xs : List T). xs ++ v ∷ [])
+          (values-same slots' slots c low' (n - low')
+          (λ j l lt.
+          ap (λ (s : Slot T). s.value) (sent_else j (apart_bits j n c (omega arith) (omega (arith, low_of-ge (n + 1) c ps)))))
+          ∙ sym (values-drop slots c low (n - low) (low' - low) there (omega arith)
+          ∙ ap (λ x. values_from slots c x (n - low - (low' - low))) a ∙ ap (values_from slots c low') b))
+          ∙ sym (drop-append-le (low' - low) (values_from slots c low (n - low)) (v ∷ [])
+          (omega (arith, length-values_from slots c low (n - low) there)))
 
       pub window_sent : ring_window c (n + 1) slots' ps ≡ pushed (ring_window c n slots ps) v
       unfolding pushed trimmed
-      window_sent = ap (λ (xs : List T). record { capacity = c; tail = n + 1; low = low_of (n + 1) c ps; kept = xs; places = ps }) values_sent
+      window_sent =
+          ap (λ (xs : List T). record { capacity = c; tail = n + 1; low = low_of (n + 1) c ps; kept = xs; places = ps }) values_sent
 
   pub filled-is : (low : ℕ) (kept : List T) (ps : Places) (i : ℕ) (value : Option T) (count : ℕ)
       → value ≡ slice_get kept (i - low) → count ≡ to_come ps i

@@ -18,39 +18,53 @@ module _ {T : Type 0} where
   pub length-values_from : (slots : List (Slot T)) (c i n : ℕ) → AreThere slots c i n → length (values_from slots c i n) ≡ n
   unfolding values_from
   length-values_from slots c i zero h = refl
-  length-values_from slots c i (suc n) h = length-and_then _ _ (h i (omega arith) (omega arith)) ∙ ap suc (length-values_from slots c (i + 1) n (λ j le lt. h j (omega arith) (omega arith)))
+  length-values_from slots c i (suc n) h =
+      length-and_then _ _ (h i (omega arith) (omega arith))
+      ∙ ap suc (length-values_from slots c (i + 1) n (λ j le lt. h j (omega arith) (omega arith)))
 
   -- only the values at these positions matter
-  pub values-same : (a b : List (Slot T)) (c i n : ℕ) → ((j : ℕ) → i ≤ j → j < i + n → (slot_at a c j).value ≡ (slot_at b c j).value) → values_from a c i n ≡ values_from b c i n
+  pub values-same : (a b : List (Slot T)) (c i n : ℕ) → ((j : ℕ) → i ≤ j → j < i + n → (slot_at a c j).value ≡ (slot_at b c j).value) →
+      values_from a c i n ≡ values_from b c i n
   unfolding values_from
   values-same a b c i zero h = refl
-  values-same a b c i (suc n) h = ap (λ o. and_then o (values_from a c (i + 1) n)) (h i (omega arith) (omega arith)) ∙ ap (and_then (slot_at b c i).value) (values-same a b c (i + 1) n (λ j le lt. h j (omega arith) (omega arith)))
+  values-same a b c i (suc n) h =
+      ap (λ o. and_then o (values_from a c (i + 1) n)) (h i (omega arith) (omega arith))
+      ∙ ap (and_then (slot_at b c i).value) (values-same a b c (i + 1) n (λ j le lt. h j (omega arith) (omega arith)))
 
   drop-and_then : (k : ℕ) (o : Option T) (xs : List T) → IsSome o → drop (suc k) (and_then o xs) ≡ drop k xs
   drop-and_then k None xs h = absurd (false≢true h)
   drop-and_then k (Some v) xs h = refl
 
   -- the values from a later position on
-  pub values-drop : (slots : List (Slot T)) (c i n k : ℕ) → AreThere slots c i n → k ≤ n → drop k (values_from slots c i n) ≡ values_from slots c (i + k) (n - k)
+  pub values-drop : (slots : List (Slot T)) (c i n k : ℕ) → AreThere slots c i n → k ≤ n →
+      drop k (values_from slots c i n) ≡ values_from slots c (i + k) (n - k)
   unfolding values_from
-  values-drop slots c i n zero h le = (let a : i ≡ i + 0 = omega arith in let b : n ≡ n - 0 = omega arith in ap (λ x. values_from slots c x n) a ∙ ap (values_from slots c (i + 0)) b)
+  values-drop slots c i n zero h le =
+      (let a : i ≡ i + 0 = omega arith in let b : n ≡ n - 0 = omega arith in
+      ap (λ x. values_from slots c x n) a ∙ ap (values_from slots c (i + 0)) b)
   values-drop slots c i zero (suc k) h le = absurd (omega arith)
   values-drop slots c i (suc n) (suc k) h le =
-      drop-and_then k _ _ (h i (omega arith) (omega arith)) ∙ values-drop slots c (i + 1) n k (λ j le lt. h j (omega arith) (omega arith)) (omega arith)
-      ∙ (let a : i + 1 + k ≡ i + suc k = omega arith in let b : n - k ≡ suc n - suc k = omega arith in ap (λ x. values_from slots c x (n - k)) a ∙ ap (values_from slots c (i + suc k)) b)
+      drop-and_then k _ _ (h i (omega arith) (omega arith))
+      ∙ values-drop slots c (i + 1) n k (λ j le lt. h j (omega arith) (omega arith)) (omega arith)
+      ∙ (let a : i + 1 + k ≡ i + suc k = omega arith in let b : n - k ≡ suc n - suc k = omega arith in
+      ap (λ x. values_from slots c x (n - k)) a ∙ ap (values_from slots c (i + suc k)) b)
 
   and_then-append : (o : Option T) (xs ys : List T) → and_then o (xs ++ ys) ≡ and_then o xs ++ ys
   and_then-append None xs ys = refl
   and_then-append (Some v) xs ys = refl
 
   -- and with the value at one more position
-  values-suc : (slots : List (Slot T)) (c i n : ℕ) (v : T) → (slot_at slots c (i + n)).value ≡ Some v → values_from slots c i (suc n) ≡ values_from slots c i n ++ v ∷ []
+  values-suc : (slots : List (Slot T)) (c i n : ℕ) (v : T) → (slot_at slots c (i + n)).value ≡ Some v →
+      values_from slots c i (suc n) ≡ values_from slots c i n ++ v ∷ []
   unfolding values_from
-  values-suc slots c i zero v h = (let e : i ≡ i + 0 = omega arith in ap (λ x. and_then (slot_at slots c x).value []) e ∙ ap (λ o. and_then o []) h)
+  values-suc slots c i zero v h =
+      (let e : i ≡ i + 0 = omega arith in ap (λ x. and_then (slot_at slots c x).value []) e ∙ ap (λ o. and_then o []) h)
   values-suc slots c i (suc n) v h = (let e : i + 1 + n ≡ i + suc n = omega arith in
-      ap (and_then (slot_at slots c i).value) (values-suc slots c (i + 1) n v (ap (λ x. (slot_at slots c x).value) e ∙ h)) ∙ and_then-append (slot_at slots c i).value (values_from slots c (i + 1) n) (v ∷ []))
+      ap (and_then (slot_at slots c i).value) (values-suc slots c (i + 1) n v (ap (λ x. (slot_at slots c x).value) e ∙ h))
+      ∙ and_then-append (slot_at slots c i).value (values_from slots c (i + 1) n) (v ∷ []))
 
-  pub values-snoc : (slots : List (Slot T)) (c i n : ℕ) (v : T) → (slot_at slots c (i + n)).value ≡ Some v → values_from slots c i (n + 1) ≡ values_from slots c i n ++ v ∷ []
+  pub values-snoc : (slots : List (Slot T)) (c i n : ℕ) (v : T) → (slot_at slots c (i + n)).value ≡ Some v →
+      values_from slots c i (n + 1) ≡ values_from slots c i n ++ v ∷ []
   values-snoc slots c i n v h = (let e : n + 1 ≡ suc n = omega arith in ap (values_from slots c i) e) ∙ values-suc slots c i n v h
 
   slice_get-and_then : (o : Option T) (xs : List T) (j : ℕ) → IsSome o → slice_get (and_then o xs) (suc j) ≡ slice_get xs j
@@ -61,11 +75,16 @@ module _ {T : Type 0} where
   slice_get-first None xs h = absurd (false≢true h)
   slice_get-first (Some v) xs h = refl
 
-  pub values-get : (slots : List (Slot T)) (c i n j : ℕ) → AreThere slots c i n → j < n → slice_get (values_from slots c i n) j ≡ (slot_at slots c (i + j)).value
+  pub values-get : (slots : List (Slot T)) (c i n j : ℕ) → AreThere slots c i n → j < n →
+      slice_get (values_from slots c i n) j ≡ (slot_at slots c (i + j)).value
   unfolding values_from
   values-get slots c i zero j h lt = absurd (omega arith)
-  values-get slots c i (suc n) zero h lt = slice_get-first _ _ (h i (omega arith) (omega arith)) ∙ (let e : i ≡ i + 0 = omega arith in ap (λ x. (slot_at slots c x).value) e)
-  values-get slots c i (suc n) (suc j) h lt = slice_get-and_then _ _ j (h i (omega arith) (omega arith)) ∙ values-get slots c (i + 1) n j (λ k le l. h k (omega arith) (omega arith)) (omega arith) ∙ (let e : i + 1 + j ≡ i + suc j = omega arith in ap (λ x. (slot_at slots c x).value) e)
+  values-get slots c i (suc n) zero h lt =
+      slice_get-first _ _ (h i (omega arith) (omega arith)) ∙ (let e : i ≡ i + 0 = omega arith in ap (λ x. (slot_at slots c x).value) e)
+  values-get slots c i (suc n) (suc j) h lt =
+      slice_get-and_then _ _ j (h i (omega arith) (omega arith))
+      ∙ values-get slots c (i + 1) n j (λ k le l. h k (omega arith) (omega arith)) (omega arith)
+      ∙ (let e : i + 1 + j ≡ i + suc j = omega arith in ap (λ x. (slot_at slots c x).value) e)
 
 module _ {T : Type 0} where
   -- slots that have these values
@@ -86,7 +105,8 @@ module _ {T : Type 0} where
 -- two positions of one window have different slots
 pub apart_bits : (i j c : ℕ) → i < j → j < i + c → i % c ≢ j % c
 apart_bits i j c lt within same = elim (cases_lt (i / c) (j / c)) [
-  | inl up ↦ (let m : c * (i / c + 1) ≤ c * (j / c) = mul-le-mul_left c (omega arith) in omega (arith, m, same, div-add-mod i c, div-add-mod j c))
+  | inl up ↦
+      (let m : c * (i / c + 1) ≤ c * (j / c) = mul-le-mul_left c (omega arith) in omega (arith, m, same, div-add-mod i c, div-add-mod j c))
   | inr down ↦ (let m : c * (j / c) ≤ c * (i / c) = mul-le-mul_left c down in omega (arith, m, same, div-add-mod i c, div-add-mod j c))
 ]
 

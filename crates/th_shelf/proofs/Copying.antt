@@ -17,24 +17,28 @@ take-next xs n x h = take_more xs n x (slice_get_within xs n x h) ∙ ap (λ y. 
 
 -- from the least kept position on, what a shelf shows is what it keeps
 pub kept-at : {T : Type 0} (w : Window T) (i : ℕ) (o : Option T) → w.low ≤ i → o ≡ value_at w i → slice_get w.kept (i - w.low) ≡ o
-kept-at w i o le h = elim (nat_lt i w.low) as (λ b. nat_lt i w.low ≡ b → o ≡ cond b None (slice_get w.kept (i - w.low)) → slice_get w.kept (i - w.low) ≡ o) [
-  | true ↦ λ e _. absurd (omega (arith, ltb-true i w.low e))
-  | false ↦ λ e k. sym k
-] refl h
+kept-at w i o le h =
+    elim (nat_lt i w.low) as (λ b. nat_lt i w.low ≡ b → o ≡ cond b None (slice_get w.kept (i - w.low)) → slice_get w.kept (i - w.low) ≡ o) [
+      | true ↦ λ e _. absurd (omega (arith, ltb-true i w.low e))
+      | false ↦ λ e k. sym k
+    ] refl h
 
 -- all of these are above
 all-above : (n : ℕ) (ps : Places) → AllByRecursion (λ k. n < k) (keys_of ps) → filter (λ q. nat_lt n q.0) ps ≡ ps
 all-above n [] h = refl
-all-above n (p ∷ ps) h = elim (nat_lt n p.0) as (λ b. nat_lt n p.0 ≡ b → cond b (p ∷ filter (λ q. nat_lt n q.0) ps) (filter (λ q. nat_lt n q.0) ps) ≡ p ∷ ps) [
-  | true ↦ λ e. ap (λ l. p ∷ l) (all-above n ps h.1)
-  | false ↦ λ e. absurd (omega (arith, ltb-false n p.0 e, h.0))
-] refl
+all-above n (p ∷ ps) h =
+    elim (nat_lt n p.0) as (λ b. nat_lt n p.0 ≡ b → cond b (p ∷ filter (λ q. nat_lt n q.0) ps) (filter (λ q. nat_lt n q.0) ps) ≡ p ∷ ps) [
+      | true ↦ λ e. ap (λ l. p ∷ l) (all-above n ps h.1)
+      | false ↦ λ e. absurd (omega (arith, ltb-false n p.0 e, h.0))
+    ] refl
 
 not-above : (n : ℕ) (p : ℕ × ℕ) (ps : Places) → p.0 ≤ n → filter (λ q. nat_lt n q.0) (p ∷ ps) ≡ filter (λ q. nat_lt n q.0) ps
-not-above n p ps le = elim (nat_lt n p.0) as (λ b. nat_lt n p.0 ≡ b → cond b (p ∷ filter (λ q. nat_lt n q.0) ps) (filter (λ q. nat_lt n q.0) ps) ≡ filter (λ q. nat_lt n q.0) ps) [
-  | true ↦ λ e. absurd (omega (arith, ltb-true n p.0 e, le))
-  | false ↦ λ e. refl
-] refl
+not-above n p ps le =
+    elim (nat_lt n p.0) as
+    (λ b. nat_lt n p.0 ≡ b → cond b (p ∷ filter (λ q. nat_lt n q.0) ps) (filter (λ q. nat_lt n q.0) ps) ≡ filter (λ q. nat_lt n q.0) ps) [
+      | true ↦ λ e. absurd (omega (arith, ltb-true n p.0 e, le))
+      | false ↦ λ e. refl
+    ] refl
 
 below-later : (n : ℕ) (ps : Places) (k : ℕ) (p : ℕ × ℕ) → AllByRecursion (λ q. n < q) (keys_of ps) → slice_get ps k ≡ Some p → n < p.0
 below-later n [] k p h is = absurd (none-some p is)
@@ -65,7 +69,8 @@ front-rest (q ∷ qs) zero p is = ap (λ x. x ∷ qs) (same_Some q p is)
 front-rest (q ∷ qs) (suc k) p is = ap (λ l. q ∷ l) (front-rest qs k p is)
 
 -- the k-th receiver goes behind those before it
-pub next-placed : (ps : Places) (k : ℕ) (p : ℕ × ℕ) → IsRising (keys_of ps) → slice_get ps k ≡ Some p → with_place (take k ps) p.0 p.1 ≡ take (k + 1) ps
+pub next-placed : (ps : Places) (k : ℕ) (p : ℕ × ℕ) → IsRising (keys_of ps) → slice_get ps k ≡ Some p →
+    with_place (take k ps) p.0 p.1 ≡ take (k + 1) ps
 next-placed ps k p r is =
     let front = front-below (take k ps) p (drop (suc k) ps) (rw (← front-rest ps k p is) r) in
     entry-last (take k ps) p.0 p.1 front ∙ sym (take-next ps k p is)

@@ -21,7 +21,8 @@ same_window {T = T} eq exact c d t u ks ls ps qs bp bk js es = (
       let et : t ≡ u = eqb-true t u (and-right _ _ h2) in
       let eps : ps ≡ qs = (exact_list same_place exact_place ps qs).0 (sym js ∙ and-right _ _ h1) in
       let eks : ks ≡ ls = (exact_list eq exact ks ls).0 (sym es ∙ and-right _ _ h) in
-      ap (λ x. queue_window x t ks ps) ec ∙ (ap (λ x. queue_window d x ks ps) et ∙ (ap (λ x. queue_window d u x ps) eks ∙ ap (λ x. queue_window d u ls x) eps)),
+      ap (λ x. queue_window x t ks ps) ec
+      ∙ (ap (λ x. queue_window d x ks ps) et ∙ (ap (λ x. queue_window d u x ps) eks ∙ ap (λ x. queue_window d u ls x) eps)),
   λ e.
       both (both (both (eq-eqb c d (ap (λ (w : Window T). w.capacity) e)) (eq-eqb t u (ap (λ (w : Window T). w.tail) e)))
       (js ∙ (exact_list same_place exact_place ps qs).1 (ap (λ (w : Window T). w.places) e)))

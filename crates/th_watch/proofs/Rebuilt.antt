@@ -22,15 +22,20 @@ inserted {X = X} front e rest all rising is =
     ap (λ (es : List (ℕ × X)). es ++ rest) (entry-last front e.0 e.1 below) ∙ (snoc-append front e rest ∙ is)
 
 pub inserted-reader : (v : ℕ) (front : Kept Bool) (m : ℕ × ℕ) (rest all : Kept ℕ) → IsRising (keys_of all)
-    → front ++ map (shown v) (m ∷ rest) ≡ map (shown v) all → insert_entry nat_cmp front m.0 (shown v m).1 ++ map (shown v) rest ≡ map (shown v) all
-inserted-reader v front m rest all rising is = inserted front (shown v m) (map (shown v) rest) (map (shown v) all) (rw (keys-shown v all) rising) is
+    → front ++ map (shown v) (m ∷ rest) ≡ map (shown v) all →
+    insert_entry nat_cmp front m.0 (shown v m).1 ++ map (shown v) rest ≡ map (shown v) all
+inserted-reader v front m rest all rising is =
+    inserted front (shown v m) (map (shown v) rest) (map (shown v) all) (rw (keys-shown v all) rising) is
 
 pub inserted-mark : (v : ℕ) (front : Kept ℕ) (r : ℕ × Bool) (rest all : Kept Bool) → IsRising (keys_of all)
-    → front ++ map (mark_at v) (r ∷ rest) ≡ map (mark_at v) all → insert_entry nat_cmp front r.0 (mark_at v r).1 ++ map (mark_at v) rest ≡ map (mark_at v) all
-inserted-mark v front r rest all rising is = inserted front (mark_at v r) (map (mark_at v) rest) (map (mark_at v) all) (rw (keys-mark_at v all) rising) is
+    → front ++ map (mark_at v) (r ∷ rest) ≡ map (mark_at v) all →
+    insert_entry nat_cmp front r.0 (mark_at v r).1 ++ map (mark_at v) rest ≡ map (mark_at v) all
+inserted-mark v front r rest all rising is =
+    inserted front (mark_at v r) (map (mark_at v) rest) (map (mark_at v) all) (rw (keys-mark_at v all) rising) is
 
 -- such marks are held where the picture is sound
-pub held_marks : {T : Type 0} (v : ℕ) (x : T) (readers : Kept Bool) (senders : List ℕ) (next : ℕ) (marks : Kept ℕ) → IsSound (shown_picture v x readers senders next)
+pub held_marks : {T : Type 0} (v : ℕ) (x : T) (readers : Kept Bool) (senders : List ℕ) (next : ℕ) (marks : Kept ℕ) →
+    IsSound (shown_picture v x readers senders next)
     → marks ≡ map (mark_at v) readers → IsHeld v marks senders next
 held_marks v x readers senders next marks s is = rw is (record {
   first = s.first;

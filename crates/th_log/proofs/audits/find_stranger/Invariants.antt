@@ -8,6 +8,7 @@ abbrev pub invariant-loop-diary : goal.invariant-loop-diary
 invariant-loop-diary g l =
     let fits = λ (t : Told g.row.O-Call.Denot g.row.O-Reply.Denot). stands g.O.Compared.call_eq g.O.Compared.reply_eq l.segment t in
     record {
-      strange : stranger fits l.segment.first l.named.items (drop l.diary-index l.diaries) ≡ stranger fits l.segment.first (replicate (length l.segment.entries) false) l.diaries;
+      strange : stranger fits l.segment.first l.named.items (drop l.diary-index l.diaries)
+          ≡ stranger fits l.segment.first (replicate (length l.segment.entries) false) l.diaries;
       len : vec_len l.named ≡ length l.segment.entries;
     }

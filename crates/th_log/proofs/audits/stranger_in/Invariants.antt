@@ -9,7 +9,9 @@ invariant-loop-receipt g l =
     let fits = λ (t : Told g.row.O-Call.Denot g.row.O-Reply.Denot). stands g.O.Compared.call_eq g.O.Compared.reply_eq l.segment t in
     record {
       first : l.first ≡ l.segment.first;
-      told : stranger_in fits l.segment.first l.floor l.named.items (drop l.receipt-index l.receipts) ≡ stranger_in fits l.segment.first 0 l.fn.named.items l.receipts;
-      named : named_after l.segment.first l.named.items (drop l.receipt-index l.receipts) ≡ named_after l.segment.first l.fn.named.items l.receipts;
+      told : stranger_in fits l.segment.first l.floor l.named.items (drop l.receipt-index l.receipts)
+          ≡ stranger_in fits l.segment.first 0 l.fn.named.items l.receipts;
+      named : named_after l.segment.first l.named.items (drop l.receipt-index l.receipts)
+          ≡ named_after l.segment.first l.fn.named.items l.receipts;
       len : vec_len l.named ≡ length l.segment.entries;
     }

@@ -9,7 +9,9 @@ use Rattle.th_model.proofs.value.is_value.Goals as goal
 
 pub returns : goal.returns
 returns c =
-    let all : c.all.result ≡ list_all is_value_byte c.args.bytes.now = all_from_yields_List is_value_byte _ _ c.all.result c.all.ensures.ran (YieldsList-from_slice c.args.bytes.now cc) (λ x b q k. search (rules, tests)) in
+    let all : c.all.result ≡ list_all is_value_byte c.args.bytes.now =
+    all_from_yields_List is_value_byte _ _ c.all.result c.all.ensures.ran (YieldsList-from_slice c.args.bytes.now cc)
+    (λ x b q k. search (rules, tests)) in
     let positive : nat_lt 0 (length c.args.bytes.now) ≡ true = search rules in
     let short : nat_le (length c.args.bytes.now) 1024 ≡ true = search rules in
     all ∙ sym (ap (λ (b : Bool). b && (nat_le (length c.args.bytes.now) 1024 && list_all is_value_byte c.args.bytes.now)) positive

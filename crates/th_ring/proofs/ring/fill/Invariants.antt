@@ -7,5 +7,6 @@ invariant-loop-i g l = record {
   size : length l.slots.items ≡ l.capacity;
   values : l.kept.items ≡ drop (l.i - l.low) l.fn.kept.items;
   done : (k : ℕ) → l.low ≤ k → k < l.i → slot_at l.slots.items l.capacity k ≡ filled_slot l.low l.fn.kept.items l.fn.places.entries k;
-  rest : (k : ℕ) → l.tail ≤ k + l.capacity → k < l.low + l.capacity → (l.low ≤ k → l.i ≤ k) → slot_at l.slots.items l.capacity k ≡ slot_at l.fn.slots.items l.capacity k;
+  rest : (k : ℕ) → l.tail ≤ k + l.capacity → k < l.low + l.capacity → (l.low ≤ k → l.i ≤ k) →
+      slot_at l.slots.items l.capacity k ≡ slot_at l.fn.slots.items l.capacity k;
 }

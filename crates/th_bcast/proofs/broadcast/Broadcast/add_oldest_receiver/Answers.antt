@@ -13,4 +13,6 @@ invariant_of-self-2 g c =
     rw (← c.self.view_is) at c.has_all_receivers.ensures in
     let room = sym full ∙ c.if-has_all_receivers.false in
     let le = low-le _ c.self.invariant in
-    rw c.in-Ok.ensures.ok (sound-joined _ c.self.invariant _ (omega arith) le (few_of_room _ c.self.inside.next room) (more_of_room _ c.self.inside.next room))
+    rw c.in-Ok.ensures.ok
+    (sound-joined _ c.self.invariant _ (omega arith) le (few_of_room _ c.self.inside.next room)
+    (more_of_room _ c.self.inside.next room))

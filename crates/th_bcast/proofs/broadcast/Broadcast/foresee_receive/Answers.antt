@@ -10,6 +10,15 @@ returns-in-None g c =
     let w = g.S.Shelf.window c.self.inside.shelf in
     let here : place_of w.places c.args.rx.0 ≡ Some c.in-Some.place = search rules in
     let low = low_of-at w.tail w.capacity w.places c.args.rx.0 c.in-Some.place here in
-    let above : w.low ≤ c.in-Some.place = omega (arith, low, c.self.invariant.window.low, c.if-place-window.false, c.saturating_sub-window.ensures, c.tail-tail.ensures, c.capacity.ensures) in
+    let above : w.low ≤ c.in-Some.place =
+    omega (
+      arith,
+      low,
+      c.self.invariant.window.low,
+      c.if-place-window.false,
+      c.saturating_sub-window.ensures,
+      c.tail-tail.ensures,
+      c.capacity.ensures,
+    ) in
     let none : slice_get w.kept (c.in-Some.place - w.low) ≡ None = kept-at w c.in-Some.place None above c.in-None.ensures in
     search rules

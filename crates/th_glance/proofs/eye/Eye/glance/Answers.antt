@@ -16,4 +16,5 @@ returns-clause-rises c =
     let told = c.load-word.ensures.2 in
     let is : c.of_word-glance.result ≡ last_of new = c.of_word-glance.ensures (last_of new) told.2 in
     let up : last_count old ≤ last_count new = count-rises old new c.self.invariant.3 told.1 told.0 in
-    subst (λ (k : Known). last_count k.list ≤ c.of_word-glance.result.count) c.self.view_is (subst (λ (z : Glance). last_count old ≤ z.count) (sym is) up)
+    subst (λ (k : Known). last_count k.list ≤ c.of_word-glance.result.count) c.self.view_is
+    (subst (λ (z : Glance). last_count old ≤ z.count) (sym is) up)

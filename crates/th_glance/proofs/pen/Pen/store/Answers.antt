@@ -17,13 +17,15 @@ invariant_of-self c =
     let word = c.word-word.ensures ∙ ap (λ (n : ℕ). word_of (glance_of (n + 1) c.args.closed)) c.self.invariant.3 in
     let is : new ≡ old ++ g ∷ [] = c.store.ensures.2 g word in
     let last : last_of new ≡ g = ap last_of is ∙ last-snoc old g in
-    let count : c.self.inside.count + 1 ≡ last_count new = ap (λ (n : ℕ). n + 1) c.self.invariant.3 ∙ sym (ap (λ (z : Glance). z.count) last) in
+    let count : c.self.inside.count + 1 ≡ last_count new =
+    ap (λ (n : ℕ). n + 1) c.self.invariant.3 ∙ sym (ap (λ (z : Glance). z.count) last) in
     (search rules, search rules, search rules, count, subst IsCounted (sym is) (counted-snoc old c.args.closed c.self.invariant.4))
 
 pub returns-clause-last : goal.returns-clause-last
 returns-clause-last c =
     let g : Glance = glance_of (c.self.inside.count + 1) c.args.closed in
-    let last : last_of c.store.new.seat.me.0.seen ≡ g = ap last_of (c.store.ensures.2 g c.word-word.ensures) ∙ last-snoc c.self.inside.seat.me.0.seen g in
+    let last : last_of c.store.new.seat.me.0.seen ≡ g =
+    ap last_of (c.store.ensures.2 g c.word-word.ensures) ∙ last-snoc c.self.inside.seat.me.0.seen g in
     last ∙ ap (λ (n : ℕ). glance_of (n + 1) c.args.closed) (c.self.invariant.3 ∙ ap (λ (k : Known). last_count k.list) c.self.view_is)
 
 pub returns-clause-counted : goal.returns-clause-counted

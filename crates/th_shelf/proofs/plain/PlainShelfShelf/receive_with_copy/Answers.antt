@@ -26,17 +26,23 @@ pub invariant_of-self-then-at-first : goal.invariant_of-self-then-at-first
 invariant_of-self-then-at-first g c =
     let ps : Places = c.self.inside.places.entries in
     let here : place_of ps c.args.rx.0 ≡ Some c.in-Some.place.now = sym c.in-Some.ensures.value in
-    let moved = (c.get_mut.follows.holds c.skip_to.new.place).0 ∙ set_value-with ps c.args.rx.0 _ c.skip_to.new.place (rising_from_sorted _ c.get_mut.ensures.ordered) here in
+    let moved =
+    (c.get_mut.follows.holds c.skip_to.new.place).0
+    ∙ set_value-with ps c.args.rx.0 _ c.skip_to.new.place (rising_from_sorted _ c.get_mut.ensures.ordered) here in
     let first = c.skip_to.ensures.moved ∙ c.saturating_sub-first.ensures in
-    rw (moved, first) (jumped_trim _ _ _ _ c.self.invariant c.args.rx.0 _ here (omega (arith, c.if-at-first.true, c.saturating_sub-first.ensures)))
+    rw (moved, first)
+    (jumped_trim _ _ _ _ c.self.invariant c.args.rx.0 _ here (omega (arith, c.if-at-first.true, c.saturating_sub-first.ensures)))
 
 pub returns-then-at-first-clause-ok : goal.returns-then-at-first-clause-ok
 returns-then-at-first-clause-ok g c =
     let ps : Places = c.self.inside.places.entries in
     let here : place_of ps c.args.rx.0 ≡ Some c.in-Some.place.now = sym c.in-Some.ensures.value in
-    let moved = (c.get_mut.follows.holds c.skip_to.new.place).0 ∙ set_value-with ps c.args.rx.0 _ c.skip_to.new.place (rising_from_sorted _ c.get_mut.ensures.ordered) here in
+    let moved =
+    (c.get_mut.follows.holds c.skip_to.new.place).0
+    ∙ set_value-with ps c.args.rx.0 _ c.skip_to.new.place (rising_from_sorted _ c.get_mut.ensures.ordered) here in
     let first = c.skip_to.ensures.moved ∙ c.saturating_sub-first.ensures in
-    let behind : c.in-Some.place.now < c.self.inside.tail - c.self.inside.capacity = omega (arith, c.if-at-first.true, c.saturating_sub-first.ensures) in
+    let behind : c.in-Some.place.now < c.self.inside.tail - c.self.inside.capacity =
+    omega (arith, c.if-at-first.true, c.saturating_sub-first.ensures) in
     rw (← c.self.view_is, moved, first) (record {
       from = c.in-Some.place.now;
       place = here;
@@ -56,7 +62,8 @@ pub read_at-requires-clause-to : goal.read_at-requires-clause-to
 read_at-requires-clause-to g c =
     let ps : Places = c.self.inside.places.entries in
     let here : place_of ps c.args.rx.0 ≡ Some c.in-Some.place.now = sym c.in-Some.ensures.value in
-    let le : c.in-Some.place.now ≤ c.self.inside.tail = all-at (λ i. i ≤ c.self.inside.tail) ps c.args.rx.0 _ c.self.invariant.places here in
+    let le : c.in-Some.place.now ≤ c.self.inside.tail =
+    all-at (λ i. i ≤ c.self.inside.tail) ps c.args.rx.0 _ c.self.invariant.places here in
     omega (arith, le, c.if-at-self.false, c.first_position-low.ensures, c.self.invariant.kept)
 
 pub invariant_of-self-in_default-read_at : goal.invariant_of-self-in_default-read_at
@@ -77,7 +84,8 @@ pub returns-in_default-read_at-clause-asked : goal.returns-in_default-read_at-cl
 returns-in_default-read_at-clause-asked g c =
     let ps : Places = c.self.inside.places.entries in
     let here : place_of ps c.args.rx.0 ≡ Some c.in-Some.place.now = sym c.in-Some.ensures.value in
-    let le : c.in-Some.place.now ≤ c.self.inside.tail = all-at (λ i. i ≤ c.self.inside.tail) ps c.args.rx.0 _ c.self.invariant.places here in
+    let le : c.in-Some.place.now ≤ c.self.inside.tail =
+    all-at (λ i. i ≤ c.self.inside.tail) ps c.args.rx.0 _ c.self.invariant.places here in
     rw (← c.self.view_is) (
       c.in-Some.place.now,
       record {
@@ -91,18 +99,26 @@ pub invariant_of-self-2 : goal.invariant_of-self-2
 invariant_of-self-2 g c =
     let ps : Places = c.self.inside.places.entries in
     let here : place_of ps c.args.rx.0 ≡ Some c.in-Some.place.now = sym c.in-Some.ensures.value in
-    let le : c.in-Some.place.now ≤ c.self.inside.tail = all-at (λ i. i ≤ c.self.inside.tail) ps c.args.rx.0 _ c.self.invariant.places here in
-    let moved = (c.get_mut.follows.holds c.read_at.new.place).0 ∙ set_value-with ps c.args.rx.0 _ c.read_at.new.place (rising_from_sorted _ c.get_mut.ensures.ordered) here in
+    let le : c.in-Some.place.now ≤ c.self.inside.tail =
+    all-at (λ i. i ≤ c.self.inside.tail) ps c.args.rx.0 _ c.self.invariant.places here in
+    let moved =
+    (c.get_mut.follows.holds c.read_at.new.place).0
+    ∙ set_value-with ps c.args.rx.0 _ c.read_at.new.place (rising_from_sorted _ c.get_mut.ensures.ordered) here in
     let low = c.first_position-low.ensures in
     let next = c.in-Ok.ensures.moved in
-    rw (moved, next) (read_trim _ _ _ _ c.self.invariant c.args.rx.0 _ here c.trim.new.kept.items (rw low at c.trim.ensures.ahead) (omega (arith, le, c.if-at-self.false)) (rw (low, moved, next) at c.trim.ensures.first))
+    rw (moved, next)
+    (read_trim _ _ _ _ c.self.invariant c.args.rx.0 _ here c.trim.new.kept.items (rw low at c.trim.ensures.ahead)
+    (omega (arith, le, c.if-at-self.false)) (rw (low, moved, next) at c.trim.ensures.first))
 
 pub returns-clause-ok : goal.returns-clause-ok
 returns-clause-ok g c =
     let ps : Places = c.self.inside.places.entries in
     let here : place_of ps c.args.rx.0 ≡ Some c.in-Some.place.now = sym c.in-Some.ensures.value in
-    let le : c.in-Some.place.now ≤ c.self.inside.tail = all-at (λ i. i ≤ c.self.inside.tail) ps c.args.rx.0 _ c.self.invariant.places here in
-    let moved = (c.get_mut.follows.holds c.read_at.new.place).0 ∙ set_value-with ps c.args.rx.0 _ c.read_at.new.place (rising_from_sorted _ c.get_mut.ensures.ordered) here in
+    let le : c.in-Some.place.now ≤ c.self.inside.tail =
+    all-at (λ i. i ≤ c.self.inside.tail) ps c.args.rx.0 _ c.self.invariant.places here in
+    let moved =
+    (c.get_mut.follows.holds c.read_at.new.place).0
+    ∙ set_value-with ps c.args.rx.0 _ c.read_at.new.place (rising_from_sorted _ c.get_mut.ensures.ordered) here in
     let low = c.first_position-low.ensures in
     let next = c.in-Ok.ensures.moved in
     let before : c.in-Some.place.now < c.self.inside.tail = omega (arith, le, c.if-at-self.false) in
@@ -114,5 +130,7 @@ returns-clause-ok g c =
         sent = before;
       };
       here = rw low at c.in-Ok.ensures.value;
-      moved = read_window _ _ _ _ c.self.invariant c.args.rx.0 _ here c.trim.new.kept.items (rw low at c.trim.ensures.ahead) before (rw (low, moved, next) at c.trim.ensures.first);
+      moved =
+          read_window _ _ _ _ c.self.invariant c.args.rx.0 _ here c.trim.new.kept.items (rw low at c.trim.ensures.ahead) before
+          (rw (low, moved, next) at c.trim.ensures.first);
     })

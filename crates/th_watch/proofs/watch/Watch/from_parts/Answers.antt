@@ -14,5 +14,6 @@ pub returns-clause-ok : goal.returns-clause-ok
 returns-clause-ok g c =
     let a = c.parts.inside in
     c.from_picture.ensures
-    ∙ (ap (λ (rs : Kept Bool). shown_picture a.version a.last rs a.senders.keys a.next) (shown_marks a.version a.readers.entries c.in-Ok.marks.entries c.parts.invariant.first c.in-Ok.ensures)
+    ∙ (ap (λ (rs : Kept Bool). shown_picture a.version a.last rs a.senders.keys a.next)
+    (shown_marks a.version a.readers.entries c.in-Ok.marks.entries c.parts.invariant.first c.in-Ok.ensures)
     ∙ c.parts.view_is)

@@ -15,5 +15,6 @@ loop-rx-preserved c =
     let rest = c.next.new.self in
     let now = subst (λ (rs : Kept Bool). front ++ map (mark_at v) rs ≡ map (mark_at v) all) c.in-Some.ensures.steps c.loop-rx.invariant in
     let entry = c.mark_for.ensures.mark c.in-Some.rx.now in
-    ap (λ (es : Kept ℕ). es ++ map (mark_at v) rest) (c.in_ok-insert.ensures.entries ∙ ap (λ (e : ℕ × ℕ). insert_entry nat_cmp front e.0 e.1) entry)
+    ap (λ (es : Kept ℕ). es ++ map (mark_at v) rest)
+    (c.in_ok-insert.ensures.entries ∙ ap (λ (e : ℕ × ℕ). insert_entry nat_cmp front e.0 e.1) entry)
     ∙ inserted-mark v front (c.in-Some.rx.now, c.in-Some.unseen.now) rest all c.requires.rising now
