@@ -2,7 +2,7 @@
 use Rattle.std.specs.Prelude.{◌≡◌, ◌⊎◌, ℕ, ◌+◌, ◌*◌, ◌<◌, ◌≤◌, Bool, true, false, List, [], ◌∷◌, ◌++◌, length, Option, Some, None, Result, Ok, Err}
 use Rattle.std.specs.Io.KnownBytes.{Consumes, IsAtEnd}
 use Rattle.th_lines.specs.Device.{kept_count, one_more}
-use Rattle.th_lines.specs.Intake.{Came, Finds, lines_after, most_read, nothing_came}
+use Rattle.th_lines.specs.Intake.{Came, Finds, Reading, lines_after, most_read, nothing_came}
 use Rattle.th_lines.specs.Lines.{Line, lines_from, lines_of}
 use Rattle.th_lines.specs.declared.feeder.Fed.{Fed}
 use Rattle.th_lines.specs.declared.feeder.Fed.TheVariants.{Ended, Stopped, Full, Failed, Spent}
@@ -26,6 +26,10 @@ pub record IsBounded (came : Came) (taken limit : ℕ) : Type 0 where
   pub within : taken ≤ limit
   pub begun : 0 < length came.begun → taken < limit
 
+-- what it shows of the input itself: the line that was handed out last, and what came after it
+abbrev pub reading : Feeding → Reading
+reading f = record { line = f.line; came = f.came }
+
 -- as many lines were handed out as may be, and a further one has begun
 pub record IsFull (f : Feeding) : Type 0 where
   pub bound : f.taken ≡ f.limit
@@ -34,7 +38,7 @@ pub record IsFull (f : Feeding) : Type 0 where
 -- The next line was handed out; or no further one is whole, or may be handed out.
 abbrev pub HandsOut : Feeding → Bool → Feeding → Type 0
 HandsOut old true new = (old.taken < old.limit)
-    × Finds old.came true (record { line = new.line; came = new.came })
+    × Finds old.came true (reading new)
     × (new ≡ record old { line = new.line; came = new.came })
 HandsOut old false new = ((new.taken ≡ new.limit) ⊎ (new.came.ahead ≡ []))
     × ((ended : Bool) (more : List ℕ) →

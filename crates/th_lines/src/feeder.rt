@@ -2,7 +2,7 @@
 ghost use Rattle.std.specs.Prelude.{◌≡◌, ℕ, ◌<◌, ◌≤◌, ◌+◌, [], List, Option, None, not, true, false, length, IfOk};
 ghost use Rattle.std.specs.Io.KnownBytes.{IsAtEnd};
 ghost use Rattle.th_lines.specs.Device.{failures_after, one_more};
-ghost use Rattle.th_lines.specs.Feeding.{Feeds, GoesOn, HandsOut, IsFull, Settles, Stands, Takes, Underway, beginning, failures_by, failures_so_far};
+ghost use Rattle.th_lines.specs.Feeding.{Feeds, GoesOn, HandsOut, IsFull, Settles, Stands, Takes, Underway, beginning, failures_by, failures_so_far, reading};
 ghost use Rattle.th_lines.specs.Intake.{Ends, Fills, line_given, most_read, nothing_came};
 ghost use Rattle.th_lines.specs.Lines.{Line, line_of};
 
@@ -275,8 +275,12 @@ impl Feeder {
     // Hands out what stands after the last LF at the end of the input, and answers whether anything does.
     fn end(&mut self) -> bool
         requires { self.old.came.ahead ≡ [] }
-        ensures ends { Ends self.old.came result (record { line = self.new.line; came = self.new.came }) }
-        ensures same { self.new ≡ record self.old { line = self.new.line; came = self.new.came; ended = true } }
+        ensures ends { Ends self.old.came result (reading self.new) }
+        ensures same { self.new ≡ record self.old {
+          line = self.new.line;
+          came = self.new.came;
+          ended = true;
+        } }
         ensures room { result ≡ true → self.old.taken < self.old.limit }
         ensures within { self.old.taken ≤ self.old.limit }
     {
