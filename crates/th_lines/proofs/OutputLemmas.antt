@@ -8,7 +8,7 @@ use Rattle.std.proofs.lemmas.List.{take_all}
 use Rattle.std.specs.List.{concat}
 use Rattle.std.proofs.lemmas.List.Folds.{concat-append}
 use Rattle.th_lines.specs.Device.{one_more}
-use Rattle.th_lines.specs.Output.{Output, WritesAll, WritesFront, Adds, AddsOrFails}
+use Rattle.th_lines.specs.Output.{Output, WritesAll, WritesFront, Writes, Adds, AddsOrFails, Flushes}
 use Rattle.th_lines.proofs.ReplyLemmas.{concat-more}
 
 -- nothing came
@@ -59,6 +59,21 @@ adds_flushed {a} {b} {c} {bytes} p q = record {
   same = q.same ∙ p.same;
 }
 
+-- all that waited was written, and then the writer flushed
+pub flushed : {R E : Type 0} (a b c : Output) (r : Result R E) → WritesAll a.waiting a b → b.waiting ≡ [] → c.waiting ≡ b.waiting
+    → Writes [] (record b { waiting = [] }) (record c { waiting = [] }) r → Flushes a c r
+flushed a b c (Ok done) p none same q =
+    let wrote = Appends-trans a.written b.written c.written a.waiting [] p.wrote q.wrote in
+    let all = subst (λ (l : List ℕ). Appends a.written c.written l) (append-nil a.waiting) wrote in
+    (record { wrote = all; same = q.same ∙ p.same }, same ∙ none)
+flushed a b c (Err e) p none same f = record {
+  shown = a.waiting ++ f.shown;
+  unsaid = f.unsaid;
+  wrote = Appends-trans a.written b.written c.written a.waiting f.shown p.wrote f.wrote;
+  text = append_assoc a.waiting f.shown f.unsaid ∙ ap (λ (l : List ℕ). a.waiting ++ l) f.text ∙ append-nil a.waiting;
+  failed = f.failed ∙ ap one_more p.same;
+}
+
 -- a front of some bytes is one of more
 pub front_more : {o n : Output} {bytes : List ℕ} → (more : List ℕ) → WritesFront bytes o n → WritesFront (bytes ++ more) o n
 front_more {o} {n} {bytes} more f = record {
@@ -104,22 +119,24 @@ adds_others a b c line others (Ok done) p q = adds_both p q
 adds_others a b c line others (Err e) p f = front_after others p f
 
 -- lines of which the first k were put behind what waited, and one line more
-pub adds_line : (a b c : Output) (lines : List (List ℕ)) (k : ℕ) (waiting : List ℕ) → k < length lines
-    → Adds (concat (take k lines)) a b → Adds [] b c → waiting ≡ c.waiting ++ get_or lines k []
-    → Adds (concat (take (k + 1) lines)) a (record c { waiting = waiting })
-adds_line a b c lines k waiting within p q e =
-    let now : Output = record c { waiting = waiting } in
-    subst (λ (t : List ℕ). Adds t a now) (sym (concat-more lines k within)) (adds_both p (adds_first b c (get_or lines k []) waiting q e))
+pub adds_line : {a b c : Output} (lines : List (List ℕ)) (k : ℕ) → k < length lines → Adds (concat (take k lines)) a b
+    → Adds (get_or lines k []) b c → Adds (concat (take (k + 1) lines)) a c
+adds_line {a} {b} {c} lines k within p q =
+    subst (λ (t : List ℕ). Adds t a c) (sym (concat-more lines k within)) (adds_both p q)
 
--- the writer failed after them
-pub front_line : (a b c : Output) (lines : List (List ℕ)) (k : ℕ) → Adds (concat (take k lines)) a b
-    → WritesFront (b.waiting ++ []) b c → WritesFront (a.waiting ++ concat lines) a c
-front_line a b c lines k p f =
-    let rest : List ℕ = concat (drop k lines) in
-    let whole : concat (take k lines) ++ rest ≡ concat lines =
-    sym (concat-append (take k lines) (drop k lines)) ∙ ap concat (take-append-drop k lines) in
-    front_as (ap (λ (t : List ℕ). a.waiting ++ t) whole)
-    (front_after rest p (front_all b c rest f))
+-- the writer failed at it
+pub front_line : {a b c : Output} (lines : List (List ℕ)) (k : ℕ) → k < length lines → Adds (concat (take k lines)) a b
+    → WritesFront (b.waiting ++ get_or lines k []) b c → WritesFront (a.waiting ++ concat lines) a c
+front_line {a} {b} {c} lines k within p f =
+    let next : List ℕ = get_or lines k [] in
+    let rest : List ℕ = concat (drop (k + 1) lines) in
+    let more : (concat (take k lines) ++ next) ++ rest ≡ concat (take (k + 1) lines) ++ rest =
+    ap (λ (t : List ℕ). t ++ rest) (sym (concat-more lines k within)) in
+    let whole : concat (take (k + 1) lines) ++ rest ≡ concat lines =
+    sym (concat-append (take (k + 1) lines) (drop (k + 1) lines)) ∙ ap concat (take-append-drop (k + 1) lines) in
+    let same : (a.waiting ++ (concat (take k lines) ++ next)) ++ rest ≡ a.waiting ++ concat lines =
+    append_assoc a.waiting (concat (take k lines) ++ next) rest ∙ ap (λ (t : List ℕ). a.waiting ++ t) (more ∙ whole) in
+    front_as same (front_more rest (front_after next p f))
 
 -- a write in parts
 pub range_rest : (bytes : List ℕ) (i : ℕ) → take (length bytes - i) (drop i bytes) ≡ drop i bytes

@@ -1,8 +1,8 @@
 //! Replies that wait to be written.
-ghost use Rattle.std.specs.Prelude.{◌≡◌, ◌+◌, ◌≤◌, [], ℕ, List, IfOk, OnOk, map, vec_capacity, vec_len};
+ghost use Rattle.std.specs.Prelude.{◌≡◌, ◌+◌, ◌≤◌, [], ℕ, List, IfOk, OnOk, length, map, take, vec_capacity, vec_len};
 ghost use Rattle.std.specs.List.{concat};
 ghost use Rattle.th_lines.specs.Output.{AddsOrFails, Flushes, Writes, output};
-ghost use Rattle.th_lines.specs.Replies.{ended, row, spell, telling};
+ghost use Rattle.th_lines.specs.Replies.{ended, head, row, spell, telling};
 
 use crate::counted::{Counted, Moved};
 use crate::fault::WriteFailed;
@@ -27,8 +27,10 @@ const RETRIES: u32 = 1000;
 /// of the writer. All memory is made by `new`.
 #[derive(Drop)]
 pub struct WriteBuffer {
-    // The bytes that wait, in order. Where there may be no room for one more line, all of them are written first.
-    waiting: Vec<u8>,
+    // The first of these wait, in order: `filled` many. What stands behind them is room for the next line. Where there
+    // may be too little room for it, all that waits is written first.
+    bytes: Vec<u8>,
+    filled: usize,
     // How many interrupted calls may still be made again: one less with each that is.
     retries: u32,
 }
@@ -36,9 +38,9 @@ pub struct WriteBuffer {
 impl Model for WriteBuffer {
     ghost Value = { List ℕ };
 
-    ghost view = { λ b. b.waiting.items };
+    ghost view = { λ b. take b.filled b.bytes.items };
 
-    ghost invariant = { λ b. 4096 ≤ vec_capacity b.waiting };
+    ghost invariant = { λ b. (b.filled ≤ vec_len b.bytes) × (4096 ≤ vec_capacity b.bytes) };
 }
 
 impl WriteBuffer {
@@ -46,9 +48,10 @@ impl WriteBuffer {
     pub fn new(alloc: Global) -> Result<WriteBuffer, AllocError>
         ensures { IfOk result (λ b. b ≡ []) }
     {
-        let waiting = Vec::with_capacity(alloc, ROOM)?;
+        let bytes = Vec::with_capacity(alloc, ROOM)?;
         Ok(WriteBuffer {
-            waiting,
+            bytes,
+            filled: 0,
             retries: RETRIES,
         })
     }
@@ -67,17 +70,12 @@ impl WriteBuffer {
         ensures { AddsOrFails (spell reply.now)
             (output W.contents writer.old self.old) (output W.contents writer.new self.new) result }
     {
-        let waiting = &mut self.waiting;
-        let retries = &mut self.retries;
-        match make_room(waiting, retries, writer) {
+        match self.append_head(writer, reply) {
             Ok(()) => {}
             Err(e) => return Err(e),
         }
-        let Ok(()) = print_head(reply, waiting) else {
-            unreachable!();
-        };
         if let Reply::Topics(listing) = reply {
-            return append_rows(waiting, retries, writer, listing.rows());
+            return self.append_rows(writer, listing.rows());
         }
         Ok(())
     }
@@ -97,14 +95,11 @@ impl WriteBuffer {
         ensures { AddsOrFails (spell (telling word value.now))
             (output W.contents writer.old self.old) (output W.contents writer.new self.new) result }
     {
-        let waiting = &mut self.waiting;
-        match make_room(waiting, &mut self.retries, writer) {
+        match make_room(&mut self.bytes, &mut self.filled, &mut self.retries, writer) {
             Ok(()) => {}
             Err(e) => return Err(e),
         }
-        let Ok(()) = print_value(word, value, waiting) else {
-            unreachable!();
-        };
+        self.filled = print_value(word, value, self.bytes.as_mut_slice(), self.filled);
         Ok(())
     }
 
@@ -121,12 +116,18 @@ impl WriteBuffer {
         ensures { AddsOrFails (concat (L.to_come lines.old))
             (output W.contents writer.old self.old) (output W.contents writer.new self.new) result }
     {
-        append_pieces(&mut self.waiting, &mut self.retries, writer, lines)
+        append_pieces(
+            &mut self.bytes,
+            &mut self.filled,
+            &mut self.retries,
+            writer,
+            lines,
+        )
     }
 
     /// Whether one line more goes in without a write. No clause says so: when bytes are written, none rests on.
     pub fn has_room(&self) -> bool {
-        self.waiting.capacity() - self.waiting.len() >= LINE_ROOM
+        self.bytes.capacity() - self.filled >= LINE_ROOM
     }
 
     /// Writes all that waits and flushes the writer, so that whoever reads the replies has them all. Where nothing
@@ -139,95 +140,188 @@ impl WriteBuffer {
         ensures { Flushes
             (output W.contents writer.old self.old) (output W.contents writer.new self.new) result }
     {
-        flush_waiting(&mut self.waiting, &mut self.retries, writer)
+        flush_waiting(&self.bytes, &mut self.filled, &mut self.retries, writer)
     }
-}
 
-// Puts the lines of these topics behind what waits.
-fn append_rows<W: Write>(
-    waiting: &mut Vec<u8>,
-    retries: &mut u32,
-    writer: &mut Counted<W>,
-    topics: &[Listed],
-) -> Result<(), WriteFailed>
-    requires { LINE_ROOM ≤ vec_capacity waiting.old }
-    ensures added { AddsOrFails (concat (map ended (map row topics.now)))
-        (output W.contents writer.old waiting.old.items)
-        (output W.contents writer.new waiting.new.items) result }
-    ensures room { LINE_ROOM ≤ vec_capacity waiting.new }
-{
-    for topic in topics {
-        match make_room(waiting, retries, writer) {
+    // Puts the first line of a reply behind what waits.
+    #[inline(always)]
+    fn append_head<W: Write>(
+        &mut self,
+        writer: &mut Counted<W>,
+        reply: &Reply,
+    ) -> Result<(), WriteFailed>
+        ensures { AddsOrFails (ended (head reply.now))
+            (output W.contents writer.old self.old) (output W.contents writer.new self.new) result }
+    {
+        match make_room(&mut self.bytes, &mut self.filled, &mut self.retries, writer) {
             Ok(()) => {}
             Err(e) => return Err(e),
         }
-        let Ok(()) = print_row(topic, waiting) else {
-            unreachable!();
-        };
+        self.filled = print_head(reply, self.bytes.as_mut_slice(), self.filled);
+        Ok(())
     }
-    Ok(())
+
+    // Puts the lines of these topics behind what waits.
+    fn append_rows<W: Write>(
+        &mut self,
+        writer: &mut Counted<W>,
+        topics: &[Listed],
+    ) -> Result<(), WriteFailed>
+        ensures { AddsOrFails (concat (map ended (map row topics.now)))
+            (output W.contents writer.old self.old) (output W.contents writer.new self.new) result }
+    {
+        for topic in topics {
+            match self.append_row(writer, topic) {
+                Ok(()) => {}
+                Err(e) => return Err(e),
+            }
+        }
+        Ok(())
+    }
+
+    // Puts the line of this topic behind what waits.
+    fn append_row<W: Write>(
+        &mut self,
+        writer: &mut Counted<W>,
+        topic: &Listed,
+    ) -> Result<(), WriteFailed>
+        ensures { AddsOrFails (ended (row topic.now))
+            (output W.contents writer.old self.old) (output W.contents writer.new self.new) result }
+    {
+        match make_room(&mut self.bytes, &mut self.filled, &mut self.retries, writer) {
+            Ok(()) => {}
+            Err(e) => return Err(e),
+        }
+        self.filled = print_row(topic, self.bytes.as_mut_slice(), self.filled);
+        Ok(())
+    }
 }
 
 // Puts the pieces that are to come behind what waits.
 fn append_pieces<W: Write, L: Lines>(
-    waiting: &mut Vec<u8>,
+    bytes: &mut Vec<u8>,
+    filled: &mut usize,
     retries: &mut u32,
     writer: &mut Counted<W>,
     lines: &mut L,
 ) -> Result<(), WriteFailed>
-    requires { LINE_ROOM ≤ vec_capacity waiting.old }
+    requires { (filled.old ≤ vec_len bytes.old) × (LINE_ROOM ≤ vec_capacity bytes.old) }
     ensures added { AddsOrFails (concat (L.to_come lines.old))
-        (output W.contents writer.old waiting.old.items)
-        (output W.contents writer.new waiting.new.items) result }
-    ensures room { LINE_ROOM ≤ vec_capacity waiting.new }
+        (output W.contents writer.old (take filled.old bytes.old.items))
+        (output W.contents writer.new (take filled.new bytes.new.items)) result }
+    ensures room { (filled.new ≤ vec_len bytes.new) × (LINE_ROOM ≤ vec_capacity bytes.new) }
 {
     loop {
-        match make_room(waiting, retries, writer) {
+        match write_if_full(bytes, filled, retries, writer) {
             Ok(()) => {}
             Err(e) => return Err(e),
         }
-        match lines.print_next(waiting) {
-            Ok(true) => {}
+        bytes.truncate(*filled);
+        match lines.print_next(bytes) {
+            Ok(true) => *filled = bytes.len(),
             Ok(false) => return Ok(()),
             Err(_) => unreachable!(),
         }
     }
 }
 
-// Writes all that waits, where there may be no room for one more line or piece.
+// Makes room for one line more behind the first bytes, which wait. Mostly there is.
 #[inline(always)]
 fn make_room<W: Write>(
-    waiting: &mut Vec<u8>,
+    bytes: &mut Vec<u8>,
+    filled: &mut usize,
     retries: &mut u32,
     writer: &mut Counted<W>,
 ) -> Result<(), WriteFailed>
-    requires { LINE_ROOM ≤ vec_capacity waiting.old }
+    requires { (filled.old ≤ vec_len bytes.old) × (LINE_ROOM ≤ vec_capacity bytes.old) }
     ensures added { AddsOrFails []
-        (output W.contents writer.old waiting.old.items)
-        (output W.contents writer.new waiting.new.items) result }
-    ensures room { OnOk result (vec_len waiting.new + LINE_ROOM ≤ vec_capacity waiting.new) }
-    ensures same { vec_capacity waiting.new ≡ vec_capacity waiting.old }
+        (output W.contents writer.old (take filled.old bytes.old.items))
+        (output W.contents writer.new (take filled.new bytes.new.items)) result }
+    ensures room { OnOk result (filled.new + LINE_ROOM ≤ vec_len bytes.new) }
+    ensures within { (filled.new ≤ vec_len bytes.new) × (LINE_ROOM ≤ vec_capacity bytes.new) }
 {
-    if waiting.capacity() - waiting.len() < LINE_ROOM {
-        return write_waiting(waiting, retries, writer);
+    if bytes.len() - *filled < LINE_ROOM {
+        return make_more_room(bytes, filled, retries, writer);
+    }
+    Ok(())
+}
+
+// The same, where the bytes behind those that wait are too few for a line.
+#[inline(never)]
+fn make_more_room<W: Write>(
+    bytes: &mut Vec<u8>,
+    filled: &mut usize,
+    retries: &mut u32,
+    writer: &mut Counted<W>,
+) -> Result<(), WriteFailed>
+    requires { (filled.old ≤ vec_len bytes.old) × (LINE_ROOM ≤ vec_capacity bytes.old) }
+    ensures added { AddsOrFails []
+        (output W.contents writer.old (take filled.old bytes.old.items))
+        (output W.contents writer.new (take filled.new bytes.new.items)) result }
+    ensures room { OnOk result (filled.new + LINE_ROOM ≤ vec_len bytes.new) }
+    ensures within { (filled.new ≤ vec_len bytes.new) × (LINE_ROOM ≤ vec_capacity bytes.new) }
+{
+    match write_if_full(bytes, filled, retries, writer) {
+        Ok(()) => {}
+        Err(e) => return Err(e),
+    }
+    lengthen(bytes, *filled + LINE_ROOM);
+    Ok(())
+}
+
+// Puts zeros behind the bytes until they are so many, if they are fewer.
+fn lengthen(bytes: &mut Vec<u8>, count: usize)
+    requires { count ≤ vec_capacity bytes.old }
+    ensures long { count ≤ vec_len bytes.new }
+    ensures same { (k : ℕ) → k ≤ vec_len bytes.old
+        → take k bytes.new.items ≡ take k bytes.old.items }
+    ensures longer { vec_len bytes.old ≤ vec_len bytes.new }
+    ensures room { vec_capacity bytes.old ≤ vec_capacity bytes.new }
+{
+    if bytes.len() < count {
+        let Ok(()) = bytes.resize(count, 0) else {
+            unreachable!();
+        };
+    }
+}
+
+// Writes all that waits, where there may be no room for one more line or piece.
+fn write_if_full<W: Write>(
+    bytes: &Vec<u8>,
+    filled: &mut usize,
+    retries: &mut u32,
+    writer: &mut Counted<W>,
+) -> Result<(), WriteFailed>
+    requires { (filled.old ≤ vec_len bytes.now) × (LINE_ROOM ≤ vec_capacity bytes.now) }
+    ensures added { AddsOrFails []
+        (output W.contents writer.old (take filled.old bytes.now.items))
+        (output W.contents writer.new (take filled.new bytes.now.items)) result }
+    ensures room { OnOk result (filled.new + LINE_ROOM ≤ vec_capacity bytes.now) }
+    ensures within { filled.new ≤ filled.old }
+{
+    if bytes.capacity() - *filled < LINE_ROOM {
+        return write_waiting(bytes.as_slice(), filled, retries, writer);
     }
     Ok(())
 }
 
 // Writes all that waits.
 fn write_waiting<W: Write>(
-    waiting: &mut Vec<u8>,
+    bytes: &[u8],
+    filled: &mut usize,
     retries: &mut u32,
     writer: &mut Counted<W>,
 ) -> Result<(), WriteFailed>
+    requires { filled.old ≤ length bytes.now }
     ensures wrote { Flushes
-        (output W.contents writer.old waiting.old.items)
-        (output W.contents writer.new waiting.new.items) result }
-    ensures same { vec_capacity waiting.new ≡ vec_capacity waiting.old }
+        (output W.contents writer.old (take filled.old bytes.now))
+        (output W.contents writer.new (take filled.new bytes.now)) result }
+    ensures within { filled.new ≤ filled.old }
+    ensures none { OnOk result (filled.new ≡ 0) }
 {
-    match write_all(writer, waiting.as_slice(), retries) {
+    match write_all(writer, &bytes[..*filled], retries) {
         Ok(()) => {
-            waiting.clear();
+            *filled = 0;
             Ok(())
         }
         Err(e) => Err(e),
@@ -236,19 +330,21 @@ fn write_waiting<W: Write>(
 
 // Writes all that waits, and flushes the writer. Where nothing waits it is not called.
 fn flush_waiting<W: Write>(
-    waiting: &mut Vec<u8>,
+    bytes: &[u8],
+    filled: &mut usize,
     retries: &mut u32,
     writer: &mut Counted<W>,
 ) -> Result<(), WriteFailed>
+    requires { filled.old ≤ length bytes.now }
     ensures wrote { Flushes
-        (output W.contents writer.old waiting.old.items)
-        (output W.contents writer.new waiting.new.items) result }
-    ensures same { vec_capacity waiting.new ≡ vec_capacity waiting.old }
+        (output W.contents writer.old (take filled.old bytes.now))
+        (output W.contents writer.new (take filled.new bytes.now)) result }
+    ensures within { filled.new ≤ filled.old }
 {
-    if waiting.is_empty() {
+    if *filled == 0 {
         return Ok(());
     }
-    match write_waiting(waiting, retries, writer) {
+    match write_waiting(bytes, filled, retries, writer) {
         Ok(()) => flush_writer(writer, retries),
         Err(e) => Err(e),
     }
