@@ -13,10 +13,14 @@ use Rattle.std.proofs.Math.Seq.{take-add, take-append_seam}
 
 -- a byte that is no LF, before others
 other : (b : ℕ) (rest : Bool) → (not (eqb b 10) && rest) ≡ true → (eqb b 10 ≡ false) × (rest ≡ true)
-other b rest h = elim (eqb b 10) as (λ t. (not t && rest) ≡ true → (t ≡ false) × (rest ≡ true)) [ true ↦ λ k. absurd (false≢true k) | false ↦ λ k. (refl, k) ] h
+other b rest h = elim (eqb b 10) as (λ t. (not t && rest) ≡ true → (t ≡ false) × (rest ≡ true)) [
+  | true ↦ λ k. absurd (false≢true k)
+  | false ↦ λ k. (refl, k)
+] h
 
 -- the lines at bytes without an LF, and at the first LF
-pub lines_from-part : (ended : Bool) (held part more : List ℕ) → has_no_lf part ≡ true → lines_from ended held (part ++ more) ≡ lines_from ended (held ++ part) more
+pub lines_from-part : (ended : Bool) (held part more : List ℕ) → has_no_lf part ≡ true
+    → lines_from ended held (part ++ more) ≡ lines_from ended (held ++ part) more
 lines_from-part ended held [] more h = ap (λ (l : List ℕ). lines_from ended l more) (sym (append-nil held))
 lines_from-part ended held (b ∷ part) more h =
     let o = other b (has_no_lf part) h in
@@ -24,7 +28,8 @@ lines_from-part ended held (b ∷ part) more h =
     let later = lines_from-part ended (held ++ b ∷ []) part more o.1 in
     rw here (later ∙ ap (λ (l : List ℕ). lines_from ended l more) (append_assoc held (b ∷ []) part))
 
-pub lines_from-lf : (ended : Bool) (held part more : List ℕ) → has_no_lf part ≡ true → lines_from ended held (part ++ 10 ∷ more) ≡ line_of true (held ++ part) ∷ lines_from ended [] more
+pub lines_from-lf : (ended : Bool) (held part more : List ℕ) → has_no_lf part ≡ true
+    → lines_from ended held (part ++ 10 ∷ more) ≡ line_of true (held ++ part) ∷ lines_from ended [] more
 lines_from-lf ended held part more h = lines_from-part ended held part (10 ∷ more) h
 
 -- what came first of a line that is too long doesn't matter
@@ -43,13 +48,16 @@ lines_from-long : (ended : Bool) (x y more : List ℕ) → 4096 < length x → 4
 lines_from-long ended x y [] p q = long_last ended x y p q
 lines_from-long ended x y (b ∷ more) p q =
     let l = long_line x y p q in
-    let later = lines_from-long ended (x ++ b ∷ []) (y ++ b ∷ []) more (omega (arith, length-append x (b ∷ []))) (omega (arith, length-append y (b ∷ []))) in
-    elim (eqb b 10) as (λ t. cond t (line_of true x ∷ lines_from ended [] more) (lines_from ended (x ++ b ∷ []) more) ≡ cond t (line_of true y ∷ lines_from ended [] more) (lines_from ended (y ++ b ∷ []) more)) [
+    let later = lines_from-long ended (x ++ b ∷ []) (y ++ b ∷ []) more (omega (arith, length-append x (b ∷ [])))
+    (omega (arith, length-append y (b ∷ []))) in
+    elim (eqb b 10) as (λ t. cond t (line_of true x ∷ lines_from ended [] more) (lines_from ended (x ++ b ∷ []) more)
+    ≡ cond t (line_of true y ∷ lines_from ended [] more) (lines_from ended (y ++ b ∷ []) more)) [
       | true ↦ ap (λ z. z ∷ lines_from ended [] more) l
       | false ↦ later
     ]
 
-pub lines_from-same : (ended : Bool) (kept bytes more : List ℕ) → IsSameLine kept bytes → lines_from ended kept more ≡ lines_from ended bytes more
+pub lines_from-same : (ended : Bool) (kept bytes more : List ℕ) → IsSameLine kept bytes
+    → lines_from ended kept more ≡ lines_from ended bytes more
 lines_from-same ended kept bytes more (inl e) = ap (λ (l : List ℕ). lines_from ended l more) e
 lines_from-same ended kept bytes more (inr l) = lines_from-long ended kept bytes more l.0 l.1
 
@@ -81,13 +89,19 @@ no_lf-before [] (suc k) h = refl
 no_lf-before (b ∷ bs) zero h = refl
 no_lf-before (b ∷ bs) (suc k) h =
     let later : has_no_lf (take k bs) ≡ true = no_lf-before bs k (λ j lt e. h (suc j) (omega arith) e) in
-    elim (eqb b 10) as (λ t. (t ≡ true → ⊥) → (not t && has_no_lf (take k bs)) ≡ true) [ true ↦ λ no. absurd (no refl) | false ↦ λ no. later ] (h 0 (omega arith))
+    elim (eqb b 10) as (λ t. (t ≡ true → ⊥) → (not t && has_no_lf (take k bs)) ≡ true) [
+      | true ↦ λ no. absurd (no refl)
+      | false ↦ λ no. later
+    ] (h 0 (omega arith))
 
 pub no_lf-all : (bytes : List ℕ) → ((j : ℕ) → j < length bytes → eqb (get_or bytes j 0) 10 ≡ true → ⊥) → has_no_lf bytes ≡ true
 no_lf-all [] h = refl
 no_lf-all (b ∷ bs) h =
     let later : has_no_lf bs ≡ true = no_lf-all bs (λ j lt e. h (suc j) (omega arith) e) in
-    elim (eqb b 10) as (λ t. (t ≡ true → ⊥) → (not t && has_no_lf bs) ≡ true) [ true ↦ λ no. absurd (no refl) | false ↦ λ no. later ] (h 0 (omega arith))
+    elim (eqb b 10) as (λ t. (t ≡ true → ⊥) → (not t && has_no_lf bs) ≡ true) [
+      | true ↦ λ no. absurd (no refl)
+      | false ↦ λ no. later
+    ] (h 0 (omega arith))
 
 split_at : (bytes : List ℕ) (k : ℕ) → k < length bytes → eqb (get_or bytes k 0) 10 ≡ true → bytes ≡ take k bytes ++ 10 ∷ drop (k + 1) bytes
 split_at bytes k h e =

@@ -87,7 +87,8 @@ front_more {o} {n} {bytes} more f = record {
 pub front_as : {o n : Output} {bytes same : List ℕ} → bytes ≡ same → WritesFront bytes o n → WritesFront same o n
 front_as {o} {n} {bytes} {same} e f = record { shown = f.shown; unsaid = f.unsaid; wrote = f.wrote; text = f.text ∙ e; failed = f.failed }
 
-pub front_after : {a b c : Output} {x : List ℕ} (y : List ℕ) → Adds x a b → WritesFront (b.waiting ++ y) b c → WritesFront (a.waiting ++ (x ++ y)) a c
+pub front_after : {a b c : Output} {x : List ℕ} (y : List ℕ) → Adds x a b → WritesFront (b.waiting ++ y) b c
+    → WritesFront (a.waiting ++ (x ++ y)) a c
 front_after {a} {b} {c} {x} y p q = record {
   shown = p.shown ++ q.shown;
   unsaid = q.unsaid;
@@ -111,10 +112,12 @@ pub front_all : (o n : Output) (bytes : List ℕ) → WritesFront (o.waiting ++ 
 front_all o n bytes f = front_as (ap (λ (l : List ℕ). l ++ bytes) (append-nil o.waiting)) (front_more bytes f)
 
 -- a first line, where there is room for it, and then others
-pub adds_first : (a b : Output) (line waiting : List ℕ) → Adds [] a b → waiting ≡ b.waiting ++ line → Adds line a (record b { waiting = waiting })
+pub adds_first : (a b : Output) (line waiting : List ℕ) → Adds [] a b → waiting ≡ b.waiting ++ line
+    → Adds line a (record b { waiting = waiting })
 adds_first a b line waiting p e = adds_both p (adds_waiting b line waiting e)
 
-pub adds_others : {R E : Type 0} (a b c : Output) (line others : List ℕ) (r : Result R E) → Adds line a b → AddsOrFails others b c r → AddsOrFails (line ++ others) a c r
+pub adds_others : {R E : Type 0} (a b c : Output) (line others : List ℕ) (r : Result R E) → Adds line a b
+    → AddsOrFails others b c r → AddsOrFails (line ++ others) a c r
 adds_others a b c line others (Ok done) p q = adds_both p q
 adds_others a b c line others (Err e) p f = front_after others p f
 

@@ -14,7 +14,10 @@ returns-in_default-split_first c =
 
 pub returns-then-next-ne32 : goal.returns-then-next-ne32
 returns-then-next-ne32 c =
-    sym (front-other parts c.args.bytes.now c.in-Some.name c.in-Some.behind.now c.in-Some-split_first.next.now c.in-Some-split_first.rest.now (sym c.in-Some.ensures) c.in-Some-split_first.ensures.cases.0 c.if-next-ne32.true)
+    let next = c.in-Some-split_first.next.now in
+    let rest = c.in-Some-split_first.rest.now in
+    let is = c.in-Some-split_first.ensures.cases.0 in
+    sym (front-other parts c.args.bytes.now c.in-Some.name c.in-Some.behind.now next rest (sym c.in-Some.ensures) is c.if-next-ne32.true)
 
 pub returns : goal.returns
 returns c =

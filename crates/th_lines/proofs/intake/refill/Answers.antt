@@ -5,5 +5,8 @@ use Rattle.th_lines.proofs.intake.refill.Goals as goal
 
 pub returns-clause-kept : goal.returns-clause-kept
 returns-clause-kept g c =
-    let same = range_front c.keep_begun-begun.new.buffer c.read_behind-moved.new.buffer c.keep_begun-begun.result 4097 c.keep_begun-begun.ensures.from c.read_behind-moved.ensures.kept in
+    let kept = c.keep_begun-begun.new.buffer in
+    let now = c.read_behind-moved.new.buffer in
+    let from = c.keep_begun-begun.result in
+    let same = range_front kept now from 4097 c.keep_begun-begun.ensures.from c.read_behind-moved.ensures.kept in
     subst (λ (l : List ℕ). IsSameLine l (slice_range c.args.buffer.now c.args.begun c.args.end)) (sym same) c.keep_begun-begun.ensures.kept

@@ -13,10 +13,13 @@ use Rattle.th_lines.proofs.Tables.{◌&◌}
 use Rattle.th_lines.proofs.read.on_mark.Goals as goal
 
 -- the word's own reader reads the name
-reads : (spelled : List ℕ) (read : List ℕ → Command) (word t : List ℕ) → by_word (mark_words ++ topic_words) spelled (Some t) ≡ named read (Some t)
-    → is_name t ≡ true → length word ≡ length spelled → HasBytesAt word 0 spelled → by_word (mark_words ++ topic_words) word (Some t) ≡ Some (read t)
+reads : (spelled : List ℕ) (read : List ℕ → Command) (word t : List ℕ)
+    → by_word (mark_words ++ topic_words) spelled (Some t) ≡ named read (Some t)
+    → is_name t ≡ true → length word ≡ length spelled → HasBytesAt word 0 spelled
+    → by_word (mark_words ++ topic_words) word (Some t) ≡ Some (read t)
 reads spelled read word t own name long bytes =
-    reads-after carries_value (mark_words ++ topic_words) spelled word t None (λ name. ended (read name)) (Ok (read t)) own name long bytes refl
+    reads-after carries_value (mark_words ++ topic_words) spelled word t None (λ name. ended (read name))
+    (Ok (read t)) own name long bytes refl
 
 pub returns-in-HAS : goal.returns-in-HAS
 unfolding mark_words

@@ -18,7 +18,8 @@ use Rattle.th_lines.proofs.read.read_command.Goals as goal
 no_name : (word : List ℕ) (fields : List ℕ) → name_then parts (Some fields) ≡ None → by_word words word (Some fields) ≡ None
 unfolding words words_alone words_with_more value_words mark_words topic_words
 no_name word fields none =
-    let without = λ (next : List ℕ → Rest → Option Command). let e : name_then next (Some fields) ≡ None = nameless next (Some fields) none in e in
+    let without = λ (next : List ℕ → Rest → Option Command).
+    let e : name_then next (Some fields) ≡ None = nameless next (Some fields) none in e in
     by_word-misses words word (Some fields) (
     inr refl
     & inr refl
@@ -54,7 +55,10 @@ returns-in_default-name_and_rest c =
     let word : List ℕ = c.cut.result.0.now in
     let fields : List ℕ = c.in-Some.fields.now in
     let found = ap (λ (r : Option (Bor (List ℕ))). let p : List ℕ × Rest = (word, rest_of r) in p) (sym c.in-Some.is) ∙ c.cut.ensures in
-    record { exact = subst (λ (p : List ℕ × Rest). by_word words p.0 p.1 ≡ None) found (no_name word fields (sym (c.in_default-name_and_rest.ensures))) }
+    record {
+      exact = subst (λ (p : List ℕ × Rest). by_word words p.0 p.1 ≡ None) found
+          (no_name word fields (sym (c.in_default-name_and_rest.ensures)));
+    }
 
 pub returns-in-None : goal.returns-in-None
 unfolding command_of
@@ -63,7 +67,8 @@ returns-in-None c =
     let fields : List ℕ = c.in-Some.fields.now in
     let t : List ℕ = c.in-Some-name_and_rest.t in
     let found = ap (λ (r : Option (Bor (List ℕ))). let p : List ℕ × Rest = (word, rest_of r) in p) (sym c.in-Some.is) ∙ c.cut.ensures in
-    let read : name_then parts (Some fields) ≡ Some (t, None) = sym (c.in-Some-name_and_rest.ensures) ∙ ap (λ (r : Option (Bor (List ℕ))). Some (t, rest_of r)) c.in-None.is in
+    let read : name_then parts (Some fields) ≡ Some (t, None) =
+    sym (c.in-Some-name_and_rest.ensures) ∙ ap (λ (r : Option (Bor (List ℕ))). Some (t, rest_of r)) c.in-None.is in
     let text : fields ≡ t = (parts-found fields t None read).0 in
     record {
       exact =
@@ -79,7 +84,8 @@ returns-in-Some-rest c =
     let t : List ℕ = c.in-Some-name_and_rest.t in
     let bytes : List ℕ = c.in-Some-rest.text.now in
     let found = ap (λ (r : Option (Bor (List ℕ))). let p : List ℕ × Rest = (word, rest_of r) in p) (sym c.in-Some.is) ∙ c.cut.ensures in
-    let read : name_then parts (Some fields) ≡ Some (t, Some bytes) = sym (c.in-Some-name_and_rest.ensures) ∙ ap (λ (r : Option (Bor (List ℕ))). Some (t, rest_of r)) c.in-Some-rest.is in
+    let read : name_then parts (Some fields) ≡ Some (t, Some bytes) =
+    sym (c.in-Some-name_and_rest.ensures) ∙ ap (λ (r : Option (Bor (List ℕ))). Some (t, rest_of r)) c.in-Some-rest.is in
     let text : fields ≡ t ++ 32 ∷ bytes = (parts-found fields t (Some bytes) read).0 in
     record {
       exact =

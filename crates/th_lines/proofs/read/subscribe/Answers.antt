@@ -15,6 +15,8 @@ unfolding beginning
 returns-in-OLDEST-None c =
     let word : List ℕ = c.cut.result.0.now in
     let t : List ℕ = c.args.t in
-    let alone = reads-word carries_value (beginning t) (codes "OLDEST") word None (Ok (On t (Subscribe Oldest))) (search rules) (search rules) refl in
-    let found = ap (λ (r : Option (Bor (List ℕ))). let p : List ℕ × Rest = (word, rest_of r) in p) (sym c.in-OLDEST-None.is-1) ∙ c.cut.ensures in
+    let alone = reads-word carries_value (beginning t) (codes "OLDEST") word None (Ok (On t (Subscribe Oldest))) (search rules)
+    (search rules) refl in
+    let found = ap (λ (r : Option (Bor (List ℕ))). let p : List ℕ × Rest = (word, rest_of r) in p) (sym c.in-OLDEST-None.is-1)
+    ∙ c.cut.ensures in
     subst (λ (p : List ℕ × Rest). by_word (beginning t) p.0 p.1 ≡ Some (On t (Subscribe Oldest))) found alone

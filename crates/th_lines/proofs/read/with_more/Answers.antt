@@ -18,49 +18,69 @@ use Rattle.th_lines.proofs.Tables.{◌&◌}
 use Rattle.th_lines.proofs.read.with_more.Goals as goal
 
 -- the word's own reader reads what follows the name
-reads : (spelled word t bytes : List ℕ) (next : List ℕ → Rest → Option Command) (result : Result Command LineFault) → by_word words spelled (Some (t ++ 32 ∷ bytes)) ≡ name_then next (Some (t ++ 32 ∷ bytes)) → is_name t ≡ true → length word ≡ length spelled → HasBytesAt word 0 spelled → Reads carries_value result (next t (Some bytes)) → Reads carries_value result (by_word words word (Some (t ++ 32 ∷ bytes)))
-reads spelled word t bytes next result own name long here h = reads-after carries_value words spelled word t (Some bytes) next result own name long here h
+reads : (spelled word t bytes : List ℕ) (next : List ℕ → Rest → Option Command) (result : Result Command LineFault)
+    → by_word words spelled (Some (t ++ 32 ∷ bytes)) ≡ name_then next (Some (t ++ 32 ∷ bytes)) → is_name t ≡ true
+    → length word ≡ length spelled → HasBytesAt word 0 spelled → Reads carries_value result (next t (Some bytes))
+    → Reads carries_value result (by_word words word (Some (t ++ 32 ∷ bytes)))
+reads spelled word t bytes next result own name long here h =
+    reads-after carries_value words spelled word t (Some bytes) next result own name long here h
 
 pub returns-in_ok-value-in-PUB : goal.returns-in_ok-value-in-PUB
 unfolding words words_alone words_with_more value_words mark_words topic_words
 returns-in_ok-value-in-PUB c =
     let t : List ℕ = c.args.t in
     let value : List ℕ = c.in_ok-value-in-PUB.field-0 in
-    reads (codes "PUB") c.args.word.now t c.args.text.now (λ (t : List ℕ). value_last (sending Send t)) (Ok (sending Send t value)) refl c.requires (search rules) (search rules) (value-read (sending Send t) (Some c.args.text.now) value c.in_ok-value-in-PUB.ensures)
+    reads (codes "PUB") c.args.word.now t c.args.text.now (λ (t : List ℕ). value_last (sending Send t))
+    (Ok (sending Send t value)) refl c.requires (search rules) (search rules)
+    (value-read (sending Send t) (Some c.args.text.now) value c.in_ok-value-in-PUB.ensures)
 
 pub returns-in_err-value-in-PUB : goal.returns-in_err-value-in-PUB
 unfolding words words_alone words_with_more value_words mark_words topic_words
 returns-in_err-value-in-PUB c =
     let t : List ℕ = c.args.t in
-    reads (codes "PUB") c.args.word.now t c.args.text.now (λ (t : List ℕ). value_last (sending Send t)) c.from_residual.result refl c.requires (search rules) (search rules) (value-refused carries_value (sending Send t) (λ value. refl) (Some c.args.text.now) c.in_err-value-in-PUB.field-0.0 c.from_residual.result (search rules) c.in_err-value-in-PUB.ensures)
+    reads (codes "PUB") c.args.word.now t c.args.text.now
+    (λ (t : List ℕ). value_last (sending Send t)) c.from_residual.result refl c.requires (search rules) (search rules)
+    (value-refused carries_value (sending Send t) (λ value. refl)
+    (Some c.args.text.now) c.in_err-value-in-PUB.field-0.0 c.from_residual.result (search rules) c.in_err-value-in-PUB.ensures)
 
 pub returns-in_ok-value-in-SWAP : goal.returns-in_ok-value-in-SWAP
 unfolding words words_alone words_with_more value_words mark_words topic_words
 returns-in_ok-value-in-SWAP c =
     let t : List ℕ = c.args.t in
     let value : List ℕ = c.in_ok-value-in-SWAP.field-0 in
-    reads (codes "SWAP") c.args.word.now t c.args.text.now (λ (t : List ℕ). value_last (sending Replace t)) (Ok (sending Replace t value)) refl c.requires (search rules) (search rules) (value-read (sending Replace t) (Some c.args.text.now) value c.in_ok-value-in-SWAP.ensures)
+    reads (codes "SWAP") c.args.word.now t c.args.text.now (λ (t : List ℕ). value_last (sending Replace t))
+    (Ok (sending Replace t value)) refl c.requires (search rules) (search rules)
+    (value-read (sending Replace t) (Some c.args.text.now) value c.in_ok-value-in-SWAP.ensures)
 
 pub returns-in_err-value-in-SWAP : goal.returns-in_err-value-in-SWAP
 unfolding words words_alone words_with_more value_words mark_words topic_words
 returns-in_err-value-in-SWAP c =
     let t : List ℕ = c.args.t in
-    reads (codes "SWAP") c.args.word.now t c.args.text.now (λ (t : List ℕ). value_last (sending Replace t)) c.from_residual-in_err-value-in-SWAP.result refl c.requires (search rules) (search rules) (value-refused carries_value (sending Replace t) (λ value. refl) (Some c.args.text.now) c.in_err-value-in-SWAP.field-0.0 c.from_residual-in_err-value-in-SWAP.result (search rules) c.in_err-value-in-SWAP.ensures)
+    reads (codes "SWAP") c.args.word.now t c.args.text.now
+    (λ (t : List ℕ). value_last (sending Replace t)) c.from_residual-in_err-value-in-SWAP.result refl c.requires (search rules)
+    (search rules) (value-refused carries_value (sending Replace t) (λ value. refl)
+    (Some c.args.text.now) c.in_err-value-in-SWAP.field-0.0 c.from_residual-in_err-value-in-SWAP.result
+    (search rules) c.in_err-value-in-SWAP.ensures)
 
 pub returns-in-EDIT : goal.returns-in-EDIT
 unfolding words words_alone words_with_more value_words mark_words topic_words
 returns-in-EDIT c =
-    reads (codes "EDIT") c.args.word.now c.args.t c.args.text.now (λ (t : List ℕ). field_then (by_word (editing t))) c.edit.result refl c.requires (search rules) (search rules) c.edit.ensures
+    reads (codes "EDIT") c.args.word.now c.args.t c.args.text.now
+    (λ (t : List ℕ). field_then (by_word (editing t))) c.edit.result refl c.requires (search rules)
+    (search rules) c.edit.ensures
 
 pub returns-in-OPEN : goal.returns-in-OPEN
 unfolding words words_alone words_with_more value_words mark_words topic_words
 returns-in-OPEN c =
-    reads (codes "OPEN") c.args.word.now c.args.t c.args.text.now (λ (t : List ℕ). field_then (by_word (making t))) c.open.result refl c.requires (search rules) (search rules) c.open.ensures
+    reads (codes "OPEN") c.args.word.now c.args.t c.args.text.now
+    (λ (t : List ℕ). field_then (by_word (making t))) c.open.result refl c.requires (search rules) (search rules) c.open.ensures
 
 pub returns-in-SUB : goal.returns-in-SUB
 unfolding words words_alone words_with_more value_words mark_words topic_words
 returns-in-SUB c =
-    reads (codes "SUB") c.args.word.now c.args.t c.args.text.now (λ (t : List ℕ). or_field (On t (Subscribe Tail)) (by_word (beginning t))) c.subscribe.result refl c.requires (search rules) (search rules) c.subscribe.ensures
+    reads (codes "SUB") c.args.word.now c.args.t c.args.text.now
+    (λ (t : List ℕ). or_field (On t (Subscribe Tail)) (by_word (beginning t))) c.subscribe.result refl c.requires (search rules)
+    (search rules) c.subscribe.ensures
 
 pub returns-in_default : goal.returns-in_default
 unfolding words words_alone words_with_more value_words mark_words topic_words

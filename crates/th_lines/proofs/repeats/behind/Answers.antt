@@ -10,7 +10,8 @@ returns-then-bytes-end c rest is =
     elim c.then-bytes-end.branch [
       | then-bytes-end-via-then-bytes-end w ↦ omega (arith, w.if-bytes-end.true, long line bytes rest is)
       | then-bytes-end-via-else-bytes-end+then-bytes-end-ne10 w ↦ w.if-bytes-end-ne10.true (has_lf line bytes rest is)
-      | then-bytes-end-via-else-bytes-end+else-bytes-end-ne10+then-ne w ↦ clash _ (same line bytes rest is) (sym w.ne.ensures ∙ w.if-ne.true)
+      | then-bytes-end-via-else-bytes-end+else-bytes-end-ne10+then-ne w ↦
+          clash _ (same line bytes rest is) (sym w.ne.ensures ∙ w.if-ne.true)
     ]
 
 pub returns : goal.returns

@@ -15,7 +15,8 @@ loop-at-preserved-in-Bytes g c = record {
 pub returns-in-Failed : goal.returns-in-Failed
 returns-in-Failed g c =
     let failed = c.in-Failed.ensures.failures ∙ ap one_more c.loop-at.invariant.same in
-    write_failed (output g.W.Write.contents c.args.writer.now []) (output g.W.Write.contents c.write_some.new.self []) _ c.args.bytes.now c.loop-at.at
+    write_failed (output g.W.Write.contents c.args.writer.now [])
+    (output g.W.Write.contents c.write_some.new.self []) _ c.args.bytes.now c.loop-at.at
     c.loop-at.invariant.wrote c.in-Failed.ensures.moved failed
 
 pub loop-at-smaller : goal.loop-at-smaller

@@ -26,4 +26,5 @@ returns-in-Again-clause-read g c = λ first reads from under.
 pub returns-in-Failed-clause-read : goal.returns-in-Failed-clause-read
 returns-in-Failed-clause-read g c = λ first reads from under.
     let u = settles under (c.settle.new.self, c.settle.new.desk, c.settle.new.writer) c.in-Ok.ensures.0 in
-    (fills_on u _ c.fill.new.self c.fill.ensures.same c.requires c.fill.ensures.most c.fill.result c.fill.ensures.filled, c.in-Failed.ensures.filled.1, c.in-Ok.ensures.1)
+    let on = fills_on u _ c.fill.new.self c.fill.ensures.same c.requires c.fill.ensures.most c.fill.result c.fill.ensures.filled in
+    (on, c.in-Failed.ensures.filled.1, c.in-Ok.ensures.1)

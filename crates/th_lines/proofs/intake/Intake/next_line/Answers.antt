@@ -26,4 +26,5 @@ returns c =
     } in
     subst (λ (old : Reading). Finds old.came true new) c.self.view_is
     (finds_line buffer c.deref.result.now i.begun i.ahead_from i.ahead_to c.self.invariant.next c.self.invariant.ahead c.deref.ensures.value
-    c.in-Some.count (lf_at _ c.in-Some.count c.in-Some.ensures.0.high c.in-Some.ensures.1 (λ j lt e. c.in-Some.ensures.0.before j (omega arith) lt e)))
+    c.in-Some.count (lf_at _ c.in-Some.count c.in-Some.ensures.0.high c.in-Some.ensures.1
+    (λ j lt e. c.in-Some.ensures.0.before j (omega arith) lt e)))
