@@ -4,13 +4,14 @@ use Rattle.std.specs.Prelude.{codes, is_some, not}
 use Rattle.std.specs.Option.{IsSome, option_map}
 use Rattle.std.proofs.lemmas.Bool.{false≢true}
 use Rattle.std.proofs.lemmas.Option.{none-some, same_Some}
-use Rattle.th_lines.specs.Fields.{Rest, ended, number_last, number_then, value_last}
+use Rattle.th_lines.specs.Fields.{Rest, ended, number_last, value_last}
 use Rattle.th_lines.specs.declared.fault.LineFault.{LineFault}
 use Rattle.th_lines.specs.declared.fault.LineFault.TheVariants.{BadLine, Short}
 use Rattle.th_lines.proofs.Grammar.{Finds, table-finds}
 use Rattle.th_lines.proofs.Tables.{◌&◌}
 use Rattle.th_traces.specs.Spelled.{Bytes}
 use Rattle.th_traces.specs.Drafts.{More, TakesLine, Tells, Whole, allowed}
+use Rattle.th_traces.specs.LiveHandles.{takes_receiver, takes_sender, with_rx, with_tx}
 use Rattle.th_traces.specs.BroadcastDrafts as broadcast
 use Rattle.th_traces.specs.WatchDrafts as watch
 use Rattle.th_traces.specs.Tables.{by_table}
@@ -44,8 +45,10 @@ pub broadcast-whole : (p : broadcast.Drawn) (line : List ℕ) → by_table (broa
 unfolding broadcast.body
 broadcast-whole p line h = by_table-found IsSo (broadcast.body p) (table-finds IsSo (broadcast.body p) (
     more-finds (broadcast.is_whole p ≡ true) (codes "KEEP") (λ (v : Bytes). broadcast.takes_value p) (broadcast.with_value p) (value_last (λ (v : Bytes). v))
-    & more-finds (broadcast.is_whole p ≡ true) (codes "TX") (broadcast.takes_sender p) (broadcast.with_tx p) (number_last (λ (tx : ℕ). tx))
-    & more-finds (broadcast.is_whole p ≡ true) (codes "RX") (λ (r : ℕ × ℕ). broadcast.takes_receiver p r.0 r.1) (λ (r : ℕ × ℕ). broadcast.with_rx p r.0 r.1) (number_then (λ rx. number_last (λ place. let r : ℕ × ℕ = (rx, place) in r)))
+    & more-finds (broadcast.is_whole p ≡ true) (codes "TX") (takes_sender (broadcast.has_values p) (broadcast.handles p))
+        (λ (tx : ℕ). broadcast.with_handles p (with_tx (broadcast.handles p) tx)) (number_last (λ (tx : ℕ). tx))
+    & more-finds (broadcast.is_whole p ≡ true) (codes "RX") (λ (r : ℕ × ℕ). takes_receiver (broadcast.has_values p) (broadcast.handles p) r.0)
+        (λ (r : ℕ × ℕ). broadcast.with_handles p (with_rx (broadcast.handles p) r)) (broadcast.place_last p)
     & (λ rest a k whole. (allowed-found (λ (w : Tells broadcast.Drawn). broadcast.is_whole p) (λ w. w) (ended Whole rest) a k).2)
     & tt
     )) line Whole h refl
@@ -57,8 +60,10 @@ pub watch-whole : (p : watch.Sketch) (line : List ℕ) → by_table (watch.body 
 unfolding watch.body
 watch-whole p line h = by_table-found IsSo (watch.body p) (table-finds IsSo (watch.body p) (
     more-finds (watch.has_value p ≡ true) (codes "KEEP") (λ (v : Bytes). not (watch.has_value p)) (watch.with_value p) (value_last (λ (v : Bytes). v))
-    & more-finds (watch.has_value p ≡ true) (codes "TX") (watch.takes_sender p) (watch.with_tx p) (number_last (λ (tx : ℕ). tx))
-    & more-finds (watch.has_value p ≡ true) (codes "RX") (λ (r : ℕ × Bool). watch.takes_reader p r.0) (λ (r : ℕ × Bool). watch.with_rx p r.0 r.1) watch.reader_last
+    & more-finds (watch.has_value p ≡ true) (codes "TX") (takes_sender (watch.has_value p) (watch.handles p))
+        (λ (tx : ℕ). watch.with_handles p (with_tx (watch.handles p) tx)) (number_last (λ (tx : ℕ). tx))
+    & more-finds (watch.has_value p ≡ true) (codes "RX") (λ (r : ℕ × Bool). takes_receiver (watch.has_value p) (watch.handles p) r.0)
+        (λ (r : ℕ × Bool). watch.with_handles p (with_rx (watch.handles p) r)) watch.reader_last
     & (λ rest a k whole. (allowed-found (λ (w : Tells watch.Sketch). watch.has_value p) (λ w. w) (ended Whole rest) a k).2)
     & tt
     )) line Whole h refl

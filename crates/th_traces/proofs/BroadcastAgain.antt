@@ -23,10 +23,11 @@ use Rattle.th_traces.specs.declared.head.Version.TheVariants.{One, Two}
 use Rattle.th_traces.specs.declared.picture.Picture.TheVariants as picture
 use Rattle.th_traces.specs.declared.place.Place.{Place}
 use Rattle.th_traces.specs.declared.place.Place.TheVariants.{Nothing, Headed, InBroadcast}
-use Rattle.th_lines.specs.Fields.{Rest, by_word, field_then, number_last, number_then}
+use Rattle.th_lines.specs.Fields.{Rest, number_last, number_then}
 use Rattle.th_traces.specs.Broadcast.{standing, told}
-use Rattle.th_traces.specs.BroadcastDrafts.{Drawn, body, is_whole, may_start, parts, takes_receiver, takes_sender, takes_value, with_rx, with_tx, with_value}
+use Rattle.th_traces.specs.BroadcastDrafts.{Drawn, body, handles, has_values, is_whole, may_start, parts, takes_value, with_handles, with_value}
 use Rattle.th_traces.specs.Drafts.{More, Tells, Whole, allowed}
+use Rattle.th_traces.specs.LiveHandles.{live, next_last, receiver_fields, takes_receiver, takes_sender, with_rx, with_tx}
 use Rattle.th_traces.specs.Pictures.{Begun, Next, On, broadcast_next, goes_on, is_capacity, kinds, leads, step, versions}
 use Rattle.th_traces.specs.Spelled.{Bytes, kept_line, line, picture_lines, receiver_line, sender_line, start_line}
 use Rattle.th_traces.specs.Tables.{IsNumber}
@@ -35,7 +36,7 @@ use Rattle.th_traces.proofs.Further.{entry-last, is_next, keys-more, not_false}
 
 module _ (version : Version) (c low tail next : ℕ) where
   abbrev draft : List Bytes → Places → List ℕ → Drawn
-  draft kept places senders = parts c low tail kept places senders next
+  draft kept places senders = parts c low tail kept (live senders places next)
 
   abbrev at : List Bytes → Places → List ℕ → Place
   at kept places senders = InBroadcast version (draft kept places senders)
@@ -50,22 +51,24 @@ module _ (version : Version) (c low tail next : ℕ) where
       ap (λ (b : Bool). leads_on p (allowed (λ (x : Bytes). takes_value p) (λ x. More (with_value p x)) (cond b (Some v) None))) h
       ∙ ap (λ (b : Bool). leads_on p (cond b (Some (More (with_value p v))) None)) (lt-ltb (length done) (tail - low) few)
 
-  sender-step : (kept : List Bytes) (done : List ℕ) (tx : ℕ) → IsNumber tx → takes_sender (draft kept [] done) tx ≡ true → AllByRecursion (λ x. x < tx) done → step (at kept [] done) (sender_line tx) ≡ Some (On (at kept [] (done ++ tx ∷ [])))
+  sender-step : (kept : List Bytes) (done : List ℕ) (tx : ℕ) → IsNumber tx → takes_sender {X = ℕ} (has_values (draft kept [] done)) (live done [] next) tx ≡ true → AllByRecursion (λ x. x < tx) done → step (at kept [] done) (sender_line tx) ≡ Some (On (at kept [] (done ++ tx ∷ [])))
   unfolding step body
   sender-step kept done tx small may top =
       let p = draft kept [] done in
-      ap (λ (o : Option ℕ). leads_on p (allowed (takes_sender p) (λ x. More (with_tx p x)) o)) (number_last-again (λ (n : ℕ). n) tx small)
-      ∙ ap (λ (b : Bool). leads_on p (cond b (Some (More (with_tx p tx))) None)) may
+      ap (λ (o : Option ℕ). leads_on p (allowed (takes_sender (has_values p) (handles p)) (λ x. More (with_handles p (with_tx (handles p) x))) o)) (number_last-again (λ (n : ℕ). n) tx small)
+      ∙ ap (λ (b : Bool). leads_on p (cond b (Some (More (with_handles p (with_tx (handles p) tx)))) None)) may
       ∙ ap (λ (ks : List ℕ). Some (On (at kept [] ks))) (with_sender-new done tx top)
 
-  receiver-step : (kept : List Bytes) (senders : List ℕ) (done : Places) (rx i : ℕ) → IsNumber rx → IsNumber i → takes_receiver (draft kept done senders) rx i ≡ true → AllByRecursion (λ x. x < rx) (keys_of done) → step (at kept done senders) (receiver_line (standing (rx, i))) ≡ Some (On (at kept (done ++ (rx, i) ∷ []) senders))
+  receiver-step : (kept : List Bytes) (senders : List ℕ) (done : Places) (rx i : ℕ) → IsNumber rx → IsNumber i → nat_le i tail ≡ true → takes_receiver (has_values (draft kept done senders)) (live senders done next) rx ≡ true → AllByRecursion (λ x. x < rx) (keys_of done) → step (at kept done senders) (receiver_line (standing (rx, i))) ≡ Some (On (at kept (done ++ (rx, i) ∷ []) senders))
   unfolding step body
-  receiver-step kept senders done rx i small fits may top =
+  receiver-step kept senders done rx i small fits within may top =
       let p = draft kept done senders in
       let pair : ℕ → ℕ → ℕ × ℕ = λ n m. (n, m) in
       let read = number_then-again (λ (n : ℕ). number_last (pair n)) rx (Some (decimal i)) small ∙ number_last-again (pair rx) i fits in
-      ap (λ (o : Option (ℕ × ℕ)). leads_on p (allowed (λ (r : ℕ × ℕ). takes_receiver p r.0 r.1) (λ r. More (with_rx p r.0 r.1)) o)) read
-      ∙ ap (λ (b : Bool). leads_on p (cond b (Some (More (with_rx p rx i))) None)) may
+      let tells : Option (ℕ × ℕ) → Option Next = λ fields. leads_on p (receiver_fields (with_handles p) (has_values p) (handles p) fields) in
+      ap (λ (o : Option (ℕ × ℕ)). tells (allowed (λ (r : ℕ × ℕ). nat_le r.1 tail) (λ r. r) o)) read
+      ∙ ap (λ (b : Bool). tells (cond b (Some (pair rx i)) None)) within
+      ∙ ap (λ (b : Bool). leads_on p (cond b (Some (More (with_handles p (with_rx (handles p) (pair rx i))))) None)) may
       ∙ ap (λ (ps : Places). Some (On (at kept ps senders))) (entry-last done rx i top)
 
   begin-step : (kept : List Bytes) (places : Places) (senders : List ℕ) → is_whole (draft kept places senders) ≡ true → step (at kept places senders) (codes "BEGIN") ≡ Some (Begun (head.Broadcast version) (picture.Broadcast (draft kept places senders)))
@@ -86,7 +89,7 @@ module _ (version : Version) (c low tail next : ℕ) where
     txs done [] rest h = ap (λ (l : List ℕ). leads (at kept [] l) rest) (sym (append-nil done))
     txs done (x ∷ xs) rest h =
         let n = is_next next done x xs h in
-        let may : takes_sender (draft kept [] done) x ≡ true = and_both _ _ filled n.0 in
+        let may : takes_sender {X = ℕ} (has_values (draft kept [] done)) (live done [] next) x ≡ true = and_both _ _ filled n.0 in
         ap (λ (o : Option Next). goes_on o (map sender_line xs ++ rest) (λ n. leads n (map sender_line xs ++ rest))) (sender-step kept done x (omega (arith, n.2, fits)) may n.1)
         ∙ txs (done ++ x ∷ []) xs rest (subst (AreHandles next) (sym (append_assoc done (x ∷ []) xs)) h)
         ∙ ap (λ (l : List ℕ). leads (at kept [] l) rest) (append_assoc done (x ∷ []) xs)
@@ -96,8 +99,8 @@ module _ (version : Version) (c low tail next : ℕ) where
     rxs small senders done (x ∷ xs) rest h free within =
         let keys = keys-more done x xs in
         let n = is_next next (keys_of done) x.0 (keys_of xs) (subst (AreHandles next) keys h) in
-        let may : takes_receiver (draft kept done senders) x.0 x.1 ≡ true = and_both _ _ filled (and_both _ _ n.0 (and_both _ _ (not_false _ free.0) (le-leb x.1 tail within.0))) in
-        ap (λ (o : Option Next). goes_on o (map receiver_line (map standing xs) ++ rest) (λ n. leads n (map receiver_line (map standing xs) ++ rest))) (receiver-step kept senders done x.0 x.1 (omega (arith, n.2, fits)) (omega (arith, within.0, small)) may n.1)
+        let may : takes_receiver (has_values (draft kept done senders)) (live senders done next) x.0 ≡ true = and_both _ _ filled (and_both _ _ n.0 (not_false _ free.0)) in
+        ap (λ (o : Option Next). goes_on o (map receiver_line (map standing xs) ++ rest) (λ n. leads n (map receiver_line (map standing xs) ++ rest))) (receiver-step kept senders done x.0 x.1 (omega (arith, n.2, fits)) (omega (arith, within.0, small)) (le-leb x.1 tail within.0) may n.1)
         ∙ rxs small senders (done ++ x ∷ []) xs rest (subst (λ (l : Places). AreHandles next (keys_of l)) (sym (append_assoc done (x ∷ []) xs)) h) free.1 within.1
         ∙ ap (λ (l : Places). leads (at kept l senders) rest) (append_assoc done (x ∷ []) xs)
 
@@ -139,18 +142,18 @@ head-step One c h = ap (λ (o : Option ℕ). option_map On (allowed is_capacity 
 head-step Two c h = ap (λ (o : Option ℕ). option_map On (allowed is_capacity (Headed Two) o)) (number_last-again (λ (n : ℕ). n) c (omega (arith, h.2))) ∙ ap (λ (b : Bool). option_map On (cond b (Some (Headed Two c)) None)) (own c h)
 
 abbrev starting : ℕ → Option (ℕ × ℕ × ℕ) → Option Drawn
-starting c fields = allowed (λ (s : ℕ × ℕ × ℕ). may_start c s.0 s.1 s.2) (λ s. parts c s.0 s.1 [] [] [] s.2) fields
+starting c fields = allowed (λ (s : ℕ × ℕ × ℕ). may_start c s.0 s.1 s.2) (λ s. parts c s.0 s.1 [] (live [] [] s.2)) fields
 
 start-step : (version : Version) (c low tail next : ℕ) → IsNumber low → IsNumber tail → IsNumber next → may_start c low tail next ≡ true → step (Headed version c) (line (codes "AT" ∷ decimal low ∷ decimal tail ∷ codes "NEXT" ∷ decimal next ∷ [])) ≡ Some (On (at version c low tail next [] [] []))
 unfolding step
 start-step version c low tail next l t n may =
     let triple : ℕ → ℕ → ℕ → ℕ × ℕ × ℕ = λ a b d. (a, b, d) in
-    let last : ℕ → ℕ → Rest → Option (ℕ × ℕ × ℕ) = λ a b. field_then (by_word ((codes "NEXT", number_last (triple a b)) ∷ [])) in
+    let last : ℕ → ℕ → Rest → Option (ℕ × ℕ × ℕ) = λ a b rest. option_map (triple a b) (next_last rest) in
     let read = number_then-again (λ (a : ℕ). number_then (last a)) low (Some (decimal tail ++ 32 ∷ (codes "NEXT" ++ 32 ∷ decimal next))) l
     ∙ number_then-again (last low) tail (Some (codes "NEXT" ++ 32 ∷ decimal next)) t
-    ∙ number_last-again (triple low tail) next n in
+    ∙ ap (option_map (triple low tail)) (number_last-again (λ (d : ℕ). d) next n) in
     ap (λ (o : Option (ℕ × ℕ × ℕ)). option_map On (option_map (InBroadcast version) (starting c o))) read
-    ∙ ap (λ (b : Bool). option_map On (option_map (InBroadcast version) (cond b (Some (parts c low tail [] [] [] next)) None))) may
+    ∙ ap (λ (b : Bool). option_map On (option_map (InBroadcast version) (cond b (Some (parts c low tail [] (live [] [] next))) None))) may
 
 -- the lines of a sound picture lead to that picture
 pub broadcast-again : (version : Version) (p : Drawn) → IsSound p → AllByRecursion IsValue p.window.kept → leads Nothing (picture_lines (told version p)) ≡ Some (Begun (head.Broadcast version) (picture.Broadcast p))

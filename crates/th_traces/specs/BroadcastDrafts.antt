@@ -1,13 +1,12 @@
 -- The lines of a broadcast picture, as they are read (docs/FORMATS.md, "Traces").
-use Rattle.std.specs.Prelude.{ℕ, ◌-◌, ◌<◌, ◌≤◌, ◌^◌, Bool, List, [], ◌∷◌, ◌++◌, codes, length, nat_le, nat_lt, not, ◌==◌, ◌&&◌, Option}
-use Rattle.std.specs.Map.{keys_of}
+use Rattle.std.specs.Prelude.{ℕ, ◌-◌, ◌<◌, ◌≤◌, ◌^◌, Bool, List, [], ◌∷◌, ◌++◌, codes, length, nat_le, nat_lt, ◌==◌, ◌&&◌, Option}
+use Rattle.std.specs.Option.{option_map}
 use Rattle.th_model.specs.BroadcastPicture.{Picture}
-use Rattle.th_model.specs.Handles.{AreLive, is_sender, with_sender}
 use Rattle.th_model.specs.Limits.{IsCapacity}
-use Rattle.th_model.specs.Places.{ArePlaces, Places, low_of, with_place}
-use Rattle.th_lines.specs.Fields.{Rest, by_word, ended, field_then, number_last, number_then, value_last}
+use Rattle.th_model.specs.Places.{ArePlaces, low_of}
+use Rattle.th_lines.specs.Fields.{Rest, ended, number_last, number_then, value_last}
 use Rattle.th_traces.specs.Drafts.{More, Tells, Whole, allowed}
-use Rattle.th_traces.specs.Groups.{is_further}
+use Rattle.th_traces.specs.LiveHandles.{Live, live, next_last, receiver_fields, sender_field}
 use Rattle.th_traces.specs.Spelled.{Bytes}
 use Rattle.th_traces.specs.Tables.{Table}
 
@@ -16,17 +15,17 @@ abbrev pub Drawn : Type 0
 Drawn = Picture Bytes
 
 -- one with these parts
-abbrev pub parts : (capacity low tail : ℕ) → List Bytes → Places → List ℕ → ℕ → Picture Bytes
-parts capacity low tail kept places senders next = record {
+abbrev pub parts : (capacity low tail : ℕ) → List Bytes → Live ℕ → Picture Bytes
+parts capacity low tail kept h = record {
   window = record {
     capacity = capacity;
     tail = tail;
     low = low;
     kept = kept;
-    places = places;
+    places = h.receivers;
   };
-  senders = senders;
-  next = next;
+  senders = h.senders;
+  next = h.next;
 }
 
 -- the kept values are from `low` to the tail, no more of them than the capacity
@@ -37,32 +36,21 @@ may_start capacity low tail next =
 -- `low tail NEXT next`
 abbrev pub start_fields : Rest → Option (ℕ × ℕ × ℕ)
 start_fields =
-    number_then (λ low. number_then (λ tail. field_then (by_word (
-    (codes "NEXT", number_last (λ next. (low, tail, next))) ∷ []))))
+    number_then (λ low. number_then (λ tail rest.
+    option_map (λ next. (low, tail, next)) (next_last rest)))
 
 -- what they tell, in a trace of this capacity
 abbrev pub start : ℕ → Rest → Option (Picture Bytes)
 start capacity rest =
-    allowed (λ s. may_start capacity s.0 s.1 s.2) (λ s. parts capacity s.0 s.1 [] [] [] s.2)
-    (start_fields rest)
+    allowed (λ s. may_start capacity s.0 s.1 s.2)
+    (λ s. parts capacity s.0 s.1 [] (live [] [] s.2)) (start_fields rest)
 
 -- all kept values were told
 abbrev pub has_values : Picture Bytes → Bool
 has_values p = length p.window.kept == p.window.tail - p.window.low
 
--- values come first, then the senders, then the receivers
 abbrev pub takes_value : Picture Bytes → Bool
 takes_value p = nat_lt (length p.window.kept) (p.window.tail - p.window.low)
-
-abbrev pub takes_sender : Picture Bytes → ℕ → Bool
-takes_sender p tx =
-    has_values p && ((length p.window.places == 0) && is_further p.next p.senders tx)
-
-abbrev pub takes_receiver : Picture Bytes → ℕ → ℕ → Bool
-takes_receiver p rx place =
-    has_values p
-    && (is_further p.next (keys_of p.window.places) rx
-    && (not (is_sender p.senders rx) && nat_le place p.window.tail))
 
 -- all that its receivers keep was told
 abbrev pub is_whole : Picture Bytes → Bool
@@ -73,27 +61,25 @@ abbrev pub with_value : Picture Bytes → Bytes → Picture Bytes
 with_value p value =
     record p { window = record p.window { kept = p.window.kept ++ value ∷ [] } }
 
-abbrev pub with_tx : Picture Bytes → ℕ → Picture Bytes
-with_tx p tx = record p { senders = with_sender p.senders tx }
+-- its live handles, and the picture with these
+abbrev pub handles : Picture Bytes → Live ℕ
+handles p = live p.senders p.window.places p.next
 
-abbrev pub with_rx : Picture Bytes → ℕ → ℕ → Picture Bytes
-with_rx p rx place =
-    record p { window = record p.window { places = with_place p.window.places rx place } }
+abbrev pub with_handles : Picture Bytes → Live ℕ → Picture Bytes
+with_handles p h =
+    let w = p.window in parts w.capacity w.low w.tail w.kept h
+
+-- a receiver and its place, which is not past the tail
+abbrev pub place_last : Picture Bytes → Rest → Option (ℕ × ℕ)
+place_last p rest =
+    allowed (λ (rx : ℕ × ℕ). nat_le rx.1 p.window.tail) (λ rx. rx)
+    (number_then (λ rx. number_last (λ place. (rx, place))) rest)
 
 -- the fields of each line below that of the start
 abbrev pub value_field : Picture Bytes → Rest → Option (Tells (Picture Bytes))
 value_field p rest =
     allowed (λ value. takes_value p) (λ value. More (with_value p value))
     (value_last (λ value. value) rest)
-
-abbrev pub sender_field : Picture Bytes → Rest → Option (Tells (Picture Bytes))
-sender_field p rest =
-    allowed (takes_sender p) (λ tx. More (with_tx p tx)) (number_last (λ tx. tx) rest)
-
-abbrev pub receiver_fields : Picture Bytes → Rest → Option (Tells (Picture Bytes))
-receiver_fields p rest =
-    allowed (λ (r : ℕ × ℕ). takes_receiver p r.0 r.1) (λ r. More (with_rx p r.0 r.1))
-    (number_then (λ rx. number_last (λ place. (rx, place))) rest)
 
 abbrev pub no_field : Picture Bytes → Rest → Option (Tells (Picture Bytes))
 no_field p rest = allowed (λ w. is_whole p) (λ w. w) (ended Whole rest)
@@ -102,8 +88,9 @@ no_field p rest = allowed (λ w. is_whole p) (λ w. w) (ended Whole rest)
 unfoldable pub body : Picture Bytes → Table (Tells (Picture Bytes))
 body p =
     (codes "KEEP", value_field p)
-    ∷ (codes "TX", sender_field p)
-    ∷ (codes "RX", receiver_fields p)
+    ∷ (codes "TX", sender_field (with_handles p) (has_values p) (handles p))
+    ∷ (codes "RX", λ rest.
+        receiver_fields (with_handles p) (has_values p) (handles p) (place_last p rest))
     ∷ (codes "BEGIN", no_field p)
     ∷ []
 
@@ -112,5 +99,4 @@ pub record IsDraft (p : Picture Bytes) : Type 0 where
   pub capacity : IsCapacity p.window.capacity
   pub low : p.window.low ≤ p.window.tail
   pub tail : p.window.tail < 2 ^ 64
-  pub live : AreLive p.next p.senders (keys_of p.window.places)
   pub places : ArePlaces p.window.tail p.window.places

@@ -13,6 +13,7 @@ pub mod Spellings
 pub mod Entries
 pub mod Groups
 pub mod Drafts
+pub mod LiveHandles
 pub mod BroadcastDrafts
 pub mod WatchDrafts
 pub mod Pictures

@@ -1,20 +1,20 @@
 //! A broadcast channel's picture, of which some lines were read.
 ghost use Rattle.std.specs.Prelude.{◌≡◌, ◌≤◌, max, true};
 ghost use Rattle.th_lines.specs.Reads.{rest_of};
-ghost use Rattle.th_traces.specs.BroadcastDrafts.{body, has_values, is_whole, receiver_fields, sender_field, start, start_fields, takes_receiver, takes_sender, value_field};
+ghost use Rattle.th_traces.specs.BroadcastDrafts.{body, has_values, is_whole, place_last, start, start_fields, value_field};
 ghost use Rattle.th_traces.specs.Drafts.{TakesLine};
 ghost use Rattle.th_model.specs.Places.{least_place, low_of};
 ghost use Rattle.th_traces.specs.Tables.{by_table};
 
-use crate::fields::{last_number, last_numbers, last_value};
-use crate::groups::{last_id, last_key};
+use crate::fields::{last_numbers, last_value};
+use crate::live_handles::{LiveHandles, last_next};
 use std::alloc::Global;
-use std::collections::{BTreeMap, BTreeSet, VecDeque};
+use std::collections::{BTreeMap, VecDeque};
 use std::marker::Model;
 use th_bcast::PictureParts;
 use th_lines::LineFault;
 use th_lines::fields::{cut, number_and_rest};
-use th_model::{Capacity, MOST_HANDLES, Value};
+use th_model::{Capacity, Value};
 use th_shelf::WindowParts;
 
 // A picture of which the line of the start was read, and maybe some below it.
@@ -26,14 +26,10 @@ pub struct BroadcastDraft {
     low: u64,
     // The position of the next value.
     tail: u64,
-    // The next handle number.
-    next: u64,
     // The kept values so far.
     kept: VecDeque<Value>,
-    // The live senders so far.
-    senders: BTreeSet<u64>,
-    // The live receivers so far, with their places.
-    places: BTreeMap<u64, u64>,
+    // The live handles so far, with the receivers' places.
+    handles: LiveHandles<u64>,
 }
 
 impl Model for BroadcastDraft {
@@ -43,11 +39,9 @@ impl Model for BroadcastDraft {
 
     ghost Value = { Picture Bytes };
 
-    ghost view = { λ d.
-        parts d.capacity d.low d.tail d.kept.items d.places.entries d.senders.keys d.next };
+    ghost view = { λ d. parts d.capacity d.low d.tail d.kept.items d.handles };
 
-    ghost invariant = { λ d. IsDraft
-        (parts d.capacity d.low d.tail d.kept.items d.places.entries d.senders.keys d.next) };
+    ghost invariant = { λ d. IsDraft (parts d.capacity d.low d.tail d.kept.items d.handles) };
 }
 
 // The least of the places and the tail, or `first` if some place is not above it, where the search
@@ -74,11 +68,7 @@ fn start_fields(rest: Option<&[u8]>) -> Option<(u64, u64, u64)>
 {
     let (low, rest) = number_and_rest(rest?)?;
     let (tail, rest) = number_and_rest(rest?)?;
-    let (word, rest) = cut(rest?);
-    if word != b"NEXT".as_slice() {
-        return None;
-    }
-    Some((low, tail, last_number(rest)?))
+    Some((low, tail, last_next(rest)?))
 }
 
 impl BroadcastDraft {
@@ -94,10 +84,8 @@ impl BroadcastDraft {
             capacity,
             low,
             tail,
-            next,
             kept: VecDeque::new(alloc),
-            senders: BTreeSet::new(alloc),
-            places: BTreeMap::new(alloc),
+            handles: LiveHandles::new(alloc, next),
         })
     }
 
@@ -111,11 +99,13 @@ impl BroadcastDraft {
         if word == b"KEEP".as_slice() {
             return self.take_value(alloc, rest);
         }
+        let has_values = self.has_values();
         if word == b"TX".as_slice() {
-            return self.take_sender(rest);
+            return self.handles.take_sender(has_values, rest);
         }
         if word == b"RX".as_slice() {
-            return self.take_receiver(rest);
+            let receiver = self.last_place(rest);
+            return self.handles.take_receiver(has_values, receiver);
         }
         if word == b"BEGIN".as_slice() && rest.is_none() && self.is_whole() {
             return Ok(true);
@@ -128,8 +118,9 @@ impl BroadcastDraft {
         requires { is_whole self ≡ true }
         ensures { result ≡ self }
     {
-        let window = WindowParts::new(self.capacity, self.tail, self.kept, self.places);
-        PictureParts::new(window, self.senders, self.next)
+        let (senders, places, next) = self.handles.into_parts();
+        let window = WindowParts::new(self.capacity, self.tail, self.kept, places);
+        PictureParts::new(window, senders, next)
     }
 
     // All kept values were told.
@@ -145,7 +136,7 @@ impl BroadcastDraft {
         ensures { let w = self.now.window in result ≡ low_of w.tail w.capacity w.places }
     {
         let first = self.tail.saturating_sub(self.capacity.in_force());
-        least_from(&self.places, self.tail, first)
+        least_from(self.handles.receivers(), self.tail, first)
     }
 
     // All that its receivers keep was told.
@@ -155,22 +146,15 @@ impl BroadcastDraft {
         self.has_values() && self.low == self.least_kept()
     }
 
-    fn takes_sender(&self, tx: u64) -> bool
-        ensures { result ≡ takes_sender self.now tx }
+    // A receiver and its place, as the last fields.
+    fn last_place(&self, rest: Option<&[u8]>) -> Option<(u64, u64)>
+        ensures { result ≡ place_last self.now (rest_of rest.entry) }
     {
-        self.has_values()
-            && (self.places.len() == 0
-                && (last_id(&self.senders) < tx
-                    && (tx < self.next && self.senders.len() < MOST_HANDLES)))
-    }
-
-    fn takes_receiver(&self, rx: u64, place: u64) -> bool
-        ensures { result ≡ takes_receiver self.now rx place }
-    {
-        self.has_values()
-            && ((last_key(&self.places) < rx
-                && (rx < self.next && self.places.len() < MOST_HANDLES))
-                && (!self.senders.contains(&rx) && place <= self.tail))
+        let (rx, place) = last_numbers(rest)?;
+        if place > self.tail {
+            return None;
+        }
+        Some((rx, place))
     }
 
     // The field of `KEEP`.
@@ -185,39 +169,6 @@ impl BroadcastDraft {
             Err(fault) => return Err(fault),
         };
         let Ok(()) = self.kept.push_back(value) else {
-            return Err(LineFault::Short);
-        };
-        Ok(false)
-    }
-
-    // The field of `TX`.
-    fn take_sender(&mut self, rest: Option<&[u8]>) -> Result<bool, LineFault>
-        ensures { TakesLine result self.old self.new (sender_field self.old (rest_of rest.entry)) }
-    {
-        let Some(tx) = last_number(rest) else {
-            return Err(LineFault::BadLine);
-        };
-        if !self.takes_sender(tx) {
-            return Err(LineFault::BadLine);
-        }
-        let Ok(_) = self.senders.insert(tx) else {
-            return Err(LineFault::Short);
-        };
-        Ok(false)
-    }
-
-    // The fields of `RX`.
-    fn take_receiver(&mut self, rest: Option<&[u8]>) -> Result<bool, LineFault>
-        ensures { TakesLine result self.old self.new
-            (receiver_fields self.old (rest_of rest.entry)) }
-    {
-        let Some((rx, place)) = last_numbers(rest) else {
-            return Err(LineFault::BadLine);
-        };
-        if !self.takes_receiver(rx, place) {
-            return Err(LineFault::BadLine);
-        }
-        let Ok(_) = self.places.insert(rx, place) else {
             return Err(LineFault::Short);
         };
         Ok(false)

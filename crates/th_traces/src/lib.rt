@@ -18,6 +18,7 @@ mod fields;
 mod groups;
 pub mod head;
 pub mod laws;
+mod live_handles;
 pub mod picture;
 pub mod place;
 mod put;

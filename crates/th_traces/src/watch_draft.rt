@@ -5,16 +5,15 @@ ghost use Rattle.th_lines.specs.Reads.{rest_of};
 ghost use Rattle.th_watch.specs.Held.{shown_picture};
 ghost use Rattle.th_traces.specs.Drafts.{TakesLine};
 ghost use Rattle.th_traces.specs.Tables.{by_table};
-ghost use Rattle.th_traces.specs.WatchDrafts.{body, has_value, reader_fields, reader_last, seen_or_unseen, sender_field, start, start_fields, takes_reader, takes_sender, value_field};
+ghost use Rattle.th_traces.specs.WatchDrafts.{body, has_value, reader_last, seen_or_unseen, start, start_fields, value_field};
 
-use crate::fields::{last_number, last_value};
-use crate::groups::{last_id, last_key};
+use crate::fields::last_value;
+use crate::live_handles::{LiveHandles, last_next};
 use std::alloc::Global;
-use std::collections::{BTreeMap, BTreeSet};
 use std::marker::Model;
 use th_lines::LineFault;
 use th_lines::fields::{cut, number_and_rest};
-use th_model::{MOST_HANDLES, Value};
+use th_model::Value;
 use th_watch::PictureParts;
 
 // A picture of which the line of the start was read, and maybe some below it.
@@ -24,24 +23,18 @@ pub struct WatchDraft {
     version: u64,
     // The newest value, once it was told.
     last: Option<Value>,
-    // The live readers so far, and whether the newest value is unseen by each.
-    readers: BTreeMap<u64, bool>,
-    // The live senders so far.
-    senders: BTreeSet<u64>,
-    // The next handle number.
-    next: u64,
+    // The live handles so far, and whether the newest value is unseen by each reader.
+    handles: LiveHandles<bool>,
 }
 
 impl Model for WatchDraft {
-    ghost use Rattle.th_watch.specs.Held.{shown_picture};
-    ghost use Rattle.th_traces.specs.WatchDrafts.{IsDraft, Sketch};
+    ghost use Rattle.th_traces.specs.WatchDrafts.{IsDraft, Sketch, sketch};
 
     ghost Value = { Sketch };
 
-    ghost view = { λ d. shown_picture d.version d.last d.readers.entries d.senders.keys d.next };
+    ghost view = { λ d. sketch d.version d.last d.handles };
 
-    ghost invariant = { λ d. IsDraft
-        (shown_picture d.version d.last d.readers.entries d.senders.keys d.next) };
+    ghost invariant = { λ d. IsDraft (sketch d.version d.last d.handles) };
 }
 
 // `version NEXT next`, as the last fields.
@@ -49,11 +42,7 @@ fn start_fields(rest: Option<&[u8]>) -> Option<(u64, u64)>
     ensures { result ≡ start_fields (rest_of rest.entry) }
 {
     let (version, rest) = number_and_rest(rest?)?;
-    let (word, rest) = cut(rest?);
-    if word != b"NEXT".as_slice() {
-        return None;
-    }
-    Some((version, last_number(rest)?))
+    Some((version, last_next(rest)?))
 }
 
 // `seen` or `unseen`, as the last field.
@@ -93,9 +82,7 @@ impl WatchDraft {
         Some(WatchDraft {
             version,
             last: None,
-            readers: BTreeMap::new(alloc),
-            senders: BTreeSet::new(alloc),
-            next,
+            handles: LiveHandles::new(alloc, next),
         })
     }
 
@@ -109,13 +96,14 @@ impl WatchDraft {
         if word == b"KEEP".as_slice() {
             return self.take_value(alloc, rest);
         }
+        let has_value = self.last.is_some();
         if word == b"TX".as_slice() {
-            return self.take_sender(rest);
+            return self.handles.take_sender(has_value, rest);
         }
         if word == b"RX".as_slice() {
-            return self.take_reader(rest);
+            return self.handles.take_receiver(has_value, last_reader(rest));
         }
-        if word == b"BEGIN".as_slice() && rest.is_none() && self.last.is_some() {
+        if word == b"BEGIN".as_slice() && rest.is_none() && has_value {
             return Ok(true);
         }
         Err(LineFault::BadLine)
@@ -130,32 +118,13 @@ impl WatchDraft {
         let WatchDraft {
             version,
             last,
-            readers,
-            senders,
-            next,
+            handles,
         } = self;
         let Some(last) = last else {
             unreachable!();
         };
+        let (senders, readers, next) = handles.into_parts();
         PictureParts::new(version, last, readers, senders, next)
-    }
-
-    fn takes_sender(&self, tx: u64) -> bool
-        ensures { result ≡ takes_sender self.now tx }
-    {
-        self.last.is_some()
-            && (self.readers.len() == 0
-                && (last_id(&self.senders) < tx
-                    && (tx < self.next && self.senders.len() < MOST_HANDLES)))
-    }
-
-    fn takes_reader(&self, rx: u64) -> bool
-        ensures { result ≡ takes_reader self.now rx }
-    {
-        self.last.is_some()
-            && ((last_key(&self.readers) < rx
-                && (rx < self.next && self.readers.len() < MOST_HANDLES))
-                && !self.senders.contains(&rx))
     }
 
     // The field of `KEEP`.
@@ -172,37 +141,5 @@ impl WatchDraft {
             }
             Err(fault) => Err(fault),
         }
-    }
-
-    // The field of `TX`.
-    fn take_sender(&mut self, rest: Option<&[u8]>) -> Result<bool, LineFault>
-        ensures { TakesLine result self.old self.new (sender_field self.old (rest_of rest.entry)) }
-    {
-        let Some(tx) = last_number(rest) else {
-            return Err(LineFault::BadLine);
-        };
-        if !self.takes_sender(tx) {
-            return Err(LineFault::BadLine);
-        }
-        let Ok(_) = self.senders.insert(tx) else {
-            return Err(LineFault::Short);
-        };
-        Ok(false)
-    }
-
-    // The fields of `RX`.
-    fn take_reader(&mut self, rest: Option<&[u8]>) -> Result<bool, LineFault>
-        ensures { TakesLine result self.old self.new (reader_fields self.old (rest_of rest.entry)) }
-    {
-        let Some((rx, unseen)) = last_reader(rest) else {
-            return Err(LineFault::BadLine);
-        };
-        if !self.takes_reader(rx) {
-            return Err(LineFault::BadLine);
-        }
-        let Ok(_) = self.readers.insert(rx, unseen) else {
-            return Err(LineFault::Short);
-        };
-        Ok(false)
     }
 }
