@@ -5,8 +5,8 @@ use th_log::Segment;
 use th_model::{BCall, BReply, Value, WCall, WReply};
 use th_ring::RingShelf;
 use th_traces::{
-    BroadcastLines, BroadcastTrace, Draft, EntryLines, PictureLines, Version, WatchLines,
-    WatchTrace, laws, print_end, print_entry, read_end, read_picture, says_reply, spells_reply,
+    BroadcastLines, BroadcastTrace, Draft, EntryLines, Version, WatchLines, WatchTrace, laws,
+    print_end, print_entry, read_end, read_picture, says_reply, spells_reply,
 };
 use th_watch::Watch;
 

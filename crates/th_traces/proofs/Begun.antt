@@ -11,10 +11,10 @@ use Rattle.th_lines.proofs.Grammar.{Finds, table-finds}
 use Rattle.th_lines.proofs.Tables.{◌&◌}
 use Rattle.th_traces.specs.Spelled.{Bytes}
 use Rattle.th_traces.specs.Drafts.{More, TakesLine, Tells, Whole, allowed}
-use Rattle.th_traces.specs.LiveHandles.{takes_receiver, takes_sender, with_rx, with_tx}
+use Rattle.th_traces.specs.LiveHandles.{Live, table, takes_receiver, takes_sender, with_rx, with_tx}
 use Rattle.th_traces.specs.BroadcastDrafts as broadcast
 use Rattle.th_traces.specs.WatchDrafts as watch
-use Rattle.th_traces.specs.Tables.{by_table}
+use Rattle.th_traces.specs.Tables.{Table, by_table}
 use Rattle.th_traces.specs.Pictures.{ReadsLine, if_told, step, watch_next, whole_watch}
 use Rattle.th_traces.specs.declared.place.Place.TheVariants.{InWatch}
 use Rattle.th_traces.proofs.Entries.{by_table-found}
@@ -41,35 +41,38 @@ module _ {P : Type 0} (so : Type 0) where
       no_more : (p : P) → More p ≡ Whole → ⊥
       no_more p e = cc
 
+-- what the lines below the start tell, where a value is no whole picture
+table-whole : {X P A : Type 0} (put : Live X → P) (has_values : Bool) (h : Live X) (may : A → Bool) (tells : A → P) (value : Rest → Option A)
+    (receiver : Rest → Option (ℕ × X)) (is_whole : Bool) (line : List ℕ) →
+    by_table (table put has_values h (λ rest. allowed may (λ a. More (tells a)) (value rest)) receiver is_whole) line ≡ Some Whole → is_whole ≡ true
+table-whole {X} {P} {A} put has_values h may tells value receiver is_whole line e = by_table-found IsSo lines (table-finds IsSo lines (
+    more-finds so (codes "KEEP") may tells value
+    & more-finds so (codes "TX") (takes_sender has_values h) (λ (tx : ℕ). put (with_tx h tx)) (number_last (λ (tx : ℕ). tx))
+    & more-finds so (codes "RX") (λ (rx : ℕ × X). takes_receiver has_values h rx.0) (λ (rx : ℕ × X). put (with_rx h rx)) receiver
+    & (λ rest a k whole. (allowed-found (λ (w : Tells P). is_whole) (λ w. w) (ended Whole rest) a k).2)
+    & tt
+    )) line Whole e refl
+  where
+    so : Type 0
+    so = is_whole ≡ true
+
+    IsSo : List ℕ → Tells P → Type 0
+    IsSo = IfWhole so
+
+    lines : Table (Tells P)
+    lines = table put has_values h (λ rest. allowed may (λ a. More (tells a)) (value rest)) receiver is_whole
+
 pub broadcast-whole : (p : broadcast.Drawn) (line : List ℕ) → by_table (broadcast.body p) line ≡ Some Whole → broadcast.is_whole p ≡ true
 unfolding broadcast.body
-broadcast-whole p line h = by_table-found IsSo (broadcast.body p) (table-finds IsSo (broadcast.body p) (
-    more-finds (broadcast.is_whole p ≡ true) (codes "KEEP") (λ (v : Bytes). broadcast.takes_value p) (broadcast.with_value p) (value_last (λ (v : Bytes). v))
-    & more-finds (broadcast.is_whole p ≡ true) (codes "TX") (takes_sender (broadcast.has_values p) (broadcast.handles p))
-        (λ (tx : ℕ). broadcast.with_handles p (with_tx (broadcast.handles p) tx)) (number_last (λ (tx : ℕ). tx))
-    & more-finds (broadcast.is_whole p ≡ true) (codes "RX") (λ (r : ℕ × ℕ). takes_receiver (broadcast.has_values p) (broadcast.handles p) r.0)
-        (λ (r : ℕ × ℕ). broadcast.with_handles p (with_rx (broadcast.handles p) r)) (broadcast.place_last p)
-    & (λ rest a k whole. (allowed-found (λ (w : Tells broadcast.Drawn). broadcast.is_whole p) (λ w. w) (ended Whole rest) a k).2)
-    & tt
-    )) line Whole h refl
-  where
-    IsSo : List ℕ → Tells broadcast.Drawn → Type 0
-    IsSo = IfWhole (broadcast.is_whole p ≡ true)
+broadcast-whole p line h =
+    table-whole (broadcast.with_handles p) (broadcast.has_values p) (broadcast.handles p) (λ (v : Bytes). broadcast.takes_value p) (broadcast.with_value p)
+    (value_last (λ (v : Bytes). v)) (broadcast.place_last p) (broadcast.is_whole p) line h
 
 pub watch-whole : (p : watch.Sketch) (line : List ℕ) → by_table (watch.body p) line ≡ Some Whole → watch.has_value p ≡ true
 unfolding watch.body
-watch-whole p line h = by_table-found IsSo (watch.body p) (table-finds IsSo (watch.body p) (
-    more-finds (watch.has_value p ≡ true) (codes "KEEP") (λ (v : Bytes). not (watch.has_value p)) (watch.with_value p) (value_last (λ (v : Bytes). v))
-    & more-finds (watch.has_value p ≡ true) (codes "TX") (takes_sender (watch.has_value p) (watch.handles p))
-        (λ (tx : ℕ). watch.with_handles p (with_tx (watch.handles p) tx)) (number_last (λ (tx : ℕ). tx))
-    & more-finds (watch.has_value p ≡ true) (codes "RX") (λ (r : ℕ × Bool). takes_receiver (watch.has_value p) (watch.handles p) r.0)
-        (λ (r : ℕ × Bool). watch.with_handles p (with_rx (watch.handles p) r)) watch.reader_last
-    & (λ rest a k whole. (allowed-found (λ (w : Tells watch.Sketch). watch.has_value p) (λ w. w) (ended Whole rest) a k).2)
-    & tt
-    )) line Whole h refl
-  where
-    IsSo : List ℕ → Tells watch.Sketch → Type 0
-    IsSo = IfWhole (watch.has_value p ≡ true)
+watch-whole p line h =
+    table-whole (watch.with_handles p) (watch.has_value p) (watch.handles p) (λ (v : Bytes). not (watch.has_value p)) (watch.with_value p)
+    (value_last (λ (v : Bytes). v)) watch.reader_last (watch.has_value p) line h
 
 -- a fault leaves the draft of a watch picture as it was
 pub watch-fault : (fault : LineFault) (old new : watch.Sketch) (line : List ℕ) → TakesLine (Err fault) old new (by_table (watch.body old) line) → ReadsLine (Err fault) (InWatch old) (InWatch new) (step (InWatch old) line)

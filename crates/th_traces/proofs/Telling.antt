@@ -1,9 +1,8 @@
 -- What a line tells of live handles.
-use Rattle.std.proofs.Common.{◌≡◌, ◌∙◌, ℕ, Bool, true, false, List, [], refl, sym, ap, subst, cond, Option, Some, None, Result, Ok, Err}
+use Rattle.std.proofs.Common.{◌≡◌, ◌∙◌, ℕ, Bool, true, false, List, [], sym, ap, subst, Result, Ok, Err}
 use Rattle.std.specs.Prelude.{nat_le}
 use Rattle.std.specs.Map.{keys_of}
-use Rattle.std.specs.Option.{IsSome}
-use Rattle.std.proofs.lemmas.Bool.{false≢true, leb-true}
+use Rattle.std.proofs.lemmas.Bool.{leb-true}
 use Rattle.th_model.specs.Handles.{AreLive, with_sender}
 use Rattle.th_model.specs.Places.{ArePlaces}
 use Rattle.th_model.specs.WatchMachine.{Kept, with_reader}
@@ -13,8 +12,8 @@ use Rattle.th_lines.specs.declared.fault.LineFault.{LineFault}
 use Rattle.th_lines.specs.declared.fault.LineFault.TheVariants.{BadLine, Short}
 use Rattle.th_lines.proofs.Numbers.{and_parts}
 use Rattle.th_traces.specs.BroadcastDrafts.{Drawn, handles, place_last}
-use Rattle.th_traces.specs.Drafts.{More, TakesLine, Tells, Whole, allowed}
-use Rattle.th_traces.specs.LiveHandles.{Live, receiver_fields, sender_field, takes_receiver, takes_sender, with_rx}
+use Rattle.th_traces.specs.Drafts.{More, TakesLine, Tells, Whole}
+use Rattle.th_traces.specs.LiveHandles.{Live, receiver_fields, takes_receiver, takes_sender, with_rx}
 use Rattle.th_traces.proofs.Begun.{allowed-found}
 use Rattle.th_traces.proofs.Further.{above, entry-last, keys-snoc, none_of, not_true, receiver-live, sender-live}
 

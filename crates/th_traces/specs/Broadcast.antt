@@ -6,9 +6,8 @@ use Rattle.th_model.specs.declared.broadcast.BCall.TheVariants.{Send, TryRecv, R
 use Rattle.th_model.specs.declared.broadcast.BReply.{BReply}
 use Rattle.th_model.specs.declared.broadcast.BReply.TheVariants.{Sent, NoReceivers, Exhausted, Value, Empty, Closed, Lagged, NewRx, NewTx, Count, Done, TooMany, NoHandle}
 use Rattle.th_model.specs.BroadcastPicture.{Picture}
-use Rattle.th_model.specs.Places.{Places}
 use Rattle.th_traces.specs.declared.head.Version.{Version}
-use Rattle.th_traces.specs.Spelled.{Bytes, PictureFields}
+use Rattle.th_traces.specs.Spelled.{Bytes, PictureFields, told_by}
 use Rattle.th_traces.specs.Versions.{digit}
 
 -- the fields of a call
@@ -46,20 +45,16 @@ reply_fields (NoHandle back) = codes "no-handle" ∷ []
 abbrev pub standing : ℕ × ℕ → ℕ × Bytes
 standing rx = (rx.0, decimal rx.1)
 
--- what lines with these parts tell, in a trace of this version
-abbrev pub told_of : Version → (capacity low tail : ℕ) → List Bytes → Places → List ℕ → ℕ →
-    PictureFields
-told_of version capacity low tail kept places senders next = record {
-  head = codes "TRACE" ∷ digit version ∷ codes "B" ∷ decimal capacity ∷ [];
-  start = decimal low ∷ decimal tail ∷ [];
-  next = next;
-  kept = kept;
-  senders = senders;
-  receivers = map standing places;
-}
+-- the fields of the first line, and of where a picture starts
+abbrev pub head : Version → ℕ → List Bytes
+head version capacity = codes "TRACE" ∷ digit version ∷ codes "B" ∷ decimal capacity ∷ []
+
+abbrev pub start : (low tail : ℕ) → List Bytes
+start low tail = decimal low ∷ decimal tail ∷ []
 
 -- what the lines of a picture tell, in a trace of this version
 abbrev pub told : Version → Picture Bytes → PictureFields
 told version p =
     let w = p.window in
-    told_of version w.capacity w.low w.tail w.kept w.places p.senders p.next
+    told_by (head version w.capacity) (start w.low w.tail) p.next w.kept p.senders
+    (map standing w.places)

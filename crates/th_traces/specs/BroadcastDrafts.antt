@@ -1,12 +1,12 @@
 -- The lines of a broadcast picture, as they are read (docs/FORMATS.md, "Traces").
-use Rattle.std.specs.Prelude.{ℕ, ◌-◌, ◌<◌, ◌≤◌, ◌^◌, Bool, List, [], ◌∷◌, ◌++◌, codes, length, nat_le, nat_lt, ◌==◌, ◌&&◌, Option}
+use Rattle.std.specs.Prelude.{ℕ, ◌-◌, ◌<◌, ◌≤◌, ◌^◌, Bool, List, [], ◌∷◌, ◌++◌, length, nat_le, nat_lt, ◌==◌, ◌&&◌, Option}
 use Rattle.std.specs.Option.{option_map}
 use Rattle.th_model.specs.BroadcastPicture.{Picture}
 use Rattle.th_model.specs.Limits.{IsCapacity}
 use Rattle.th_model.specs.Places.{ArePlaces, low_of}
-use Rattle.th_lines.specs.Fields.{Rest, ended, number_last, number_then, value_last}
-use Rattle.th_traces.specs.Drafts.{More, Tells, Whole, allowed}
-use Rattle.th_traces.specs.LiveHandles.{Live, live, next_last, receiver_fields, sender_field}
+use Rattle.th_lines.specs.Fields.{Rest, number_last, number_then, value_last}
+use Rattle.th_traces.specs.Drafts.{More, Tells, allowed}
+use Rattle.th_traces.specs.LiveHandles.{Live, live, next_last, table}
 use Rattle.th_traces.specs.Spelled.{Bytes}
 use Rattle.th_traces.specs.Tables.{Table}
 
@@ -33,17 +33,13 @@ abbrev pub may_start : (capacity low tail next : ℕ) → Bool
 may_start capacity low tail next =
     nat_le low tail && (nat_le (tail - low) capacity && nat_lt 0 next)
 
--- `low tail NEXT next`
-abbrev pub start_fields : Rest → Option (ℕ × ℕ × ℕ)
-start_fields =
-    number_then (λ low. number_then (λ tail rest.
-    option_map (λ next. (low, tail, next)) (next_last rest)))
-
--- what they tell, in a trace of this capacity
+-- what `low tail NEXT next` tell, in a trace of this capacity
 abbrev pub start : ℕ → Rest → Option (Picture Bytes)
 start capacity rest =
-    allowed (λ s. may_start capacity s.0 s.1 s.2)
-    (λ s. parts capacity s.0 s.1 [] (live [] [] s.2)) (start_fields rest)
+    allowed (λ (s : ℕ × ℕ × ℕ). may_start capacity s.0 s.1 s.2)
+    (λ s. parts capacity s.0 s.1 [] (live [] [] s.2))
+    (number_then (λ low. number_then (λ tail rest.
+    option_map (λ next. (low, tail, next)) (next_last rest))) rest)
 
 -- all kept values were told
 abbrev pub has_values : Picture Bytes → Bool
@@ -75,24 +71,16 @@ place_last p rest =
     allowed (λ (rx : ℕ × ℕ). nat_le rx.1 p.window.tail) (λ rx. rx)
     (number_then (λ rx. number_last (λ place. (rx, place))) rest)
 
--- the fields of each line below that of the start
+-- the field of a value's line
 abbrev pub value_field : Picture Bytes → Rest → Option (Tells (Picture Bytes))
 value_field p rest =
     allowed (λ value. takes_value p) (λ value. More (with_value p value))
     (value_last (λ value. value) rest)
 
-abbrev pub no_field : Picture Bytes → Rest → Option (Tells (Picture Bytes))
-no_field p rest = allowed (λ w. is_whole p) (λ w. w) (ended Whole rest)
-
--- what such a line tells
+-- what a line below that of the start tells
 unfoldable pub body : Picture Bytes → Table (Tells (Picture Bytes))
 body p =
-    (codes "KEEP", value_field p)
-    ∷ (codes "TX", sender_field (with_handles p) (has_values p) (handles p))
-    ∷ (codes "RX", λ rest.
-        receiver_fields (with_handles p) (has_values p) (handles p) (place_last p rest))
-    ∷ (codes "BEGIN", no_field p)
-    ∷ []
+    table (with_handles p) (has_values p) (handles p) (value_field p) (place_last p) (is_whole p)
 
 -- what is true of a picture that was told in part
 pub record IsDraft (p : Picture Bytes) : Type 0 where

@@ -8,6 +8,7 @@ pub mod BroadcastWords
 pub mod WatchWords
 pub mod Traces
 pub mod ToCome
+pub mod Openings
 pub mod Pieces
 pub mod Spellings
 pub mod Entries

@@ -3,9 +3,10 @@ use Rattle.std.specs.Prelude.{ℕ, Bool, List, [], ◌∷◌, codes, length, not
 use Rattle.std.specs.Map.{keys_of}
 use Rattle.th_model.specs.Handles.{is_sender, with_sender}
 use Rattle.th_model.specs.WatchMachine.{Kept, with_reader}
-use Rattle.th_lines.specs.Fields.{Rest, by_word, field_then, number_last}
-use Rattle.th_traces.specs.Drafts.{More, Tells, allowed}
+use Rattle.th_lines.specs.Fields.{Rest, by_word, ended, field_then, number_last}
+use Rattle.th_traces.specs.Drafts.{More, Tells, Whole, allowed}
 use Rattle.th_traces.specs.Groups.{is_further}
+use Rattle.th_traces.specs.Tables.{Table}
 
 -- the live senders, the live receivers with how each stands, and the next handle number
 pub record Live (X : Type 0) : Type 0 where
@@ -36,7 +37,7 @@ module _ {X : Type 0} where
   abbrev pub with_rx : Live X → ℕ × X → Live X
   with_rx h rx = record h { receivers = with_reader h.receivers rx.0 rx.1 }
 
-  -- the fields of the lines of a sender and of a receiver, where `put` puts the handles into a picture
+  -- what the lines below that of the start tell, where `put` puts the handles into the picture
   module _ {P : Type 0} (put : Live X → P) (has_values : Bool) (h : Live X) where
     abbrev pub sender_field : Rest → Option (Tells P)
     sender_field rest =
@@ -47,3 +48,12 @@ module _ {X : Type 0} where
     receiver_fields fields =
         allowed (λ (rx : ℕ × X). takes_receiver has_values h rx.0)
         (λ rx. More (put (with_rx h rx))) fields
+
+    abbrev pub table : (value_field : Rest → Option (Tells P)) → (receiver : Rest → Option (ℕ × X))
+        → (is_whole : Bool) → Table (Tells P)
+    table value_field receiver is_whole =
+        (codes "KEEP", value_field)
+        ∷ (codes "TX", sender_field)
+        ∷ (codes "RX", λ rest. receiver_fields (receiver rest))
+        ∷ (codes "BEGIN", λ rest. allowed (λ w. is_whole) (λ w. w) (ended Whole rest))
+        ∷ []

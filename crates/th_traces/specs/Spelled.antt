@@ -23,8 +23,22 @@ pub record PictureFields : Type 0 where
   pub senders : List ℕ
   pub receivers : List (ℕ × Bytes)
 
+abbrev pub told_by : (head start : List Bytes) → ℕ → (kept : List Bytes) → List ℕ
+    → List (ℕ × Bytes) → PictureFields
+told_by head start next kept senders receivers = record {
+  head = head;
+  start = start;
+  next = next;
+  kept = kept;
+  senders = senders;
+  receivers = receivers;
+}
+
+abbrev pub start_of : List Bytes → ℕ → Bytes
+start_of start next = line (codes "AT" ∷ (start ++ codes "NEXT" ∷ decimal next ∷ []))
+
 abbrev pub start_line : PictureFields → Bytes
-start_line t = line (codes "AT" ∷ (t.start ++ codes "NEXT" ∷ decimal t.next ∷ []))
+start_line t = start_of t.start t.next
 
 abbrev pub kept_line : Bytes → Bytes
 kept_line value = line (codes "KEEP" ∷ value ∷ [])

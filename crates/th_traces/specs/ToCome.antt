@@ -1,6 +1,5 @@
 -- The lines of a picture that are still to be printed.
-use Rattle.std.specs.Prelude.{◌≡◌, ℕ, Bool, true, false, List, [], ◌∷◌, ◌++◌, Option, Some, None, Result, Ok, Err}
-use Rattle.std.specs.Borrow.{Bor}
+use Rattle.std.specs.Prelude.{◌≡◌, ℕ, Bool, true, false, List, [], ◌∷◌, ◌++◌, Result, Ok, Err}
 use Rattle.th_lines.specs.Replies.{ended}
 use Rattle.th_traces.specs.Spelled.{Bytes, PictureFields, start_line, body_lines, picture_lines}
 use Rattle.th_traces.specs.declared.stage.Stage.{Stage}
@@ -20,8 +19,3 @@ PrintsNext to_come after old new (Ok true) =
     (next : Bytes) × (to_come ≡ next ∷ after) × (new ≡ old ++ ended next)
 PrintsNext to_come after old new (Ok false) = (to_come ≡ []) × (after ≡ []) × (new ≡ old)
 PrintsNext to_come after old new (Err e) = (after ≡ to_come) × (new ≡ old)
-
--- the value of a watch picture, where it is left
-abbrev pub if_left : Option (Bor Bytes) → List Bytes
-if_left None = []
-if_left (Some value) = value.now ∷ []

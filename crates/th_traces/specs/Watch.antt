@@ -8,9 +8,8 @@ use Rattle.th_model.specs.declared.watch.WCall.TheVariants.{Send, Replace, EditB
 use Rattle.th_model.specs.declared.watch.WReply.{WReply}
 use Rattle.th_model.specs.declared.watch.WReply.TheVariants.{Done, NoReceivers, Exhausted, Was, Modified, Shown, Marked, NotYet, Closed, Gone, NewRx, NewTx, Count, TooMany, NoHandle}
 use Rattle.th_model.specs.declared.watch.WReply.TheVariants as reply
-use Rattle.th_model.specs.WatchMachine.{Kept}
 use Rattle.th_model.specs.WatchPicture.{Picture}
-use Rattle.th_traces.specs.Spelled.{Bytes, PictureFields}
+use Rattle.th_traces.specs.Spelled.{Bytes, PictureFields, told_by}
 
 -- the word of an edit
 abbrev pub edit_word : Edit Bytes → Bytes
@@ -78,17 +77,13 @@ seen_or_unseen unseen = if unseen then codes "unseen" else codes "seen"
 abbrev pub standing : ℕ × Bool → ℕ × Bytes
 standing rx = (rx.0, seen_or_unseen rx.1)
 
--- what lines with these parts tell
-abbrev pub told_of : ℕ → List Bytes → Kept Bool → List ℕ → ℕ → PictureFields
-told_of version kept readers senders next = record {
-  head = codes "TRACE" ∷ codes "1" ∷ codes "W" ∷ [];
-  start = decimal version ∷ [];
-  next = next;
-  kept = kept;
-  senders = senders;
-  receivers = map standing readers;
-}
+-- the fields of the first line, and of where a picture starts
+abbrev pub head : List Bytes
+head = codes "TRACE" ∷ codes "1" ∷ codes "W" ∷ []
+
+abbrev pub start : ℕ → List Bytes
+start version = decimal version ∷ []
 
 -- what the lines of a picture tell
 abbrev pub told : Picture Bytes → PictureFields
-told p = told_of p.version (p.last ∷ []) p.readers p.senders p.next
+told p = told_by head (start p.version) p.next (p.last ∷ []) p.senders (map standing p.readers)

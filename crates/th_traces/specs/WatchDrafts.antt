@@ -1,12 +1,12 @@
 -- The lines of a watch picture, as they are read (docs/FORMATS.md, "Traces").
-use Rattle.std.specs.Prelude.{ℕ, ◌<◌, ◌^◌, Bool, true, false, [], ◌∷◌, codes, nat_lt, not, ◌&&◌, Option, Some, None, is_some, if◌then◌else◌}
+use Rattle.std.specs.Prelude.{ℕ, ◌<◌, ◌^◌, Bool, true, false, [], codes, nat_lt, not, ◌&&◌, Option, Some, None, is_some, if◌then◌else◌}
 use Rattle.std.specs.Option.{option_map}
 use Rattle.std.specs.Str.{bytes_eq}
 use Rattle.th_model.specs.WatchPicture.{Picture}
 use Rattle.th_watch.specs.Held.{shown_picture}
 use Rattle.th_lines.specs.Fields.{Rest, ended, field_then, number_then, value_last}
-use Rattle.th_traces.specs.Drafts.{More, Tells, Whole, allowed}
-use Rattle.th_traces.specs.LiveHandles.{Live, live, next_last, receiver_fields, sender_field}
+use Rattle.th_traces.specs.Drafts.{More, Tells, allowed}
+use Rattle.th_traces.specs.LiveHandles.{Live, live, next_last, table}
 use Rattle.th_traces.specs.Spelled.{Bytes}
 use Rattle.th_traces.specs.Tables.{Table}
 
@@ -18,16 +18,12 @@ Sketch = Picture (Option Bytes)
 abbrev pub sketch : ℕ → Option Bytes → Live Bool → Sketch
 sketch version last h = shown_picture version last h.receivers h.senders h.next
 
--- `version NEXT next`
-abbrev pub start_fields : Rest → Option (ℕ × ℕ)
-start_fields =
-    number_then (λ version rest. option_map (λ next. (version, next)) (next_last rest))
-
--- what they tell; versions count from 1, and so do handles
+-- what `version NEXT next` tell; versions count from 1, and so do handles
 abbrev pub start : Rest → Option Sketch
 start rest =
-    allowed (λ (s : ℕ × ℕ). nat_lt 0 s.0 && nat_lt 0 s.1) (λ s. sketch s.0 None (live [] [] s.1))
-    (start_fields rest)
+    allowed (λ (s : ℕ × ℕ). nat_lt 0 s.0 && nat_lt 0 s.1)
+    (λ s. sketch s.0 None (live [] [] s.1))
+    (number_then (λ version rest. option_map (λ next. (version, next)) (next_last rest)) rest)
 
 -- the value was told
 abbrev pub has_value : Sketch → Bool
@@ -55,24 +51,16 @@ abbrev pub reader_last : Rest → Option (ℕ × Bool)
 reader_last =
     number_then (λ rx rest. option_map (λ unseen. (rx, unseen)) (field_then seen_or_unseen rest))
 
--- the fields of each line below that of the start
+-- the field of a value's line
 abbrev pub value_field : Sketch → Rest → Option (Tells Sketch)
 value_field p rest =
     allowed (λ value. not (has_value p)) (λ value. More (with_value p value))
     (value_last (λ value. value) rest)
 
-abbrev pub no_field : Sketch → Rest → Option (Tells Sketch)
-no_field p rest = allowed (λ w. has_value p) (λ w. w) (ended Whole rest)
-
--- what such a line tells
+-- what a line below that of the start tells
 unfoldable pub body : Sketch → Table (Tells Sketch)
 body p =
-    (codes "KEEP", value_field p)
-    ∷ (codes "TX", sender_field (with_handles p) (has_value p) (handles p))
-    ∷ (codes "RX", λ rest.
-        receiver_fields (with_handles p) (has_value p) (handles p) (reader_last rest))
-    ∷ (codes "BEGIN", no_field p)
-    ∷ []
+    table (with_handles p) (has_value p) (handles p) (value_field p) reader_last (has_value p)
 
 -- what is true of a picture that was told in part
 pub record IsDraft (p : Sketch) : Type 0 where

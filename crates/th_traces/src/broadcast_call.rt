@@ -33,10 +33,7 @@ pub fn by_word(alloc: Global, word: &[u8], rest: Option<&[u8]>) -> Result<BCall<
             Err(fault) => Err(fault),
         };
     }
-    match by_number(word, rest) {
-        Some(call) => Ok(call),
-        None => Err(LineFault::BadLine),
-    }
+    by_number(word, rest).ok_or(LineFault::BadLine)
 }
 
 // The call of this word, where a handle's number alone is to follow it.

@@ -1,7 +1,7 @@
 //! A broadcast channel's picture, of which some lines were read.
 ghost use Rattle.std.specs.Prelude.{◌≡◌, ◌≤◌, max, true};
 ghost use Rattle.th_lines.specs.Reads.{rest_of};
-ghost use Rattle.th_traces.specs.BroadcastDrafts.{body, has_values, is_whole, place_last, start, start_fields, value_field};
+ghost use Rattle.th_traces.specs.BroadcastDrafts.{body, has_values, is_whole, place_last, start, value_field};
 ghost use Rattle.th_traces.specs.Drafts.{TakesLine};
 ghost use Rattle.th_model.specs.Places.{least_place, low_of};
 ghost use Rattle.th_traces.specs.Tables.{by_table};
@@ -62,21 +62,14 @@ fn least_from(places: &BTreeMap<u64, u64>, tail: u64, first: u64) -> u64
     least
 }
 
-// `low tail NEXT next`, as the last fields.
-fn start_fields(rest: Option<&[u8]>) -> Option<(u64, u64, u64)>
-    ensures { result ≡ start_fields (rest_of rest.entry) }
-{
-    let (low, rest) = number_and_rest(rest?)?;
-    let (tail, rest) = number_and_rest(rest?)?;
-    Some((low, tail, last_next(rest)?))
-}
-
 impl BroadcastDraft {
     // What the fields of `AT` tell, in a trace of this capacity.
     pub fn start(alloc: Global, capacity: Capacity, rest: Option<&[u8]>) -> Option<BroadcastDraft>
         ensures { result ≡ start capacity (rest_of rest.entry) }
     {
-        let (low, tail, next) = start_fields(rest)?;
+        let (low, rest) = number_and_rest(rest?)?;
+        let (tail, rest) = number_and_rest(rest?)?;
+        let next = last_next(rest)?;
         if low > tail || tail - low > capacity.in_force() || next == 0 {
             return None;
         }

@@ -1,10 +1,9 @@
 //! The lines of a picture, read one by one.
 ghost use Rattle.std.specs.Prelude.{◌≡◌, Some};
-ghost use Rattle.std.specs.Option.{option_map};
 ghost use Rattle.th_lines.specs.Fields.{by_word};
 ghost use Rattle.th_lines.specs.Reads.{rest_of};
 ghost use Rattle.th_traces.specs.Drafts.{allowed};
-ghost use Rattle.th_traces.specs.Pictures.{On, ReadsLine, broadcast_start, head_line, is_capacity, kinds, step, versions, watch_start};
+ghost use Rattle.th_traces.specs.Pictures.{ReadsLine, broadcast_start, head_line, is_capacity, kinds, step, versions, watch_start};
 ghost use Rattle.th_traces.specs.declared.place.Place.TheVariants.{Nothing};
 
 use crate::broadcast_draft::BroadcastDraft;
@@ -63,34 +62,35 @@ pub fn read_picture(
     ensures exact { ReadsLine result draft.old draft.new (step draft.old line.now) }
 {
     match replace(&mut draft.place, Place::Nothing) {
-        Place::Nothing => go_on(draft, Place::Nothing, read_head(line)),
-        Place::Headed(version, capacity) => {
-            let next = broadcast_start(alloc, version, capacity, line);
-            go_on(draft, Place::Headed(version, capacity), next)
-        }
-        Place::WatchHeaded => go_on(draft, Place::WatchHeaded, watch_start(alloc, line)),
+        Place::Nothing => match read_head(line) {
+            Some(place) => {
+                draft.place = place;
+                Ok(None)
+            }
+            None => Err(LineFault::BadLine),
+        },
+        Place::Headed(version, capacity) => match broadcast_start(alloc, version, capacity, line) {
+            Some(place) => {
+                draft.place = place;
+                Ok(None)
+            }
+            None => {
+                draft.place = Place::Headed(version, capacity);
+                Err(LineFault::BadLine)
+            }
+        },
+        Place::WatchHeaded => match watch_start(alloc, line) {
+            Some(place) => {
+                draft.place = place;
+                Ok(None)
+            }
+            None => {
+                draft.place = Place::WatchHeaded;
+                Err(LineFault::BadLine)
+            }
+        },
         Place::InBroadcast(version, picture) => in_broadcast(alloc, draft, version, picture, line),
         Place::InWatch(picture) => in_watch(alloc, draft, picture, line),
-    }
-}
-
-// Where a line of the head or of the start leads, which was read at this place.
-fn go_on(
-    draft: &mut Draft,
-    place: Place,
-    next: Option<Place>,
-) -> Result<Option<(Head, Picture)>, LineFault>
-    ensures { ReadsLine result place draft.new (option_map On next) }
-{
-    match next {
-        Some(next) => {
-            draft.place = next;
-            Ok(None)
-        }
-        None => {
-            draft.place = place;
-            Err(LineFault::BadLine)
-        }
     }
 }
 

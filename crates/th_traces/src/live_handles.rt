@@ -96,11 +96,7 @@ impl<X: Drop> LiveHandles<X> {
     }
 
     // The field of `TX`, where all values were told or not.
-    pub fn take_sender(
-        &mut self,
-        has_values: bool,
-        rest: Option<&[u8]>,
-    ) -> Result<bool, LineFault>
+    pub fn take_sender(&mut self, has_values: bool, rest: Option<&[u8]>) -> Result<bool, LineFault>
         ensures { TakesLine result self.old self.new
             (sender_field (λ h. h) has_values self.old (rest_of rest.entry)) }
     {

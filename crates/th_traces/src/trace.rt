@@ -1,10 +1,8 @@
 //! The whole trace of a segment, of either kind, printed.
-ghost use Rattle.std.specs.Prelude.{◌≡◌, ◌+◌, ◌≤◌, List, length, map, IsOk, Some, vec_len, vec_capacity};
+ghost use Rattle.std.specs.Prelude.{◌≡◌, ◌+◌, ◌≤◌, length, map, IsOk, Some, vec_len, vec_capacity};
 ghost use Rattle.std.specs.List.{concat};
 ghost use Rattle.th_traces.specs.Grammars.{fields};
 ghost use Rattle.th_traces.specs.Pieces.{PrintsPiece, broadcast_pieces, pieces, watch_pieces};
-ghost use Rattle.th_traces.specs.Spelled.{Bytes};
-ghost use Rattle.th_traces.specs.ToCome.{PrintsNext};
 ghost use Rattle.th_traces.specs.Traces.{broadcast_lines, broadcast_trace, watch_lines, watch_trace};
 ghost use Rattle.th_traces.specs.Versions.{version_of};
 
@@ -12,6 +10,7 @@ use crate::broadcast_lines::BroadcastLines;
 use crate::end::print_end;
 use crate::entry::{EntryLines, print_entry};
 use crate::head::Version;
+use crate::picture_lines::{PictureLines, Standing};
 use crate::watch_lines::WatchLines;
 use std::alloc::AllocError;
 use std::marker::Model;
@@ -21,29 +20,13 @@ use th_model::{BCall, BReply, Value, WCall};
 use th_shelf::Shelf;
 use th_watch::Watch;
 
-/// The lines of a channel's picture, to be printed one after the other.
-pub trait PictureLines: Drop {
-    /// The lines that are to come.
-    ghost to_come: { Self → List Bytes };
-
-    /// Appends the next line, and says whether there was one. Where there is no memory for it, the
-    /// text is left as it was, and so are the lines to come. There is, where 4,096 bytes are free: no
-    /// line has more.
-    fn print_next(&mut self, out: &mut Vec<u8>) -> Result<bool, AllocError>
-        ensures printed { PrintsNext
-            (to_come self.old) (to_come self.new) out.old.items out.new.items result }
-        ensures most { vec_len out.new ≤ vec_len out.old + 4096 }
-        ensures fits { vec_len out.old + 4096 ≤ vec_capacity out.old → IsOk result }
-        ensures room { vec_capacity out.old ≤ vec_capacity out.new };
-}
-
 /// The whole trace of a segment of a channel's history, to be printed piece by piece: a piece is a line
 /// of the picture, the two lines of an entry, or the end line. None of them costs more where there are
 /// many.
 #[derive(Drop)]
-pub struct Trace<'a, P: PictureLines, C: EntryLines> {
+pub struct Trace<'a, X: Standing, C: EntryLines> {
     // What is left of the picture's lines.
-    picture: P,
+    picture: PictureLines<'a, X>,
     // What is left of the entries.
     entries: &'a [(C, C::Reply)],
     // The number of all entries, where the end line is left.
@@ -51,26 +34,26 @@ pub struct Trace<'a, P: PictureLines, C: EntryLines> {
 }
 
 /// That of a broadcast channel.
-pub type BroadcastTrace<'a> = Trace<'a, BroadcastLines<'a>, BCall<Value>>;
+pub type BroadcastTrace<'a> = Trace<'a, u64, BCall<Value>>;
 
 /// That of a watch channel.
-pub type WatchTrace<'a> = Trace<'a, WatchLines<'a>, WCall<Value>>;
+pub type WatchTrace<'a> = Trace<'a, bool, WCall<Value>>;
 
-impl<'a, P: PictureLines, C: EntryLines> Model for Trace<'a, P, C> {
+impl<'a, X: Standing, C: EntryLines> Model for Trace<'a, X, C> {
     ghost use Rattle.std.specs.Prelude.{List, ℕ};
     ghost use Rattle.th_traces.specs.Grammars.{fields};
     ghost use Rattle.th_traces.specs.Pieces.{pieces};
 
     ghost Value = { List (List ℕ) };
 
-    ghost view = { λ t. pieces (P.to_come t.picture) (fields C.grammar t.entries.now) t.end };
+    ghost view = { λ t. pieces t.picture (fields C.grammar t.entries.now) t.end };
 }
 
-impl<'a, P: PictureLines, C: EntryLines> Trace<'a, P, C> {
+impl<'a, X: Standing, C: EntryLines> Trace<'a, X, C> {
     // That of these lines of a picture, and these entries.
-    fn of(picture: P, entries: &'a [(C, C::Reply)]) -> Trace<'a, P, C>
+    fn of(picture: PictureLines<'a, X>, entries: &'a [(C, C::Reply)]) -> Trace<'a, X, C>
         ensures { let all = fields C.grammar entries.entry.now in
-            result ≡ pieces (P.to_come picture) all (Some (length all)) }
+            result ≡ pieces picture.entry all (Some (length all)) }
     {
         Trace {
             picture,

@@ -19,10 +19,7 @@ pub fn by_word(alloc: Global, word: &[u8], rest: Option<&[u8]>) -> Result<WCall<
     if is_with_value(word) {
         return by_any_word(alloc, word, rest);
     }
-    match by_number(word, rest) {
-        Some(call) => Ok(call),
-        None => Err(LineFault::BadLine),
-    }
+    by_number(word, rest).ok_or(LineFault::BadLine)
 }
 
 // Whether a value follows the number behind this word.
@@ -73,10 +70,7 @@ fn by_any_word(alloc: Global, word: &[u8], rest: Option<&[u8]>) -> Result<WCall<
             Err(fault) => Err(fault),
         };
     }
-    match by_number(word, rest) {
-        Some(call) => Ok(call),
-        None => Err(LineFault::BadLine),
-    }
+    by_number(word, rest).ok_or(LineFault::BadLine)
 }
 
 // The call of this word, where a handle's number alone is to follow it.

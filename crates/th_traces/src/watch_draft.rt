@@ -5,7 +5,7 @@ ghost use Rattle.th_lines.specs.Reads.{rest_of};
 ghost use Rattle.th_watch.specs.Held.{shown_picture};
 ghost use Rattle.th_traces.specs.Drafts.{TakesLine};
 ghost use Rattle.th_traces.specs.Tables.{by_table};
-ghost use Rattle.th_traces.specs.WatchDrafts.{body, has_value, reader_last, seen_or_unseen, start, start_fields, value_field};
+ghost use Rattle.th_traces.specs.WatchDrafts.{body, has_value, reader_last, seen_or_unseen, start, value_field};
 
 use crate::fields::last_value;
 use crate::live_handles::{LiveHandles, last_next};
@@ -35,14 +35,6 @@ impl Model for WatchDraft {
     ghost view = { λ d. sketch d.version d.last d.handles };
 
     ghost invariant = { λ d. IsDraft (sketch d.version d.last d.handles) };
-}
-
-// `version NEXT next`, as the last fields.
-fn start_fields(rest: Option<&[u8]>) -> Option<(u64, u64)>
-    ensures { result ≡ start_fields (rest_of rest.entry) }
-{
-    let (version, rest) = number_and_rest(rest?)?;
-    Some((version, last_next(rest)?))
 }
 
 // `seen` or `unseen`, as the last field.
@@ -75,7 +67,8 @@ impl WatchDraft {
     pub fn start(alloc: Global, rest: Option<&[u8]>) -> Option<WatchDraft>
         ensures { result ≡ start (rest_of rest.entry) }
     {
-        let (version, next) = start_fields(rest)?;
+        let (version, rest) = number_and_rest(rest?)?;
+        let next = last_next(rest)?;
         if version == 0 || next == 0 {
             return None;
         }
