@@ -7,11 +7,11 @@ use th_model::{
     TxId, Value, WCall,
 };
 use th_registry::calls::{answers, receives, sends, starts};
-use th_registry::channel::{LocalChannel, TopicReceipt, TopicSegment};
+use th_registry::channel::{TopicReceipt, TopicSegment};
 use th_registry::recorded::Recorded;
 use th_registry::topics::list;
 use th_registry::{
-    BadLimit, Desk, Found, LocalDesk, Made, NoEvent, Refusal, TopicId, Unspent, laws,
+    BadLimit, Desk, Found, LocalDesk, Made, NoEvent, Refusal, TopicId, Unspent, keep, laws,
 };
 use th_watch::Watch;
 
@@ -52,19 +52,8 @@ pub fn keep_call(log: &mut Recorded<Watch<u64>>, call: WCall<u64>) -> Result<(),
     log.keep(call)
 }
 
-pub fn keep_at_desk(
-    desk: &mut LocalDesk,
-    verb: SenderVerb<Value>,
-    read: ReceiverVerb,
-) -> [Result<(), NoEvent>; 2] {
-    [
-        desk.keep_by_sender(TopicId(7), TxId(1), verb),
-        desk.keep_by_receiver(TopicId(7), RxId(2), read),
-    ]
-}
-
-pub fn look_at_topic(desk: &LocalDesk) -> Option<&LocalChannel> {
-    desk.channel(TopicId(7))
+pub fn keep_or_say_why(log: &mut Recorded<Watch<u64>>, call: WCall<u64>) -> Result<(), NoEvent> {
+    keep(log, Some(call))
 }
 
 pub fn cut(log: &mut Recorded<Watch<u64>>) -> Result<Segment<Watch<u64>>, Short<()>> {

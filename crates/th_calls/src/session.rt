@@ -3,11 +3,12 @@ use std::alloc::Global;
 use std::fs::File;
 use std::time::Clock;
 use th_lines::{Command, Counted, WriteBuffer};
-use th_model::{NameRef, ReceiverVerb, SenderVerb, Value};
+use th_model::NameRef;
 use th_registry::channel::{TopicReceipt, TopicSegment};
 use th_registry::{LocalDesk, TopicId};
+use th_session::quiet::{self, Own};
 use th_session::{
-    Answer, Gate, Keeping, OpenGate, Session, SessionFault, laws, local, quiet, run_session,
+    Answer, Gate, Keeping, OpenGate, Session, SessionFault, laws, local, run_session,
 };
 
 pub fn law() {
@@ -49,12 +50,11 @@ pub fn act_quietly(
     session: &Session<LocalDesk>,
     desk: &mut LocalDesk,
     name: &NameRef<'_>,
-    verb: SenderVerb<Value>,
+    own: Own,
     out: &mut WriteBuffer,
     writer: &mut Counted<File>,
 ) {
-    let _ = quiet::by_sender(session, desk, name, verb, out, writer);
-    let _ = quiet::by_receiver(session, desk, name, ReceiverVerb::TryRecv, out, writer);
+    let _ = quiet::carry_out(session, &mut desk.topics, name, own, out, writer);
 }
 
 pub fn look(session: &Session<LocalDesk>) -> usize {

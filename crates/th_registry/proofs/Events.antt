@@ -19,7 +19,7 @@ use Rattle.th_registry.specs.Outcomes.{ChannelCuts, ChannelTells}
 use Rattle.th_registry.specs.Pictures.{Desk, DeskSays, SeenChannel, SeenTopics, pictures, seen_broadcast, seen_watch}
 
 -- the value that is there is set again
-set-same : {K X : Type 0} (es : List (K × X)) (i : ℕ) (w : X) → slice_get (values_of es) i ≡ Some w → set_value_at es i w ≡ es
+pub set-same : {K X : Type 0} (es : List (K × X)) (i : ℕ) (w : X) → slice_get (values_of es) i ≡ Some w → set_value_at es i w ≡ es
 set-same [] i w h = refl
 set-same (e ∷ es) zero w h = ap (λ x. (e.0, x) ∷ es) (sym (same_Some e.1 w h))
 set-same (e ∷ es) (suc i) w h = ap (λ rest. e ∷ rest) (set-same es i w h)

@@ -1,21 +1,26 @@
 -- An event of which nobody keeps the receipt.
-use Rattle.std.proofs.Common.{◌≡◌, ℕ, zero, suc, inl, inr, List, [], ◌∷◌, ◌++◌, length, Option, Some, None, slice_get, Result, Ok, Err, Bool, true, false, cond, refl, sym, ap, ◌∙◌, arith, length-append}
-use Rattle.std.specs.Prelude.{◌-◌, IfOk, OnOk, IfErr, is_ok}
+use Rattle.std.proofs.Common.{◌≡◌, ℕ, inl, inr, List, [], ◌∷◌, ◌++◌, length, Option, Some, None, slice_get, Result, Ok, Err, Bool, true, false, cond, refl, sym, ap, ◌∙◌, arith, length-append}
+use Rattle.std.specs.Prelude.{◌-◌, IfOk, OnOk, IfErr, is_ok, is_some, nat_eq}
+use Rattle.std.specs.Cmp.Lexicographic.{pointwise}
 use Rattle.std.specs.Option.{option_map}
-use Rattle.std.specs.Map.{values_of}
-use Rattle.indexmap.specs.IndexMap.{set_value_at}
+use Rattle.th_model.specs.Handles.{is_sender}
+use Rattle.th_model.specs.Places.{place_of}
+use Rattle.th_model.specs.WatchMachine.{reader_of}
 use Rattle.th_model.specs.declared.handles.RxId.{RxId}
 use Rattle.th_model.specs.declared.handles.TxId.{TxId}
+use Rattle.th_log.specs.Calls.{broadcast_waits, watch_waits}
 use Rattle.th_log.specs.History.{Machine, last_reply, live_after}
+use Rattle.th_log.specs.Machines as machines
+use Rattle.th_registry.specs.declared.channel.Channel.TheVariants.{Broadcast, Watch}
 use Rattle.th_registry.specs.declared.outcome.NoEvent.{NoEvent}
 use Rattle.th_registry.specs.declared.outcome.NoEvent.TheVariants as NoEvents
-use Rattle.th_registry.specs.Events.{ChannelReply, Outcome, Replied, Told}
+use Rattle.th_registry.specs.Events.{Event, Binds, Subscribes, Sends, Asks, Receives, Resubscribes, DropsTx, DropsRx, ChannelReply, Outcome, Replied, Told, broadcast_call, takes_memory, watch_call}
 use Rattle.th_registry.specs.History.{History, is_full, recorded}
 use Rattle.th_registry.specs.Hub.{came, hub_replies, if_room, receipted}
-use Rattle.th_registry.specs.Keeping.{IsLeft, KindKeeps}
-use Rattle.th_registry.specs.Outcomes.{CallSays, NotesOrShort, SaysOrShort}
-use Rattle.th_registry.specs.Pictures.{SeenChannel, seen_by}
-use Rattle.th_registry.specs.Receipts.{ChannelReceipt, Receipt, receipt_of, reply_in}
+use Rattle.th_registry.specs.Keeping.{KindKeeps}
+use Rattle.th_registry.specs.Outcomes.{CallSays, ChannelTells, KindSays, NotesOrShort, SaysOrShort}
+use Rattle.th_registry.specs.Pictures.{SeenBroadcast, SeenChannel, SeenWatch, seen_broadcast, seen_by, seen_watch}
+use Rattle.th_registry.specs.Receipts.{BroadcastReceipt, ChannelReceipt, Receipt, WatchReceipt, receipt_of, reply_in}
 use Rattle.th_registry.specs.Refusals.{RefusesEvent}
 use Rattle.th_registry.specs.Typed.{replied}
 
@@ -30,13 +35,6 @@ last-behind {C = C} {R = R} xs x =
     let count : length (xs ++ x ∷ []) - 1 ≡ length xs = omega (arith, more) in
     ap (λ (n : ℕ). option_map (λ (e : C × R). e.1) (slice_get (xs ++ x ∷ []) n)) count
     ∙ ap (option_map (λ (e : C × R). e.1)) (get-behind xs x)
-
--- the channel that was written is found again
-pub written-there : {K X : Type 0} (es : List (K × X)) (i : ℕ) (old new : X) → slice_get (values_of es) i ≡ Some old →
-    slice_get (values_of (set_value_at es i new)) i ≡ Some new
-written-there [] i old new h = absurd (let bad : ⊥ = cc in bad)
-written-there (e ∷ es) zero old new h = refl
-written-there (e ∷ es) (suc i) old new h = written-there es i old new h
 
 module _ {E S C R : Type 0} (m : Machine E S C R) (has_sender : S → TxId → Bool) (has_receiver : S → RxId → Bool)
     (waits : C → R → Bool) (old : History S S C R) (by_hub : Bool) (call : Option C) (c : C) (new : History S S C R) where
@@ -102,14 +100,14 @@ module _ {E S C R : Type 0} (m : Machine E S C R) (has_sender : S → TxId → B
   keeps-by (Err why) is allows event room refused =
       (Err why, (made-not m has_sender has_receiver waits old false call c new why allows refused, tt), refl)
 
--- a kind of channel as a channel of any kind
+-- what came of a call of a kind, as of a channel of any kind
+abbrev of_kind : {C R : Type 0} → (Receipt C R → ChannelReceipt) → Result (Receipt C R) NoEvent → Result ChannelReceipt NoEvent
+of_kind in_receipt (Ok receipt) = Ok (in_receipt receipt)
+of_kind in_receipt (Err why) = Err why
+
 module _ {E S C R : Type 0} (m : Machine E S C R) (has_sender : S → TxId → Bool) (has_receiver : S → RxId → Bool)
     (in_channel : History S S C R → SeenChannel) (in_receipt : Receipt C R → ChannelReceipt) (in_reply : R → ChannelReply)
     (same : (r : Receipt C R) → reply_in (in_receipt r) ≡ in_reply r.reply) (old new : History S S C R) where
-  abbrev of_kind : Result (Receipt C R) NoEvent → Result ChannelReceipt NoEvent
-  of_kind (Ok receipt) = Ok (in_receipt receipt)
-  of_kind (Err why) = Err why
-
   abbrev came_so : Result R NoEvent → Told
   came_so said = came (λ reply. Replied (in_reply reply)) said
 
@@ -127,7 +125,7 @@ module _ {E S C R : Type 0} (m : Machine E S C R) (has_sender : S → TxId → B
   -- what a call of the kind says is what the channel says of the event
   pub tells-so : (takes : Told → Bool) → ((o : Outcome) → takes (Ok o) ≡ true) → (s : Result R NoEvent × History S S C R)
       (call : Option C) (said : Result (Receipt C R) NoEvent) → CallSays s call old said new →
-      NotesOrShort takes (told-so call s) (in_channel old) (replied (of_kind said)) (in_channel new)
+      NotesOrShort takes (told-so call s) (in_channel old) (replied (of_kind in_receipt said)) (in_channel new)
   tells-so takes all s call (Ok receipt) (inl e, (is, shape)) =
       inl (
       ap (told-so call) e
@@ -144,18 +142,54 @@ module _ {E S C R : Type 0} (m : Machine E S C R) (has_sender : S → TxId → B
         takes-so takes all s.0 h.2,
       )
 
-  -- and its reply is the channel's last one
-  pub left-so : (said : Result (Receipt C R) NoEvent) (kept : Result (Unit {0}) NoEvent) (last : Option R) →
-      IsLeft (λ receipt. receipt.reply) said kept last → IsLeft reply_in (of_kind said) kept (option_map in_reply last)
-  left-so (Ok receipt) (Ok _) last left =
-      ap (option_map in_reply) left ∙ ap (λ (reply : ChannelReply). Some reply) (sym (same receipt))
-  left-so (Ok receipt) (Err why) last left = absurd left
-  left-so (Err why) (Ok _) last left = absurd left
-  left-so (Err why) (Err reason) last left = left
+-- what an actor's own sender or receiver does
+abbrev pub IsOwn : Event → Type 0
+IsOwn (Sends t verb) = Unit {0}
+IsOwn (Receives r verb) = Unit {0}
+IsOwn event = ⊥
 
-  pub keeps-so : (takes : Told → Bool) → ((o : Outcome) → takes (Ok o) ≡ true) → (s : Result R NoEvent × History S S C R)
-      (call : Option C) (kept : Result (Unit {0}) NoEvent) →
-      (said : Result (Receipt C R) NoEvent) × CallSays s call old said new × IsLeft (λ r. r.reply) said kept (last_reply new.entries) →
-      (said : Result ChannelReceipt NoEvent) × NotesOrShort takes (told-so call s) (in_channel old) (replied said) (in_channel new)
-      × IsLeft reply_in said kept (option_map in_reply (last_reply new.entries))
-  keeps-so takes all s call kept k = (of_kind k.0, tells-so takes all s call k.0 k.1, left-so k.0 kept (last_reply new.entries) k.2)
+abbrev pub of_broadcast : Result BroadcastReceipt NoEvent → Result ChannelReceipt NoEvent
+of_broadcast = of_kind (λ receipt. Broadcast receipt)
+
+abbrev pub of_watch : Result WatchReceipt NoEvent → Result ChannelReceipt NoEvent
+of_watch = of_kind (λ receipt. Watch receipt)
+
+-- what a call of a broadcast channel says is what the channel says of the event
+pub broadcast-tells : (event : Event) → IsOwn event → (old new : SeenBroadcast) (came : Result BroadcastReceipt NoEvent) →
+    KindSays machines.broadcast (λ p tx. is_sender p.senders tx.0) (λ p rx. is_some (place_of p.window.places rx.0)) broadcast_waits
+    old false (broadcast_call event) came new →
+    ChannelTells (Broadcast old) event (replied (of_broadcast came)) (Broadcast new)
+broadcast-tells (Sends t verb) own old new came says =
+    tells-so machines.broadcast (λ p tx. is_sender p.senders tx.0) (λ p rx. is_some (place_of p.window.places rx.0))
+    (λ h. Broadcast h) (λ r. Broadcast r) (λ r. Broadcast r) (λ r. refl) old new (takes_memory (Sends t verb)) (λ o. refl)
+    (hub_replies seen_broadcast broadcast_waits old false (broadcast_call (Sends t verb))) (broadcast_call (Sends t verb)) came says
+broadcast-tells (Receives r verb) own old new came says =
+    tells-so machines.broadcast (λ p tx. is_sender p.senders tx.0) (λ p rx. is_some (place_of p.window.places rx.0))
+    (λ h. Broadcast h) (λ r. Broadcast r) (λ r. Broadcast r) (λ r. refl) old new (takes_memory (Receives r verb)) (λ o. refl)
+    (hub_replies seen_broadcast broadcast_waits old false (broadcast_call (Receives r verb))) (broadcast_call (Receives r verb)) came says
+broadcast-tells Binds own old new came says = absurd own
+broadcast-tells (Subscribes start by) own old new came says = absurd own
+broadcast-tells (Asks by question) own old new came says = absurd own
+broadcast-tells (Resubscribes r) own old new came says = absurd own
+broadcast-tells (DropsTx by) own old new came says = absurd own
+broadcast-tells (DropsRx r) own old new came says = absurd own
+
+-- and of a watch channel
+pub watch-tells : (event : Event) → IsOwn event → (old new : SeenWatch) (came : Result WatchReceipt NoEvent) →
+    KindSays (machines.watch (pointwise nat_eq)) (λ p tx. is_sender p.senders tx.0) (λ p rx. is_some (reader_of p.readers rx.0))
+    watch_waits old false (watch_call event) came new →
+    ChannelTells (Watch old) event (replied (of_watch came)) (Watch new)
+watch-tells (Sends t verb) own old new came says =
+    tells-so (machines.watch (pointwise nat_eq)) (λ p tx. is_sender p.senders tx.0) (λ p rx. is_some (reader_of p.readers rx.0))
+    (λ h. Watch h) (λ r. Watch r) (λ r. Watch r) (λ r. refl) old new (takes_memory (Sends t verb)) (λ o. refl)
+    (hub_replies seen_watch watch_waits old false (watch_call (Sends t verb))) (watch_call (Sends t verb)) came says
+watch-tells (Receives r verb) own old new came says =
+    tells-so (machines.watch (pointwise nat_eq)) (λ p tx. is_sender p.senders tx.0) (λ p rx. is_some (reader_of p.readers rx.0))
+    (λ h. Watch h) (λ r. Watch r) (λ r. Watch r) (λ r. refl) old new (takes_memory (Receives r verb)) (λ o. refl)
+    (hub_replies seen_watch watch_waits old false (watch_call (Receives r verb))) (watch_call (Receives r verb)) came says
+watch-tells Binds own old new came says = absurd own
+watch-tells (Subscribes start by) own old new came says = absurd own
+watch-tells (Asks by question) own old new came says = absurd own
+watch-tells (Resubscribes r) own old new came says = absurd own
+watch-tells (DropsTx by) own old new came says = absurd own
+watch-tells (DropsRx r) own old new came says = absurd own

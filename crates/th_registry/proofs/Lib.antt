@@ -1,6 +1,6 @@
 pub mod Events
 pub mod Noting
-mod Keeping
+pub mod Keeping
 pub mod Openings
 pub mod Seeing
 pub mod LiveNumbers

@@ -3,7 +3,7 @@ ghost use Rattle.std.specs.Prelude.{◌≡◌, ◌<◌, true, false};
 ghost use Rattle.th_log.specs.History.{live_after};
 ghost use Rattle.th_registry.specs.Events.{Asks, Binds, DropsRx, DropsTx, Hub, Own, Receives, Resubscribes, Sends, Subscribes, any_sender, sender_of};
 ghost use Rattle.th_registry.specs.History.{is_full, recorded};
-ghost use Rattle.th_registry.specs.Keeping.{ChannelKeeps, KindKeeps};
+ghost use Rattle.th_registry.specs.Keeping.{KindKeeps};
 ghost use Rattle.th_registry.specs.Outcomes.{Allows, ChannelCuts, ChannelTells, KindEnds, KindMoves, KindSays};
 ghost use Rattle.th_registry.specs.Typed.{ended, made_rx, made_tx, replied};
 
@@ -63,9 +63,10 @@ fn event<K: Kind>(
     channel.record(call)
 }
 
-// The same, for whoever keeps no receipt.
+/// One call, not through the hub's own sender, for whoever keeps no receipt: the reply stands in the last entry of the
+/// channel's log. Or the first reason why there is no event.
 #[inline(always)]
-fn kept<K: Kind>(channel: &mut Recorded<K>, call: Option<K::Call>) -> Result<(), NoEvent>
+pub fn keep<K: Kind>(channel: &mut Recorded<K>, call: Option<K::Call>) -> Result<(), NoEvent>
     requires { K.lawful }
     ensures { KindKeeps K.machine K.has_sender K.has_receiver K.waits
         channel.old call result channel.new }
@@ -170,36 +171,6 @@ pub fn by_receiver(
             let receipt = event(channel, false, HubWatch::by_receiver(verb, rx))?;
             Ok(Channel::Watch(receipt))
         }
-    }
-}
-
-/// What a sender does, for whoever keeps no receipt.
-#[inline(always)]
-pub fn keep_by_sender(
-    channel: &mut LocalChannel,
-    tx: TxId,
-    verb: SenderVerb<Value>,
-) -> Result<(), NoEvent>
-    ensures { ChannelKeeps channel.old (Sends tx verb) result channel.new }
-{
-    match channel {
-        Channel::Broadcast(channel) => kept(channel, HubBroadcast::by_sender(verb, tx)),
-        Channel::Watch(channel) => kept(channel, HubWatch::by_sender(verb, tx)),
-    }
-}
-
-/// What a receiver does, for whoever keeps no receipt.
-#[inline(always)]
-pub fn keep_by_receiver(
-    channel: &mut LocalChannel,
-    rx: RxId,
-    verb: ReceiverVerb,
-) -> Result<(), NoEvent>
-    ensures { ChannelKeeps channel.old (Receives rx verb) result channel.new }
-{
-    match channel {
-        Channel::Broadcast(channel) => kept(channel, HubBroadcast::by_receiver(verb, rx)),
-        Channel::Watch(channel) => kept(channel, HubWatch::by_receiver(verb, rx)),
     }
 }
 

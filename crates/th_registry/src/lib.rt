@@ -21,6 +21,7 @@ pub mod topics;
 
 pub use channel::Channel;
 pub use desk::{Desk, MOST_READY};
+pub use event::keep;
 pub use local::{BadLimit, LocalDesk};
 pub use opening::{Found, Refusal, TopicId};
 pub use outcome::{Made, NoEvent, Unspent};

@@ -1,11 +1,8 @@
 //! The desk of one thread, which never waits.
-ghost use Rattle.std.specs.Prelude.{◌≡◌, ◌≤◌, ◌<◌, ◌↔◌, [], IfOk, IsOk, option_copied, slice_get};
-ghost use Rattle.std.specs.Map.{values_of};
-ghost use Rattle.th_registry.specs.Events.{Receives, Sends};
-ghost use Rattle.th_registry.specs.Keeping.{DeskKeeps};
+ghost use Rattle.std.specs.Prelude.{◌≡◌, ◌≤◌, ◌<◌, ◌↔◌, [], IfOk, IsOk};
 ghost use Rattle.th_registry.specs.Pictures.{DeskSays};
 
-use crate::channel::{LocalChannel, TopicReceipt, TopicSegment};
+use crate::channel::{TopicReceipt, TopicSegment};
 use crate::desk::Desk;
 use crate::event;
 use crate::opening::{Found, Refusal, TopicId};
@@ -23,7 +20,8 @@ use thiserror::Error;
 /// At most 1,024 topics by name, in order of opening, each with its channel and the channel's log.
 #[derive(Drop)]
 pub struct LocalDesk {
-    channels: Channels,
+    /// The topics.
+    pub topics: Channels,
     // The most entries of a segment of each topic, 1 to 1,000,000. It never changes.
     limit: u64,
 }
@@ -33,7 +31,7 @@ impl Model for LocalDesk {
 
     ghost Value = { Desk };
 
-    ghost view = { λ d. record { limit = d.limit; topics = d.channels.entries } };
+    ghost view = { λ d. record { limit = d.limit; topics = d.topics.entries } };
 }
 
 /// A limit is 1 to 1,000,000.
@@ -54,7 +52,7 @@ impl LocalDesk {
         ensures { result ≡ record { limit = limit; topics = [] } }
     {
         LocalDesk {
-            channels: IndexMap::new(alloc),
+            topics: IndexMap::new(alloc),
             limit,
         }
     }
@@ -68,51 +66,6 @@ impl LocalDesk {
             return Err(BadLimit);
         }
         Ok(LocalDesk::empty(alloc, limit))
-    }
-}
-
-impl LocalDesk {
-    /// What a sender of this topic does, for whoever keeps no receipt: the reply stands in the last entry of the topic's log.
-    #[inline(always)]
-    pub fn keep_by_sender(
-        &mut self,
-        topic: TopicId,
-        sender: TxId,
-        verb: SenderVerb<Value>,
-    ) -> Result<(), NoEvent>
-        ensures { DeskKeeps self.old topic.0 (Sends sender verb) result self.new }
-    {
-        let Some(channel) = self.channels.get_index_mut(topic.0 as usize) else {
-            return Err(NoEvent::NoTopic);
-        };
-        event::keep_by_sender(channel, sender, verb)
-    }
-
-    /// What a receiver of this topic does, likewise.
-    #[inline(always)]
-    pub fn keep_by_receiver(
-        &mut self,
-        topic: TopicId,
-        receiver: RxId,
-        verb: ReceiverVerb,
-    ) -> Result<(), NoEvent>
-        ensures { DeskKeeps self.old topic.0 (Receives receiver verb) result self.new }
-    {
-        let Some(channel) = self.channels.get_index_mut(topic.0 as usize) else {
-            return Err(NoEvent::NoTopic);
-        };
-        event::keep_by_receiver(channel, receiver, verb)
-    }
-
-    /// The channel of the topic of this number, with its log.
-    #[inline(always)]
-    pub fn channel(&self, topic: TopicId) -> Option<&LocalChannel>
-        ensures { option_copied result ≡ slice_get (values_of self.now.topics) topic.0 }
-    {
-        match self.channels.get_index(topic.0 as usize) {
-            Some((_, channel)) => Some(channel),
-            None => None,
-        }
     }
 }
 
@@ -136,7 +89,7 @@ impl Desk for LocalDesk {
     ghost says = { DeskSays };
 
     fn find(&self, name: &NameRef<'_>) -> Option<Found> {
-        match self.channels.get_full(name) {
+        match self.topics.get_full(name) {
             Some((number, _, channel)) => Some(Found {
                 topic: TopicId(number as u64),
                 kind: channel.kind(),
@@ -146,7 +99,7 @@ impl Desk for LocalDesk {
     }
 
     fn list(&self) -> Result<Listing, Short<()>> {
-        list(&self.channels)
+        list(&self.topics)
     }
 
     fn open_topic(&mut self, name: NameRef<'_>, making: Making) -> Result<u64, Refusal> {
@@ -156,21 +109,21 @@ impl Desk for LocalDesk {
         let name = name.to_name();
         match making {
             Making::Broadcast(asked) => open_broadcast(
-                &mut self.channels,
+                &mut self.topics,
                 self.limit,
                 name,
                 asked,
                 0,
             ),
             Making::BroadcastAt(asked, base) => {
-                open_broadcast(&mut self.channels, self.limit, name, asked, base)
+                open_broadcast(&mut self.topics, self.limit, name, asked, base)
             }
-            Making::Watch(value) => open_watch(&mut self.channels, self.limit, name, value),
+            Making::Watch(value) => open_watch(&mut self.topics, self.limit, name, value),
         }
     }
 
     fn bind(&mut self, topic: TopicId) -> Result<Made<TxId>, NoEvent> {
-        let Some(channel) = self.channels.get_index_mut(topic.0 as usize) else {
+        let Some(channel) = self.topics.get_index_mut(topic.0 as usize) else {
             return Err(NoEvent::NoTopic);
         };
         event::bind(channel)
@@ -182,7 +135,7 @@ impl Desk for LocalDesk {
         start: Start,
         sender: &mut Option<TxId>,
     ) -> Result<Made<RxId>, NoEvent> {
-        let Some(channel) = self.channels.get_index_mut(topic.0 as usize) else {
+        let Some(channel) = self.topics.get_index_mut(topic.0 as usize) else {
             return Err(NoEvent::NoTopic);
         };
         event::subscribe(channel, start, *sender)
@@ -195,7 +148,7 @@ impl Desk for LocalDesk {
         sender: &mut TxId,
         verb: SenderVerb<Value>,
     ) -> Result<TopicReceipt, NoEvent> {
-        let Some(channel) = self.channels.get_index_mut(topic.0 as usize) else {
+        let Some(channel) = self.topics.get_index_mut(topic.0 as usize) else {
             return Err(NoEvent::NoTopic);
         };
         event::by_sender(channel, *sender, verb)
@@ -207,7 +160,7 @@ impl Desk for LocalDesk {
         sender: &mut Option<TxId>,
         question: Question,
     ) -> Result<TopicReceipt, NoEvent> {
-        let Some(channel) = self.channels.get_index_mut(topic.0 as usize) else {
+        let Some(channel) = self.topics.get_index_mut(topic.0 as usize) else {
             return Err(NoEvent::NoTopic);
         };
         event::ask(channel, *sender, question)
@@ -220,21 +173,21 @@ impl Desk for LocalDesk {
         receiver: &mut RxId,
         verb: ReceiverVerb,
     ) -> Result<TopicReceipt, NoEvent> {
-        let Some(channel) = self.channels.get_index_mut(topic.0 as usize) else {
+        let Some(channel) = self.topics.get_index_mut(topic.0 as usize) else {
             return Err(NoEvent::NoTopic);
         };
         event::by_receiver(channel, *receiver, verb)
     }
 
     fn resubscribe(&mut self, topic: TopicId, receiver: &mut RxId) -> Result<Made<RxId>, NoEvent> {
-        let Some(channel) = self.channels.get_index_mut(topic.0 as usize) else {
+        let Some(channel) = self.topics.get_index_mut(topic.0 as usize) else {
             return Err(NoEvent::NoTopic);
         };
         event::resubscribe(channel, *receiver)
     }
 
     fn spend_sender(&mut self, topic: TopicId, sender: TxId) -> Result<(), Unspent<TxId>> {
-        let Some(channel) = self.channels.get_index_mut(topic.0 as usize) else {
+        let Some(channel) = self.topics.get_index_mut(topic.0 as usize) else {
             return Err(unspent(sender, NoEvent::NoTopic));
         };
         match event::drop_tx(channel, sender) {
@@ -244,7 +197,7 @@ impl Desk for LocalDesk {
     }
 
     fn spend_receiver(&mut self, topic: TopicId, receiver: RxId) -> Result<(), Unspent<RxId>> {
-        let Some(channel) = self.channels.get_index_mut(topic.0 as usize) else {
+        let Some(channel) = self.topics.get_index_mut(topic.0 as usize) else {
             return Err(unspent(receiver, NoEvent::NoTopic));
         };
         match event::drop_rx(channel, receiver) {
@@ -254,14 +207,14 @@ impl Desk for LocalDesk {
     }
 
     fn end(&mut self, topic: TopicId) -> Result<(), NoEvent> {
-        let Some(channel) = self.channels.get_index_mut(topic.0 as usize) else {
+        let Some(channel) = self.topics.get_index_mut(topic.0 as usize) else {
             return Err(NoEvent::NoTopic);
         };
         event::end(channel)
     }
 
     fn cut(&mut self, topic: TopicId) -> Result<TopicSegment, NoEvent> {
-        let Some(channel) = self.channels.get_index_mut(topic.0 as usize) else {
+        let Some(channel) = self.topics.get_index_mut(topic.0 as usize) else {
             return Err(NoEvent::NoTopic);
         };
         event::cut(channel)

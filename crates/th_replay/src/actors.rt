@@ -3,9 +3,9 @@ ghost use Rattle.std.specs.Prelude.{◌≡◌, ◌||◌, List, ℕ, None, slice_
 ghost use Rattle.std.specs.Map.{values_of};
 ghost use Rattle.th_lines.specs.Intake.{line_given};
 ghost use Rattle.th_lines.specs.Output.{AddsOrFails, output};
-ghost use Rattle.th_lines.specs.declared.command.Action.TheVariants.{ByReceiver, BySender};
 ghost use Rattle.th_lines.specs.declared.command.Command.TheVariants.{On};
 ghost use Rattle.th_session.specs.Kept.{told};
+ghost use Rattle.th_session.specs.Quiet.{action_of};
 ghost use Rattle.th_session.specs.Script as script;
 ghost use Rattle.th_session.specs.Script.{Replied};
 ghost use Rattle.th_replay.specs.Session.{Turns};
@@ -19,10 +19,11 @@ use th_lines::{
     Action, Code, Command, Counted, LineFault, Reply, WriteBuffer, WriteFailed, name_and_rest,
     read_command,
 };
-use th_model::{Name, NameRef, ReceiverVerb, SenderVerb, Value};
+use th_model::{Name, NameRef};
 use th_registry::LocalDesk;
 use th_session::local::step;
-use th_session::{Answer, Keeping, Session, quiet};
+use th_session::quiet::{self, Own};
+use th_session::{Answer, Keeping, Session};
 
 /// The most actors at one time.
 const MOST_ACTORS: usize = 1024;
@@ -159,26 +160,30 @@ impl Hub {
     {
         match command {
             Command::On(name, action) => match action {
-                Action::BySender(verb) => self.by_sender(place, &name, verb, out, writer),
-                Action::ByReceiver(verb) => self.by_receiver(place, &name, verb, out, writer),
+                Action::BySender(verb) => {
+                    self.by_own(place, &name, Own::Sender(verb), out, writer)
+                }
+                Action::ByReceiver(verb) => {
+                    self.by_own(place, &name, Own::Receiver(verb), out, writer)
+                }
                 other => self.by_step(place, Command::On(name, other), out, writer),
             },
             other => self.by_step(place, other, out, writer),
         }
     }
 
-    // What the own sender of the actor at this place does.
+    // What the own sender or receiver of the actor at this place does.
     #[inline(always)]
-    fn by_sender<W: Write>(
+    fn by_own<W: Write>(
         &mut self,
         place: usize,
         name: &NameRef<'_>,
-        verb: SenderVerb<Value>,
+        own: Own,
         out: &mut WriteBuffer,
         writer: &mut Counted<W>,
     ) -> Result<(), WriteFailed>
         ensures { let held = slice_get (values_of self.old.actors) place in
-            let command = On name.now (BySender verb) in
+            let command = On name.now (action_of own) in
             PutsAnswer (by_holding picture_step self.old place command held)
             (asks_by_holding picture_asks self.old command held) self.old self.new
             (output W.contents writer.old out.old) (output W.contents writer.new out.new) result }
@@ -186,29 +191,7 @@ impl Hub {
         let Some((_, session)) = self.actors.get_index(place) else {
             return out.append(writer, &Reply::Refused(Code::NotHeld));
         };
-        quiet::by_sender(session, &mut self.desk, name, verb, out, writer)
-    }
-
-    // What the own receiver of the actor at this place does.
-    #[inline(always)]
-    fn by_receiver<W: Write>(
-        &mut self,
-        place: usize,
-        name: &NameRef<'_>,
-        verb: ReceiverVerb,
-        out: &mut WriteBuffer,
-        writer: &mut Counted<W>,
-    ) -> Result<(), WriteFailed>
-        ensures { let held = slice_get (values_of self.old.actors) place in
-            let command = On name.now (ByReceiver verb) in
-            PutsAnswer (by_holding picture_step self.old place command held)
-            (asks_by_holding picture_asks self.old command held) self.old self.new
-            (output W.contents writer.old out.old) (output W.contents writer.new out.new) result }
-    {
-        let Some((_, session)) = self.actors.get_index(place) else {
-            return out.append(writer, &Reply::Refused(Code::NotHeld));
-        };
-        quiet::by_receiver(session, &mut self.desk, name, verb, out, writer)
+        quiet::carry_out(session, &mut self.desk.topics, name, own, out, writer)
     }
 
     // Carries out any command of the actor at this place, who is gone where it has quit. That takes time with the number of

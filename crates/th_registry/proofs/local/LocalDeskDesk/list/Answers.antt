@@ -15,4 +15,4 @@ pub returns : goal.returns
 returns c =
     let desk = c.self.inside in
     subst (λ (d : Desk). DeskSays d List c.list.result d) c.self.view_is
-    (refl, listed desk.limit desk.channels.entries c.list.result c.list.ensures)
+    (refl, listed desk.limit desk.topics.entries c.list.result c.list.ensures)

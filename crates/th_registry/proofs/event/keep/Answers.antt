@@ -1,6 +1,6 @@
 use Rattle.std.proofs.Common.{Err, inl, refl}
 use Rattle.th_registry.proofs.Keeping.{keeps-by}
-use Rattle.th_registry.proofs.event.kept.Goals as goal
+use Rattle.th_registry.proofs.event.keep.Goals as goal
 
 pub returns-in-Err : goal.returns-in-Err
 returns-in-Err g c = (Err c.in-Err.why, (inl c.in-Err.ensures, tt), refl)
