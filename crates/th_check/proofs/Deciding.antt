@@ -77,7 +77,8 @@ one_does : (here : Point) (line : Line) (t u : Turn Point) → Does here line t 
 one_does here Long t u p q = p ∙ sym q
 one_does (InPicture place) (Good line) t u p q = p ∙ sym q
 one_does (InBroadcast version stage) (Good line) t u p q =
-    p.2 ∙ ap (λ (a : Turn BroadcastStage). lifted (InBroadcast version) a) (one_turn machines.broadcast (words_of_broadcast version) stage line p.0 q.0 p.1 q.1) ∙ sym q.2
+    p.2 ∙ ap (λ (a : Turn BroadcastStage). lifted (InBroadcast version) a)
+    (one_turn machines.broadcast (words_of_broadcast version) stage line p.0 q.0 p.1 q.1) ∙ sym q.2
 one_does (InWatch stage) (Good line) t u p q =
     p.2 ∙ ap (λ (a : Turn WatchStage). lifted InWatch a) (one_turn watch_machine words_of_watch stage line p.0 q.0 p.1 q.1) ∙ sym q.2
 
@@ -96,7 +97,8 @@ Says here n [] v = EndOf (ended_with here) n v
 Says here n (line ∷ lines) v = (t : Turn Point) × Does here line t × SaysOf t (λ next. Says next (n + 1) lines v) n v
 
 -- one verdict is said
-module _ (breply : BReply Bytes → BReply Bytes → Bool) (bexact : IsExact breply) (wreply : WReply Bytes → WReply Bytes → Bool) (wexact : IsExact wreply) where
+module _ (breply : BReply Bytes → BReply Bytes → Bool) (bexact : IsExact breply) (wreply : WReply Bytes → WReply Bytes → Bool)
+    (wexact : IsExact wreply) where
   some_does : (here : Point) (line : Line) → (t : Turn Point) × Does here line t
   some_does here Long = (Bad, refl)
   some_does (InPicture place) (Good line) = (picture_turn (pictures.step place line), refl)
@@ -140,13 +142,15 @@ one_says here n (line ∷ lines) v w p q =
     (subst (λ (t : Turn Point). SaysOf t (λ next. Says next (n + 1) lines w) n w) (one_does here line q.0 p.0 q.1 p.1) q.2)
 
 -- what is said is so, and what is so is said
-led_on : (here there : Point) (n : ℕ) (before rest : List Line) (v : Verdict) → Leads here before there → Says there (n + length before) rest v → Says here n (before ++ rest) v
+led_on : (here there : Point) (n : ℕ) (before rest : List Line) (v : Verdict) → Leads here before there →
+    Says there (n + length before) rest v → Says here n (before ++ rest) v
 led_on here there n [] rest v p q =
     subst (λ (k : ℕ). Says here k rest v) (omega arith) (subst (λ (x : Point). Says x (n + length {A = Line} []) rest v) p q)
 led_on here there n (line ∷ before) rest v p q =
     (On p.0, p.1, led_on p.0 there (n + 1) before rest v p.2 (subst (λ (k : ℕ). Says there k rest v) (omega arith) q))
 
-led_from : (here there : Point) (before rest : List Line) (v : Verdict) → Leads here before there → Says there (length before) rest v → Says here 0 (before ++ rest) v
+led_from : (here there : Point) (before rest : List Line) (v : Verdict) → Leads here before there → Says there (length before) rest v →
+    Says here 0 (before ++ rest) v
 led_from here there before rest v p q =
     let e : length before ≡ 0 + length before = omega arith in
     led_on here there 0 before rest v p (subst (λ (k : ℕ). Says there k rest v) e q)
@@ -163,7 +167,8 @@ bad_said here (line ∷ later) n h = (Bad, h, refl)
 
 so_said : (lines : List Line) (v : Verdict) → IsSo lines v → Says start 0 lines v
 so_said lines (verdict.Legal count) h =
-    let whole : Says start 0 (lines ++ []) (verdict.Legal count) = led_from start h.end lines [] (verdict.Legal count) h.led (end_said (ended_with h.end) (length lines) count h.ended) in
+    let whole : Says start 0 (lines ++ []) (verdict.Legal count) =
+    led_from start h.end lines [] (verdict.Legal count) h.led (end_said (ended_with h.end) (length lines) count h.ended) in
     subst (λ (l : List Line). Says start 0 l (verdict.Legal count)) (append-nil lines) whole
 so_said lines (verdict.Illegal number) h =
     let v : Verdict = verdict.Illegal number in
@@ -171,10 +176,13 @@ so_said lines (verdict.Illegal number) h =
     subst (λ (l : List Line). Says start 0 l v) (sym h.parts) (led_from start h.here h.before (h.line ∷ h.later) v h.led here)
 so_said lines (verdict.BadTrace number) h =
     let v : Verdict = verdict.BadTrace number in
-    let here : Says h.here (length h.before) h.rest v = subst (λ (w : Verdict). Says h.here (length h.before) h.rest w) (ap verdict.BadTrace (sym h.counted)) (bad_said h.here h.rest (length h.before) h.bad) in
+    let here : Says h.here (length h.before) h.rest v =
+    subst (λ (w : Verdict). Says h.here (length h.before) h.rest w) (ap verdict.BadTrace (sym h.counted))
+    (bad_said h.here h.rest (length h.before) h.bad) in
     subst (λ (l : List Line). Says start 0 l v) (sym h.parts) (led_from start h.here h.before h.rest v h.led here)
 
-end_so : (before : List Line) (here : Point) → Leads start before here → (o : Option ℕ) → ended_with here ≡ o → (v : Verdict) → EndOf o (length before) v
+end_so : (before : List Line) (here : Point) → Leads start before here → (o : Option ℕ) → ended_with here ≡ o → (v : Verdict) →
+    EndOf o (length before) v
     → IsSo (before ++ []) v
 end_so before here led (Some count) e v p =
     subst (λ (w : Verdict). IsSo (before ++ []) w) (sym p)
@@ -185,7 +193,8 @@ end_so before here led None e v p =
 
 turn_so : (before : List Line) (here : Point) → Leads start before here → (line : Line) (rest : List Line) (v : Verdict)
     → ((next : Point) → Leads start (before ++ line ∷ []) next → Says next (length before + 1) rest v → IsSo (before ++ line ∷ rest) v)
-    → (t : Turn Point) → Does here line t → SaysOf t (λ next. Says next (length before + 1) rest v) (length before) v → IsSo (before ++ line ∷ rest) v
+    → (t : Turn Point) → Does here line t → SaysOf t (λ next. Says next (length before + 1) rest v) (length before) v →
+    IsSo (before ++ line ∷ rest) v
 turn_so before here led line rest v later (On next) d p = later next (leads-append start here next before (line ∷ []) led (next, d, refl)) p
 turn_so before here led line rest v later Bad d p =
     subst (λ (w : Verdict). IsSo (before ++ line ∷ rest) w) (sym p)
@@ -194,7 +203,8 @@ turn_so before here led line rest v later Illegal d p =
     subst (λ (w : Verdict). IsSo (before ++ line ∷ rest) w) (sym p)
     (record { before = before; line = line; later = rest; parts = refl; here = here; led = led; illegal = d; counted = refl })
 
-said_so : (before : List Line) (here : Point) → Leads start before here → (rest : List Line) (v : Verdict) → Says here (length before) rest v
+said_so : (before : List Line) (here : Point) → Leads start before here → (rest : List Line) (v : Verdict) →
+    Says here (length before) rest v
     → IsSo (before ++ rest) v
 said_so before here led [] v p = end_so before here led (ended_with here) refl v p
 said_so before here led (line ∷ rest) v p =
@@ -206,7 +216,8 @@ said_so before here led (line ∷ rest) v p =
     p.0 p.1 p.2
 
 -- exactly one verdict is so
-module _ (breply : BReply Bytes → BReply Bytes → Bool) (bexact : IsExact breply) (wreply : WReply Bytes → WReply Bytes → Bool) (wexact : IsExact wreply) where
+module _ (breply : BReply Bytes → BReply Bytes → Bool) (bexact : IsExact breply) (wreply : WReply Bytes → WReply Bytes → Bool)
+    (wexact : IsExact wreply) where
   pub one_verdict : (lines : List Line) → (v : Verdict) × IsSo lines v × ((w : Verdict) → IsSo lines w → w ≡ v)
   one_verdict lines =
       let s = says_some breply bexact wreply wexact start 0 lines in

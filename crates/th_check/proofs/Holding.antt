@@ -95,7 +95,8 @@ pub begins_watch : (p q : watch_picture.Picture Bytes) → watch_picture.IsSound
     → Shows watch_machine watch.IsProper (CallDue (watch_picture.whole p) 0) (first q)
 begins_watch p q s e = (record { proper = (watch-whole p s).0; shown = (watch-whole p s).1 ∙ sym e }, refl)
 
-pub begins_at_broadcast : (h : Head) (p : Picture) (version : Version) (parts q : broadcast_picture.Picture Bytes) → h ≡ head.Broadcast version
+pub begins_at_broadcast : (h : Head) (p : Picture) (version : Version) (parts q : broadcast_picture.Picture Bytes) →
+    h ≡ head.Broadcast version
     → p ≡ picture.Broadcast parts → q ≡ parts → broadcast_picture.IsSound q → Begins h p (Ok (spot.InBroadcast version (first q)))
 begins_at_broadcast h p version parts q e f same s = (
   InBroadcast version (CallDue (broadcast_picture.whole parts) 0),
@@ -112,10 +113,12 @@ begins_at_watch h p parts q e f same s = (
 )
 
 -- a line of a picture leads on
-pub goes_on : (old new : Place) (told : Option (Head × Picture)) (line : List ℕ) → told ≡ None → ReadsLine (Ok told) old new (pictures.step old line)
+pub goes_on : (old new : Place) (told : Option (Head × Picture)) (line : List ℕ) → told ≡ None →
+    ReadsLine (Ok told) old new (pictures.step old line)
     → Takes (InPicture old) (Good line) (Ok (spot.InPicture new))
 goes_on old new told line e h =
-    let next : pictures.step old line ≡ Some (pictures.On new) = subst (λ (o : Option (Head × Picture)). ReadsLine (Ok o) old new (pictures.step old line)) e h in
+    let next : pictures.step old line ≡ Some (pictures.On new) =
+    subst (λ (o : Option (Head × Picture)). ReadsLine (Ok o) old new (pictures.step old line)) e h in
     (InPicture new, sym (ap picture_turn next), refl)
 
 -- a line that is given

@@ -27,7 +27,8 @@ ends = (codes "END", number_last (λ (n : ℕ). n)) ∷ []
 
 pub end_found : (line : List ℕ) (n : ℕ) → end_of line ≡ Some n → line ≡ end_line n
 end_found line n h =
-    by_table-found SpellsEnd ends (table-finds SpellsEnd ends (number_last-finds SpellsEnd (codes "END") (λ n. n) (λ n s. refl) & tt)) line n h
+    by_table-found SpellsEnd ends
+    (table-finds SpellsEnd ends (number_last-finds SpellsEnd (codes "END") (λ n. n) (λ n s. refl) & tt)) line n h
 
 pub end_again : (n : ℕ) → n < 2 ^ 64 → end_of (end_line n) ≡ Some n
 end_again n s = number_last-again (λ (n : ℕ). n) n s
@@ -97,17 +98,29 @@ module _ {E S C R : Type 0} (m : Machine E S C R) (words : Words C R) (IsCall : 
       ⊎ ((told ≡ Some before) × (stage ≡ Ended before))
 
   module _ (state : E) (before : ℕ) (stage : Stage E C) where
-    by_call : (call : C) (told : Option ℕ) → begins m words state before (Some call) told ≡ Some stage → Begins state before (Some call) told stage
+    by_call : (call : C) (told : Option ℕ) → begins m words state before (Some call) told ≡ Some stage →
+        Begins state before (Some call) told stage
     by_call call told h = elim (cases_lt before most_entries) [
-      | inl low ↦ inl (call, refl, low, sym (same_Some _ _ (sym (ap (λ (b : Bool). cond b (Some (ReplyDue state before call)) None) (lt-ltb before most_entries low)) ∙ h)))
-      | inr high ↦ absurd (none-some stage (sym (ap (λ (b : Bool). cond b (Some (ReplyDue state before call)) None) (le-ltb before most_entries high)) ∙ h))
+      | inl low ↦
+          inl (
+            call,
+            refl,
+            low,
+            sym (same_Some _ _
+                (sym (ap (λ (b : Bool). cond b (Some (ReplyDue state before call)) None) (lt-ltb before most_entries low)) ∙ h)),
+          )
+      | inr high ↦
+          absurd
+          (none-some stage (sym (ap (λ (b : Bool). cond b (Some (ReplyDue state before call)) None) (le-ltb before most_entries high)) ∙ h))
     ]
 
-    by_end : (told : ℕ) (b : Bool) → eqb told before ≡ b → cond b (Some (Ended before)) None ≡ Some stage → Begins state before None (Some told) stage
+    by_end : (told : ℕ) (b : Bool) → eqb told before ≡ b → cond b (Some (Ended before)) None ≡ Some stage →
+        Begins state before None (Some told) stage
     by_end told true e h = inr (ap Some (eqb-true told before e), sym (same_Some _ _ h))
     by_end told false e h = absurd (none-some stage h)
 
-    begins_cases : (said : Option C) (told : Option ℕ) → begins m words state before said told ≡ Some stage → Begins state before said told stage
+    begins_cases : (said : Option C) (told : Option ℕ) → begins m words state before said told ≡ Some stage →
+        Begins state before said told stage
     begins_cases (Some call) told h = by_call call told h
     begins_cases None (Some told) h = by_end told (eqb told before) refl h
     begins_cases None None h = absurd (none-some stage h)
@@ -115,7 +128,8 @@ module _ {E S C R : Type 0} (m : Machine E S C R) (words : Words C R) (IsCall : 
   -- what the words of a kind are known for
   module _ (call_found : (line : List ℕ) (call : C) → words.call_of line ≡ Some call → IsCall call × (line ≡ call_line (call_fields call)))
       (call_again : (call : C) → IsCall call → words.call_of (call_line (call_fields call)) ≡ Some call)
-      (reply_found : (call : C) (line : List ℕ) (reply : R) → words.reply_of call line ≡ Some reply → IsReplyTo call reply × (line ≡ reply_line (reply_fields reply)))
+      (reply_found : (call : C) (line : List ℕ) (reply : R) → words.reply_of call line ≡ Some reply → IsReplyTo call reply
+      × (line ≡ reply_line (reply_fields reply)))
       (reply_again : (call : C) (reply : R) → IsReplyTo call reply → words.reply_of call (reply_line (reply_fields reply)) ≡ Some reply)
       (no_call : (count : ℕ) → words.call_of (end_line count) ≡ None) where
     -- one line more
@@ -155,11 +169,14 @@ module _ {E S C R : Type 0} (m : Machine E S C R) (words : Words C R) (IsCall : 
         let more : before + 1 ≤ most_entries = omega (arith, f) in subst Fits (sym t.1) more
     fits (Ended told) line next f t = absurd t
 
-    pub below : (stage : Stage E C) (line : List ℕ) (next : Stage E C) (lines : List Bytes) (count : ℕ) → Fits stage → Turns m words stage line (On next)
+    pub below : (stage : Stage E C) (line : List ℕ) (next : Stage E C) (lines : List Bytes) (count : ℕ) → Fits stage →
+        Turns m words stage line (On next)
         → Below next lines count → Below stage (line ∷ lines) count
     below (CallDue state before) line next lines count f t b = elim (begins_cases state before next (words.call_of line) (end_of line) t) [
       | inl c ↦ one_entry state before line c.0 c.1 lines count (subst (λ (s : Stage E C). Below s lines count) c.3 b)
-      | inr e ↦ (let d : Below (Ended before) lines count = subst (λ (s : Stage E C). Below s lines count) e.1 b in at_end state before line f e.0 lines count d.0 d.1)
+      | inr e ↦
+          (let d : Below (Ended before) lines count = subst (λ (s : Stage E C). Below s lines count) e.1 b in
+          at_end state before line f e.0 lines count d.0 d.1)
     ]
     below (ReplyDue state before call) line next lines count f t b =
         (line, lines, refl, t.0, subst (λ (s : Stage E C). Below s lines count) t.1 b)
@@ -175,7 +192,8 @@ module _ {E S C R : Type 0} (m : Machine E S C R) (words : Words C R) (IsCall : 
     module _ (point : Stage E C → Point)
         (does_on : (stage : Stage E C) (line : List ℕ) (next : Point) → Does (point stage) (Good line) (On next)
         → (s : Stage E C) × Turns m words stage line (On s) × (next ≡ point s))
-        (on_does : (stage : Stage E C) (line : List ℕ) (next : Stage E C) → Turns m words stage line (On next) → Does (point stage) (Good line) (On (point next)))
+        (on_does : (stage : Stage E C) (line : List ℕ) (next : Stage E C) → Turns m words stage line (On next) →
+        Does (point stage) (Good line) (On (point next)))
         (ended : (stage : Stage E C) → ended_with (point stage) ≡ ended_stage stage) where
       pub lines_below : (stage : Stage E C) → Fits stage → (lines : List Line) (there : Point) → Leads (point stage) lines there
           → (count : ℕ) → ended_with there ≡ Some count → (left : List Bytes) × (lines ≡ map Good left) × Below stage left count
@@ -184,7 +202,8 @@ module _ {E S C R : Type 0} (m : Machine E S C R) (words : Words C R) (IsCall : 
       lines_below stage f (Long ∷ lines) there led count e = on_bad led.0 led.1
       lines_below stage f (Good line ∷ lines) there led count e =
           let d = does_on stage line led.0 led.1 in
-          let later = lines_below d.0 (fits stage line d.0 f d.1) lines there (subst (λ (p : Point). Leads p lines there) d.2 led.2) count e in
+          let later =
+          lines_below d.0 (fits stage line d.0 f d.1) lines there (subst (λ (p : Point). Leads p lines there) d.2 led.2) count e in
           (line ∷ later.0, ap (λ (l : List Line). Good line ∷ l) later.1, below stage line d.0 later.0 count f d.1 later.2)
 
       -- and back
@@ -200,7 +219,8 @@ module _ {E S C R : Type 0} (m : Machine E S C R) (words : Words C R) (IsCall : 
           ∙ ap (λ (o : Option ℕ). begins m words state count None o) (end_again count (omega (arith, few)))
           ∙ ap (λ (b : Bool). cond b (Some (Ended count)) None) (eq-eqb count count refl)
 
-      pub entries_lead : (state : E) (before : ℕ) (entries : List (C × R)) (count : ℕ) → IsRun m state entries → AllByRecursion IsEntry entries
+      pub entries_lead : (state : E) (before : ℕ) (entries : List (C × R)) (count : ℕ) → IsRun m state entries →
+          AllByRecursion IsEntry entries
           → before + length entries ≡ count → count ≤ most_entries
           → Leads (point (CallDue state before)) (map Good (entry_lines (map fields entries) ++ end_line count ∷ [])) (point (Ended count))
       entries_lead state before [] count run each counted most =
@@ -212,9 +232,11 @@ module _ {E S C R : Type 0} (m : Machine E S C R) (words : Words C R) (IsCall : 
           )
       entries_lead state before (e ∷ es) count run each counted most =
           let low : before < most_entries = omega (arith, counted, most) in
-          let says : SaysReply m words state e.0 (reply_line (reply_fields e.1)) = (run.0, reply_again e.0 e.1 each.0.1 ∙ ap Some run.1) in (
+          let says : SaysReply m words state e.0 (reply_line (reply_fields e.1)) = (run.0, reply_again e.0 e.1 each.0.1 ∙ ap Some run.1) in
+              (
             point (ReplyDue state before e.0),
-            on_does (CallDue state before) (call_line (call_fields e.0)) (ReplyDue state before e.0) (call_turn state before e.0 each.0.0 low),
+            on_does (CallDue state before) (call_line (call_fields e.0)) (ReplyDue state before e.0)
+                (call_turn state before e.0 each.0.0 low),
             (
               point (CallDue (m.step state e.0).1 (before + 1)),
               on_does (ReplyDue state before e.0) (reply_line (reply_fields e.1)) (CallDue (m.step state e.0).1 (before + 1)) (says, refl),

@@ -40,9 +40,11 @@ no_watch_call count = refl
 -- where a turn is lifted to a point
 module _ (version : Version) (stage : BroadcastStage) (line : List ℕ) (next : Point) where
   abbrev IsBroadcastOn : Type 0
-  IsBroadcastOn = (s : BroadcastStage) × Turns machines.broadcast (words_of_broadcast version) stage line (On s) × (next ≡ InBroadcast version s)
+  IsBroadcastOn =
+      (s : BroadcastStage) × Turns machines.broadcast (words_of_broadcast version) stage line (On s) × (next ≡ InBroadcast version s)
 
-  broadcast_turn : (t : Turn BroadcastStage) → Turns machines.broadcast (words_of_broadcast version) stage line t → On next ≡ lifted (InBroadcast version) t → IsBroadcastOn
+  broadcast_turn : (t : Turn BroadcastStage) → Turns machines.broadcast (words_of_broadcast version) stage line t →
+      On next ≡ lifted (InBroadcast version) t → IsBroadcastOn
   broadcast_turn (On s) t e = (s, t, same_on _ _ e)
   broadcast_turn Bad t e = on_bad next e
   broadcast_turn Illegal t e = on_illegal next e
@@ -67,25 +69,39 @@ module _ (version : Version) where
   abbrev at : BroadcastStage → Point
   at stage = InBroadcast version stage
 
-  broadcast_below : (p : broadcast_picture.Picture Bytes) (lines : List Line) (there : Point) → Leads (at (CallDue (broadcast_picture.whole p) 0)) lines there
+  broadcast_below : (p : broadcast_picture.Picture Bytes) (lines : List Line) (there : Point) →
+      Leads (at (CallDue (broadcast_picture.whole p) 0)) lines there
       → (count : ℕ) → ended_with there ≡ Some count
       → (left : List Bytes) × (lines ≡ map Good left) × HasHistory (head.Broadcast version) (picture.Broadcast p) left count
   broadcast_below p lines there led count e =
       let state = broadcast_picture.whole p in
-      let b = telling.lines_below machines.broadcast (words_of_broadcast version) (broadcast_words.IsCall version) broadcast_words.IsReplyTo broadcast.call_fields broadcast.reply_fields
-      (broadcast_spelling.call_of-found version) (broadcast_spelling.call_of-again version) broadcast_spelling.reply_of-found broadcast_spelling.reply_of-again (no_broadcast_call version)
+      let b =
+      telling.lines_below machines.broadcast (words_of_broadcast version)
+      (broadcast_words.IsCall version) broadcast_words.IsReplyTo broadcast.call_fields broadcast.reply_fields
+      (broadcast_spelling.call_of-found version)
+      (broadcast_spelling.call_of-again version) broadcast_spelling.reply_of-found broadcast_spelling.reply_of-again
+      (no_broadcast_call version)
       at (broadcast_on version) (λ stage line next t. (On next, t, refl)) (λ stage. refl)
-      (CallDue state 0) (omega arith) lines there led count e in
-      (b.0, b.1, telling.history_of machines.broadcast (words_of_broadcast version) (broadcast_words.IsCall version) broadcast_words.IsReplyTo broadcast.call_fields broadcast.reply_fields state b.0 count b.2)
+      (CallDue state 0) (omega arith) lines there led count e in (
+        b.0,
+        b.1,
+        telling.history_of machines.broadcast (words_of_broadcast version)
+            (broadcast_words.IsCall version) broadcast_words.IsReplyTo broadcast.call_fields broadcast.reply_fields state b.0 count b.2,
+      )
 
-  broadcast_leads : (p : broadcast_picture.Picture Bytes) (lines : List Bytes) (count : ℕ) → HasHistory (head.Broadcast version) (picture.Broadcast p) lines count
+  broadcast_leads : (p : broadcast_picture.Picture Bytes) (lines : List Bytes) (count : ℕ) →
+      HasHistory (head.Broadcast version) (picture.Broadcast p) lines count
       → Leads (at (CallDue (broadcast_picture.whole p) 0)) (map Good lines) (at (Ended count))
   broadcast_leads p lines count h =
-      telling.history_leads machines.broadcast (words_of_broadcast version) (broadcast_words.IsCall version) broadcast_words.IsReplyTo broadcast.call_fields broadcast.reply_fields
-      (broadcast_spelling.call_of-found version) (broadcast_spelling.call_of-again version) broadcast_spelling.reply_of-found broadcast_spelling.reply_of-again (no_broadcast_call version)
+      telling.history_leads machines.broadcast (words_of_broadcast version)
+      (broadcast_words.IsCall version) broadcast_words.IsReplyTo broadcast.call_fields broadcast.reply_fields
+      (broadcast_spelling.call_of-found version)
+      (broadcast_spelling.call_of-again version) broadcast_spelling.reply_of-found broadcast_spelling.reply_of-again
+      (no_broadcast_call version)
       at (broadcast_on version) (λ stage line next t. (On next, t, refl)) (λ stage. refl) (broadcast_picture.whole p) lines count h
 
-watch_below : (p : watch_picture.Picture Bytes) (lines : List Line) (there : Point) → Leads (InWatch (CallDue (watch_picture.whole p) 0)) lines there
+watch_below : (p : watch_picture.Picture Bytes) (lines : List Line) (there : Point) →
+    Leads (InWatch (CallDue (watch_picture.whole p) 0)) lines there
     → (count : ℕ) → ended_with there ≡ Some count
     → (left : List Bytes) × (lines ≡ map Good left) × HasHistory head.Watch (picture.Watch p) left count
 watch_below p lines there led count e =
@@ -93,8 +109,11 @@ watch_below p lines there led count e =
     let b = telling.lines_below watch_machine words_of_watch watch_words.IsCall watch_words.IsReplyTo watch.call_fields watch.reply_fields
     watch_spelling.call_of-found watch_spelling.call_of-again watch_spelling.reply_of-found watch_spelling.reply_of-again no_watch_call
     InWatch watch_on (λ stage line next t. (On next, t, refl)) (λ stage. refl)
-    (CallDue state 0) (omega arith) lines there led count e in
-    (b.0, b.1, telling.history_of watch_machine words_of_watch watch_words.IsCall watch_words.IsReplyTo watch.call_fields watch.reply_fields state b.0 count b.2)
+    (CallDue state 0) (omega arith) lines there led count e in (
+      b.0,
+      b.1,
+      telling.history_of watch_machine words_of_watch watch_words.IsCall watch_words.IsReplyTo watch.call_fields watch.reply_fields state b.0 count b.2,
+    )
 
 watch_leads : (p : watch_picture.Picture Bytes) (lines : List Bytes) (count : ℕ) → HasHistory head.Watch (picture.Watch p) lines count
     → Leads (InWatch (CallDue (watch_picture.whole p) 0)) (map Good lines) (InWatch (Ended count))
@@ -115,7 +134,8 @@ pub record Drawn (place : Place) (lines : List Line) (count : ℕ) : Type 0 wher
 
 module _ (place : Place) (line : List ℕ) (lines : List Line) (there : Point) (count : ℕ) (e : ended_with there ≡ Some count) where
   -- the entries begin
-  begun : (h : Head) (p : Picture) → step place line ≡ Some (pictures.Begun h p) → (next : Point) → On next ≡ entries_of h p → Leads next lines there
+  begun : (h : Head) (p : Picture) → step place line ≡ Some (pictures.Begun h p) → (next : Point) → On next ≡ entries_of h p →
+      Leads next lines there
       → Drawn place (Good line ∷ lines) count
   begun (head.Broadcast version) (picture.Broadcast p) is next on led =
       let b = broadcast_below version p lines there (subst (λ (x : Point). Leads x lines there) (same_on _ _ on) led) count e in
@@ -143,7 +163,8 @@ module _ (place : Place) (line : List ℕ) (lines : List Line) (there : Point) (
   begun head.Watch (picture.Broadcast p) is next on led = on_bad next on
 
   one_line : (later : (next : Place) → Leads (InPicture next) lines there → Drawn next lines count)
-      → (o : Option Next) → step place line ≡ o → (next : Point) → On next ≡ picture_turn o → Leads next lines there → Drawn place (Good line ∷ lines) count
+      → (o : Option Next) → step place line ≡ o → (next : Point) → On next ≡ picture_turn o → Leads next lines there →
+      Drawn place (Good line ∷ lines) count
   one_line later None is next on led = on_bad next on
   one_line later (Some (pictures.On other)) is next on led =
       let d = later other (subst (λ (x : Point). Leads x lines there) (same_on _ _ on) led) in
@@ -158,12 +179,14 @@ module _ (place : Place) (line : List ℕ) (lines : List Line) (there : Point) (
       }
   one_line later (Some (pictures.Begun h p)) is next on led = begun h p is next on led
 
-picture_lines : (place : Place) (lines : List Line) (there : Point) → Leads (InPicture place) lines there → (count : ℕ) → ended_with there ≡ Some count
+picture_lines : (place : Place) (lines : List Line) (there : Point) → Leads (InPicture place) lines there → (count : ℕ) →
+    ended_with there ≡ Some count
     → Drawn place lines count
 picture_lines place [] there led count e = absurd (none-some count (ap ended_with (sym led) ∙ e))
 picture_lines place (Long ∷ lines) there led count e = on_bad led.0 led.1
 picture_lines place (Good line ∷ lines) there led count e =
-    one_line place line lines there count e (λ next more. picture_lines next lines there more count e) (step place line) refl led.0 led.1 led.2
+    one_line place line lines there count e (λ next more. picture_lines next lines there more count e)
+    (step place line) refl led.0 led.1 led.2
 
 pub told : (lines : List Line) (count : ℕ) → IsLegalText lines count → IsTrace lines count
 told lines count t =
@@ -173,13 +196,15 @@ told lines count t =
 -- and back
 module _ (place : Place) (line : Bytes) (front : List Bytes) (h : Head) (p : Picture) (there : Point) (on : entries_of h p ≡ On there) where
   last_line : (h' : Head) (p' : Picture) → step place line ≡ Some (pictures.Begun h' p') → (front : List Bytes)
-      → goes_on (Some (pictures.Begun h' p')) front (λ n. leads n front) ≡ Some (pictures.Begun h p) → Leads (InPicture place) (map Good (line ∷ front)) there
+      → goes_on (Some (pictures.Begun h' p')) front (λ n. leads n front) ≡ Some (pictures.Begun h p) →
+      Leads (InPicture place) (map Good (line ∷ front)) there
   last_line h' p' is [] g =
       (there, sym (ap picture_turn (is ∙ g) ∙ on), refl)
   last_line h' p' is (x ∷ xs) g = absurd (none-some _ g)
 
   next_line : (later : (next : Place) → leads next front ≡ Some (pictures.Begun h p) → Leads (InPicture next) (map Good front) there)
-      → (o : Option Next) → step place line ≡ o → goes_on o front (λ n. leads n front) ≡ Some (pictures.Begun h p) → Leads (InPicture place) (map Good (line ∷ front)) there
+      → (o : Option Next) → step place line ≡ o → goes_on o front (λ n. leads n front) ≡ Some (pictures.Begun h p) →
+      Leads (InPicture place) (map Good (line ∷ front)) there
   next_line later None is g = absurd (none-some _ g)
   next_line later (Some (pictures.On next)) is g = (InPicture next, sym (ap picture_turn is), later next g)
   next_line later (Some (pictures.Begun h' p')) is g = last_line h' p' is front g
@@ -199,21 +224,26 @@ map-good [] ys = refl
 map-good (x ∷ xs) ys = ap (λ (l : List Line). Good x ∷ l) (map-good xs ys)
 
 module _ (lines : List Line) (count : ℕ) (front below : List Bytes) (parts : lines ≡ map Good (front ++ below)) where
-  legal_by : (here there : Point) → Leads start (map Good front) here → Leads here (map Good below) there → ended_with there ≡ Some count → IsLegalText lines count
+  legal_by : (here there : Point) → Leads start (map Good front) here → Leads here (map Good below) there → ended_with there ≡ Some count →
+      IsLegalText lines count
   legal_by here there a b e = record {
     end = there;
-    led = subst (λ (l : List Line). Leads start l there) (sym (parts ∙ map-good front below)) (leads-append start here there (map Good front) (map Good below) a b);
+    led = subst (λ (l : List Line). Leads start l there) (sym (parts ∙ map-good front below))
+        (leads-append start here there (map Good front) (map Good below) a b);
     ended = e;
   }
 
-  by_kind : (h : Head) (p : Picture) → leads Nothing front ≡ Some (pictures.Begun h p) → HasHistory h p below count → IsLegalText lines count
+  by_kind : (h : Head) (p : Picture) → leads Nothing front ≡ Some (pictures.Begun h p) → HasHistory h p below count →
+      IsLegalText lines count
   by_kind (head.Broadcast version) (picture.Broadcast p) d h =
       let here : Point = InBroadcast version (CallDue (broadcast_picture.whole p) 0) in
-      legal_by here (InBroadcast version (Ended count)) (picture_leads Nothing front (head.Broadcast version) (picture.Broadcast p) d here refl)
+      legal_by here (InBroadcast version (Ended count))
+      (picture_leads Nothing front (head.Broadcast version) (picture.Broadcast p) d here refl)
       (broadcast_leads version p below count h) refl
   by_kind head.Watch (picture.Watch p) d h =
       let here : Point = InWatch (CallDue (watch_picture.whole p) 0) in
-      legal_by here (InWatch (Ended count)) (picture_leads Nothing front head.Watch (picture.Watch p) d here refl) (watch_leads p below count h) refl
+      legal_by here (InWatch (Ended count)) (picture_leads Nothing front head.Watch (picture.Watch p) d here refl)
+      (watch_leads p below count h) refl
   by_kind (head.Broadcast version) (picture.Watch p) d h = absurd h
   by_kind head.Watch (picture.Broadcast p) d h = absurd h
 

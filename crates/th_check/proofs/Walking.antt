@@ -4,7 +4,8 @@ use Rattle.std.specs.List.{AllByRecursion}
 use Rattle.std.proofs.lemmas.List.{drop_more}
 
 -- one element more
-pub one_more : {X : Type 0} (P : X → Type 0) (xs : List X) (k : ℕ) (x : X) → k < length xs → x ≡ get_or xs k x → P x → AllByRecursion P (drop (k + 1) xs) → AllByRecursion P (drop k xs)
+pub one_more : {X : Type 0} (P : X → Type 0) (xs : List X) (k : ℕ) (x : X) → k < length xs → x ≡ get_or xs k x → P x →
+    AllByRecursion P (drop (k + 1) xs) → AllByRecursion P (drop k xs)
 one_more P xs k x low is p rest = subst (AllByRecursion P) (sym (drop_more xs k x low)) (subst P is p, rest)
 
 -- none is left

@@ -41,7 +41,9 @@ module _ {E S C R : Type 0} {m : Machine E S C R} {proper : E → Type 0} {sound
         let reply = (m.step h.state call).0 in
         let more = length-append h.entries ((call, reply) ∷ []) in
         record {
-          legal = grows m proper sound laws.whole laws.stays laws.answer (segment h (m.see h.state)) call reply (m.see (m.step h.state call).1) k.legal ready (laws.answer h.state call p);
+          legal =
+              grows m proper sound laws.whole laws.stays laws.answer (segment h (m.see h.state)) call reply
+              (m.see (m.step h.state call).1) k.legal ready (laws.answer h.state call p);
           same_limit = k.same_limit;
           within = omega (arith, more, within);
           total = omega (arith, more, total);
@@ -50,7 +52,9 @@ module _ {E S C R : Type 0} {m : Machine E S C R} {proper : E → Type 0} {sound
     pub kept-recorded : (call : C) → m.ready (m.see h.state) call ≡ true → is_full h (live_then h call) ≡ false →
         IsKept m sound limit (recorded h call (m.step h.state call)).1
     kept-recorded call ready room =
-        let apart = neither (nat_lt h.limit (length h.entries + 1 + live_then h call)) (nat_lt most (h.first + length h.entries + 1 + live_then h call)) room in
+        let apart =
+        neither (nat_lt h.limit (length h.entries + 1 + live_then h call))
+        (nat_lt most (h.first + length h.entries + 1 + live_then h call)) room in
         kept-added call ready
         (omega (arith, k.same_limit, ltb-false h.limit (length h.entries + 1 + live_then h call) apart.0))
         (ltb-false most (h.first + length h.entries + 1 + live_then h call) apart.1)
@@ -69,7 +73,8 @@ module _ {E S C R : Type 0} {m : Machine E S C R} {proper : E → Type 0} {sound
     }
 
 -- there is room for the end of a handle
-pub room-to-spend : {E S C R : Type 0} (m : Machine E S C R) (sound : S → Type 0) (limit : ℕ) (h : History E S C R) → IsKept m sound limit h → (live : ℕ) →
+pub room-to-spend : {E S C R : Type 0} (m : Machine E S C R) (sound : S → Type 0) (limit : ℕ) (h : History E S C R) →
+    IsKept m sound limit h → (live : ℕ) →
     live + 1 ≡ m.live (m.see h.state) → is_full h live ≡ false
 room-to-spend m sound limit h k live fewer =
     rw (le-ltb h.limit (length h.entries + 1 + live) (omega (arith, fewer, k.within, k.same_limit)))

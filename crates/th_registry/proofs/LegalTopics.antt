@@ -22,7 +22,8 @@ use Rattle.th_registry.proofs.LiveTopics.{step, cut, at-topic, Opened}
 use Rattle.th_registry.proofs.Seeing.{is_capacity, stays_proper}
 
 module _ (limit : ℕ) where
-  kept-set : (ts : EndlessTopics) (n : ℕ) (c : EndlessChannel) → AreKept limit ts → IsKeptChannel limit c → AreKept limit (set_value_at ts n c)
+  kept-set : (ts : EndlessTopics) (n : ℕ) (c : EndlessChannel) → AreKept limit ts → IsKeptChannel limit c →
+      AreKept limit (set_value_at ts n c)
   kept-set [] n c h k = tt
   kept-set (t ∷ ts) zero c h k = (k, h.1)
   kept-set (t ∷ ts) (suc n) c h k = (h.0, kept-set ts n c h.1 k)
@@ -33,7 +34,8 @@ module _ (limit : ℕ) where
       (ts : EndlessTopics) (n : ℕ) (o : Option EndlessChannel) → slice_get (values_of ts) n ≡ o → AreProper ts → AreKept limit ts →
       AreKept limit (on_channel ts n done o).1
   kept-on done stay ts n None at p h = h
-  kept-on done stay ts n (Some c) at p h = kept-set ts n (done c).1 h (stay c (at-topic IsProperChannel ts n c p at) (at-topic (IsKeptChannel limit) ts n c h at))
+  kept-on done stay ts n (Some c) at p h =
+      kept-set ts n (done c).1 h (stay c (at-topic IsProperChannel ts n c p at) (at-topic (IsKeptChannel limit) ts n c h at))
 
   -- an opening
 
@@ -51,14 +53,16 @@ module _ (limit : ℕ) where
 
     kept-broadcast-made : (asked base : ℕ) → IsKeptMade (hub.made_broadcast (endless limit) key asked base)
     kept-broadcast-made asked base =
-        cond_case IsKeptMade (nat_lt base (2 ^ 64)) _ _ (λ fits. kept-made_of asked base (capacity_of asked) refl (ltb-true base (2 ^ 64) fits)) (λ _. tt)
+        cond_case IsKeptMade (nat_lt base (2 ^ 64)) _ _
+        (λ fits. kept-made_of asked base (capacity_of asked) refl (ltb-true base (2 ^ 64) fits)) (λ _. tt)
 
     kept-made : (making : Making) → IsKeptMade (made (endless limit) key making)
     kept-made (Makings.Broadcast asked) = kept-broadcast-made asked 0
     kept-made (Makings.BroadcastAt asked base) = kept-broadcast-made asked base
     kept-made (Makings.Watch value) = kept-watch-opened limit value key first
 
-  kept-append : (ts : EndlessTopics) (name : Bytes) (c : EndlessChannel) → AreKept limit ts → IsKeptChannel limit c → AreKept limit (ts ++ (name, c) ∷ [])
+  kept-append : (ts : EndlessTopics) (name : Bytes) (c : EndlessChannel) → AreKept limit ts → IsKeptChannel limit c →
+      AreKept limit (ts ++ (name, c) ∷ [])
   kept-append [] name c h k = (k, tt)
   kept-append (t ∷ ts) name c h k = (h.0, kept-append ts name c h.1 k)
 
@@ -67,19 +71,24 @@ module _ (limit : ℕ) where
   kept-added ts name true o h k = h
   kept-added ts name false None h k = h
   kept-added ts name false (Some new) h k =
-      cond_case (λ (s : Opened). AreKept limit s.1) (nat_le most_topics (length ts)) (Err Refusals.TooManyTopics, ts) (Ok new.0, ts ++ (name, new.1) ∷ []) (λ _. h) (λ _. kept-append ts name new.1 h k)
+      cond_case (λ (s : Opened). AreKept limit s.1) (nat_le most_topics (length ts)) (Err Refusals.TooManyTopics, ts)
+      (Ok new.0, ts ++ (name, new.1) ∷ []) (λ _. h) (λ _. kept-append ts name new.1 h k)
 
 pub histories_stay_kept : HistoriesStayKept
 histories_stay_kept limit ts (Find name) first p h = h
 histories_stay_kept limit ts hub.List first p h = h
 histories_stay_kept limit ts (Open name making) first p h =
-    kept-added limit ts name (is_some (find ts name)) (made (endless limit) (length ts + 1) making) h (kept-made limit first (length ts + 1) making)
-histories_stay_kept limit ts (On n event) first p h = kept-on limit (step event) (λ c q k. kept-event limit c q k event) ts n (slice_get (values_of ts) n) refl p h
+    kept-added limit ts name (is_some (find ts name)) (made (endless limit) (length ts + 1) making) h
+    (kept-made limit first (length ts + 1) making)
+histories_stay_kept limit ts (On n event) first p h =
+    kept-on limit (step event) (λ c q k. kept-event limit c q k event) ts n (slice_get (values_of ts) n) refl p h
 histories_stay_kept limit ts (Cut n) first p h = kept-on limit cut (kept-cut limit) ts n (slice_get (values_of ts) n) refl p h
 
-reached : (limit : ℕ) (ts : EndlessTopics) (qs : List Query) → 0 < limit → AreProper ts → AreKept limit ts → AreKept limit (after limit ts qs)
+reached : (limit : ℕ) (ts : EndlessTopics) (qs : List Query) → 0 < limit → AreProper ts → AreKept limit ts →
+    AreKept limit (after limit ts qs)
 reached limit ts [] first p h = h
-reached limit ts (q ∷ qs) first p h = reached limit (hub.say (endless limit) ts q).1 qs first (stays_proper limit ts q p) (histories_stay_kept limit ts q first p h)
+reached limit ts (q ∷ qs) first p h =
+    reached limit (hub.say (endless limit) ts q).1 qs first (stays_proper limit ts q p) (histories_stay_kept limit ts q first p h)
 
 pub histories_are_kept : HistoriesAreKept
 histories_are_kept limit qs first = reached limit [] qs first tt tt

@@ -79,13 +79,17 @@ module _ {T : Type 0} (e : Endless T) (s : IsProper e) (gone : Handle → Type 0
   by_receiver r given h = elim (place_of e.index r.0) as (λ o. LeadsOn (at_index e o given)) [ None ↦ same | Some i ↦ h i ]
 
   sends : (v : T) → LeadsOn (send e v)
-  sends v = cond_case LeadsOn (eqb (length e.index) 0) _ _ (λ _. same) (λ _. cond_case LeadsOn (eqb (tail_of e) (2 ^ 64 - 1)) _ _ (λ _. same) (λ _. same))
+  sends v =
+      cond_case LeadsOn (eqb (length e.index) 0) _ _ (λ _. same)
+      (λ _. cond_case LeadsOn (eqb (tail_of e) (2 ^ 64 - 1)) _ _ (λ _. same) (λ _. same))
 
   receives : (r i : ℕ) → LeadsOn (receive e r i)
   receives r i =
-      cond_case LeadsOn (eqb i (tail_of e)) _ _ (λ _. without_new (end_reply e.senders) e (end-made T e.senders) same) (λ _. cond_case LeadsOn (ltb i (tail_of e - e.capacity)) _ _
+      cond_case LeadsOn (eqb i (tail_of e)) _ _ (λ _. without_new (end_reply e.senders) e (end-made T e.senders) same)
+      (λ _. cond_case LeadsOn (ltb i (tail_of e - e.capacity)) _ _
       (λ _. moves (numbers e) gone r (window_of e))
-      (λ _. without_new (value_reply (slice_get e.sent (i - e.base))) (with_index e (with_place e.index r (i + 1))) (value-made (slice_get e.sent (i - e.base))) (moves (numbers e) gone r (i + 1))))
+      (λ _. without_new (value_reply (slice_get e.sent (i - e.base))) (with_index e (with_place e.index r (i + 1)))
+      (value-made (slice_get e.sent (i - e.base))) (moves (numbers e) gone r (i + 1))))
 
   pub subscribes_at : (i : ℕ) → LeadsOn (subscribe_at e i)
   subscribes_at i = cond_case LeadsOn (is_full (length e.index) e.next) _ _ (λ _. same) (λ _. joins (numbers e) gone s.handles i)
@@ -94,7 +98,8 @@ module _ {T : Type 0} (e : Endless T) (s : IsProper e) (gone : Handle → Type 0
   clones_sender = cond_case LeadsOn (is_full (length e.senders) e.next) _ _ (λ _. same) (λ _. clones (numbers e) gone s.handles)
 
 -- one call
-pub call_follows : {T : Type 0} (e : Endless T) (call : BCall T) (gone : Handle → Type 0) → IsProper e → ((x : Handle) → Spends call x → gone x) →
+pub call_follows : {T : Type 0} (e : Endless T) (call : BCall T) (gone : Handle → Type 0) → IsProper e →
+    ((x : Handle) → Spends call x → gone x) →
     Follows (numbers e) gone (made_by (step e call).0) (numbers (step e call).1)
 call_follows e (Send tx v) gone s ends = by_sender e s gone tx (Some v) (send e v) (sends e s gone v)
 call_follows e (TryRecv r) gone s ends = by_receiver e s gone r (receive e r.0) (receives e s gone r.0)
@@ -103,8 +108,10 @@ call_follows e (Subscribe tx) gone s ends = by_sender e s gone tx None (subscrib
 call_follows e (SubscribeOldest tx) gone s ends = by_sender e s gone tx None (subscribe_oldest e) (subscribes_at e s gone (oldest_of e))
 call_follows e (Resubscribe r) gone s ends = by_receiver e s gone r (λ _. subscribe e) (λ _. subscribes_at e s gone (tail_of e))
 call_follows e (CloneTx tx) gone s ends = by_sender e s gone tx None (clone_sender e) (clones_sender e s gone)
-call_follows e (DropTx tx) gone s ends = by_sender e s gone tx None (Done, with_senders e (without_sender e.senders tx.0)) (drops (numbers e) gone tx (ends (Sender tx) refl))
-call_follows e (DropRx r) gone s ends = by_receiver e s gone r (λ _. (Done, with_index e (without_place e.index r.0))) (λ _. leaves (numbers e) gone r (ends (Receiver r) refl))
+call_follows e (DropTx tx) gone s ends =
+    by_sender e s gone tx None (Done, with_senders e (without_sender e.senders tx.0)) (drops (numbers e) gone tx (ends (Sender tx) refl))
+call_follows e (DropRx r) gone s ends =
+    by_receiver e s gone r (λ _. (Done, with_index e (without_place e.index r.0))) (λ _. leaves (numbers e) gone r (ends (Receiver r) refl))
 call_follows e (Queued tx) gone s ends = by_sender e s gone tx None _ (stands (numbers e) gone)
 call_follows e (Left r) gone s ends = by_receiver e s gone r _ (λ _. stands (numbers e) gone)
 call_follows e (Readers tx) gone s ends = by_sender e s gone tx None _ (stands (numbers e) gone)
@@ -114,11 +121,15 @@ module _ {T : Type 0} (e : Endless T) where
   abbrev IsKnown : BReply T × Endless T → Type 0
   IsKnown x = no_handle x.0 ≡ false
 
-  known_sender : (tx : TxId) (back : Option T) (given : BReply T × Endless T) → is_sender e.senders tx.0 ≡ true → IsKnown given → IsKnown (as_sender e tx back given)
+  known_sender : (tx : TxId) (back : Option T) (given : BReply T × Endless T) → is_sender e.senders tx.0 ≡ true → IsKnown given →
+      IsKnown (as_sender e tx back given)
   known_sender tx back given live h = cond_case IsKnown (is_sender e.senders tx.0) _ _ (λ _. h) (λ no. absurd (false≢true (sym no ∙ live)))
 
-  known_receiver : (r : RxId) (given : ℕ → BReply T × Endless T) → is_some (place_of e.index r.0) ≡ true → ((i : ℕ) → IsKnown (given i)) → IsKnown (as_receiver e r given)
-  known_receiver r given live h = elim (place_of e.index r.0) as (λ o. is_some o ≡ true → IsKnown (at_index e o given)) [ None ↦ λ no. absurd (false≢true no) | Some i ↦ λ _. h i ] live
+  known_receiver : (r : RxId) (given : ℕ → BReply T × Endless T) → is_some (place_of e.index r.0) ≡ true → ((i : ℕ) → IsKnown (given i)) →
+      IsKnown (as_receiver e r given)
+  known_receiver r given live h =
+      elim (place_of e.index r.0) as (λ o. is_some o ≡ true → IsKnown (at_index e o given))
+      [ None ↦ λ no. absurd (false≢true no) | Some i ↦ λ _. h i ] live
 
   known_receive : (r i : ℕ) → IsKnown (receive e r i)
   known_receive r i =
@@ -129,13 +140,17 @@ module _ {T : Type 0} (e : Endless T) where
   known_subscribe i = cond_case IsKnown (is_full (length e.index) e.next) _ _ (λ _. refl) (λ _. refl)
 
   pub call_known : (call : BCall T) → lives (numbers e) (speaker call) ≡ true → no_handle (step e call).0 ≡ false
-  call_known (Send tx v) h = known_sender tx (Some v) (send e v) h (cond_case IsKnown (eqb (length e.index) 0) _ _ (λ _. refl) (λ _. cond_case IsKnown (eqb (tail_of e) (2 ^ 64 - 1)) _ _ (λ _. refl) (λ _. refl)))
+  call_known (Send tx v) h =
+      known_sender tx (Some v) (send e v) h
+      (cond_case IsKnown (eqb (length e.index) 0) _ _ (λ _. refl)
+      (λ _. cond_case IsKnown (eqb (tail_of e) (2 ^ 64 - 1)) _ _ (λ _. refl) (λ _. refl)))
   call_known (TryRecv r) h = known_receiver r (receive e r.0) h (known_receive r.0)
   call_known (Recv r) h = known_receiver r (receive e r.0) h (known_receive r.0)
   call_known (Subscribe tx) h = known_sender tx None (subscribe e) h (known_subscribe (tail_of e))
   call_known (SubscribeOldest tx) h = known_sender tx None (subscribe_oldest e) h (known_subscribe (oldest_of e))
   call_known (Resubscribe r) h = known_receiver r (λ _. subscribe e) h (λ _. known_subscribe (tail_of e))
-  call_known (CloneTx tx) h = known_sender tx None (clone_sender e) h (cond_case IsKnown (is_full (length e.senders) e.next) _ _ (λ _. refl) (λ _. refl))
+  call_known (CloneTx tx) h =
+      known_sender tx None (clone_sender e) h (cond_case IsKnown (is_full (length e.senders) e.next) _ _ (λ _. refl) (λ _. refl))
   call_known (DropTx tx) h = known_sender tx None _ h refl
   call_known (DropRx r) h = known_receiver r _ h (λ _. refl)
   call_known (Queued tx) h = known_sender tx None _ h refl

@@ -44,30 +44,39 @@ pub record Follows (old : Numbers) (gone : Handle → Type 0) (made : Option Han
 -- senders
 sender-with : (ks : List ℕ) (k q : ℕ) → is_sender ks q ≡ true → is_sender (with_sender ks k) q ≡ true
 sender-with [] k q h = absurd (false≢true h)
-sender-with (x ∷ ks) k q h = elim (nat_cmp k x) as (λ r. is_sender (match_ordering r (k ∷ x ∷ ks) (x ∷ ks) (x ∷ insert_key nat_cmp ks k)) q ≡ true) [
-  | Less ↦ elim (is_at (nat_cmp q) k) as (λ b. (b || is_sender (x ∷ ks) q) ≡ true) [ true ↦ refl | false ↦ h ]
-  | Equal ↦ h
-  | Greater ↦ elim (is_at (nat_cmp q) x) as (λ b. (b || is_sender ks q) ≡ true → (b || is_sender (insert_key nat_cmp ks k) q) ≡ true) [ true ↦ λ _. refl | false ↦ sender-with ks k q ] h
-]
+sender-with (x ∷ ks) k q h =
+    elim (nat_cmp k x) as (λ r. is_sender (match_ordering r (k ∷ x ∷ ks) (x ∷ ks) (x ∷ insert_key nat_cmp ks k)) q ≡ true) [
+      | Less ↦ elim (is_at (nat_cmp q) k) as (λ b. (b || is_sender (x ∷ ks) q) ≡ true) [ true ↦ refl | false ↦ h ]
+      | Equal ↦ h
+      | Greater ↦
+          elim (is_at (nat_cmp q) x) as (λ b. (b || is_sender ks q) ≡ true → (b || is_sender (insert_key nat_cmp ks k) q) ≡ true)
+          [ true ↦ λ _. refl | false ↦ sender-with ks k q ] h
+    ]
 
 sender-new : (ks : List ℕ) (k : ℕ) → is_sender (with_sender ks k) k ≡ true
 sender-new [] k = rw (is_at_self k) refl
-sender-new (x ∷ ks) k = elim (nat_cmp k x) as (λ r. nat_cmp k x ≡ r → is_sender (match_ordering r (k ∷ x ∷ ks) (x ∷ ks) (x ∷ insert_key nat_cmp ks k)) k ≡ true) [
-  | Less ↦ λ _. rw (is_at_self k) refl
-  | Equal ↦ λ e. rw e refl
-  | Greater ↦ λ e. rw e (sender-new ks k)
-] refl
+sender-new (x ∷ ks) k =
+    elim (nat_cmp k x) as
+    (λ r. nat_cmp k x ≡ r → is_sender (match_ordering r (k ∷ x ∷ ks) (x ∷ ks) (x ∷ insert_key nat_cmp ks k)) k ≡ true) [
+      | Less ↦ λ _. rw (is_at_self k) refl
+      | Equal ↦ λ e. rw e refl
+      | Greater ↦ λ e. rw e (sender-new ks k)
+    ] refl
 
-further : (q x : ℕ) (ks ls : List ℕ) → (is_sender ks q ≡ true → is_sender ls q ≡ true) → is_sender (x ∷ ks) q ≡ true → is_sender (x ∷ ls) q ≡ true
-further q x ks ls f h = elim (is_at (nat_cmp q) x) as (λ b. (b || is_sender ks q) ≡ true → (b || is_sender ls q) ≡ true) [ true ↦ λ _. refl | false ↦ f ] h
+further : (q x : ℕ) (ks ls : List ℕ) → (is_sender ks q ≡ true → is_sender ls q ≡ true) → is_sender (x ∷ ks) q ≡ true →
+    is_sender (x ∷ ls) q ≡ true
+further q x ks ls f h =
+    elim (is_at (nat_cmp q) x) as (λ b. (b || is_sender ks q) ≡ true → (b || is_sender ls q) ≡ true) [ true ↦ λ _. refl | false ↦ f ] h
 
 sender-without : (ks : List ℕ) (k q : ℕ) → (q ≡ k → ⊥) → is_sender ks q ≡ true → is_sender (without_sender ks k) q ≡ true
 sender-without [] k q ne h = h
-sender-without (x ∷ ks) k q ne h = elim (nat_cmp k x) as (λ r. r ≡ nat_cmp k x → is_sender (cond (is_eq r) ks (x ∷ without_sender ks k)) q ≡ true) [
-  | Less ↦ λ _. further q x ks (without_sender ks k) (sender-without ks k q ne) h
-  | Equal ↦ λ e. (let same : k ≡ x = ranked k x Equal e in ap (λ b. b || is_sender ks q) (sym (not_at q x (λ s. ne (s ∙ sym same)))) ∙ h)
-  | Greater ↦ λ _. further q x ks (without_sender ks k) (sender-without ks k q ne) h
-] refl
+sender-without (x ∷ ks) k q ne h =
+    elim (nat_cmp k x) as (λ r. r ≡ nat_cmp k x → is_sender (cond (is_eq r) ks (x ∷ without_sender ks k)) q ≡ true) [
+      | Less ↦ λ _. further q x ks (without_sender ks k) (sender-without ks k q ne) h
+      | Equal ↦
+          λ e. (let same : k ≡ x = ranked k x Equal e in ap (λ b. b || is_sender ks q) (sym (not_at q x (λ s. ne (s ∙ sym same)))) ∙ h)
+      | Greater ↦ λ _. further q x ks (without_sender ks k) (sender-without ks k q ne) h
+    ] refl
 
 sender-free : (ks : List ℕ) (q : ℕ) → AllByRecursion (λ k. (0 < k) × (k < q)) ks → is_sender ks q ≡ false
 sender-free [] q h = refl
@@ -158,7 +167,8 @@ module _ (c : Numbers) (gone : Handle → Type 0) where
             (ap is_some (place-with_same c.places c.next i), ap is_some (next_is_free c.next c.senders c.places live), refl)
 
 -- one after the other, where the second makes no handle and ends none that the first one made
-pub then_goes : {old mid new : Numbers} {gone gone' : Handle → Type 0} {made made' : Option Handle} → Follows old gone made mid → Follows mid gone' made' new →
+pub then_goes : {old mid new : Numbers} {gone gone' : Handle → Type 0} {made made' : Option Handle} → Follows old gone made mid →
+    Follows mid gone' made' new →
     ((x : Handle) → gone' x → gone x) → ((x : Handle) → made ≡ Some x → gone' x → ⊥) → Follows old gone made new
 then_goes {old = old} {mid = mid} {new = new} {gone = gone} {gone' = gone'} {made = made} f g within kept = record {
   stays = λ x ne h. g.stays x (λ k. ne (within x k)) (f.stays x ne h);

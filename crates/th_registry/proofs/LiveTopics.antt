@@ -38,19 +38,22 @@ cut c = cut_channel endless_broadcast endless_watch c
 
 -- the channel of a topic
 
-pub set-here : (ts : EndlessTopics) (n : ℕ) (c d : EndlessChannel) → slice_get (values_of ts) n ≡ Some c → slice_get (values_of (set_value_at ts n d)) n ≡ Some d
+pub set-here : (ts : EndlessTopics) (n : ℕ) (c d : EndlessChannel) → slice_get (values_of ts) n ≡ Some c →
+    slice_get (values_of (set_value_at ts n d)) n ≡ Some d
 set-here [] n c d e = absurd (none-some c e)
 set-here (t ∷ ts) zero c d e = refl
 set-here (t ∷ ts) (suc n) c d e = set-here ts n c d e
 
-pub set-elsewhere : (ts : EndlessTopics) (n m : ℕ) (d : EndlessChannel) → (m ≡ n → ⊥) → slice_get (values_of (set_value_at ts n d)) m ≡ slice_get (values_of ts) m
+pub set-elsewhere : (ts : EndlessTopics) (n m : ℕ) (d : EndlessChannel) → (m ≡ n → ⊥) →
+    slice_get (values_of (set_value_at ts n d)) m ≡ slice_get (values_of ts) m
 set-elsewhere [] n m d ne = refl
 set-elsewhere (t ∷ ts) zero zero d ne = absurd (ne refl)
 set-elsewhere (t ∷ ts) zero (suc m) d ne = refl
 set-elsewhere (t ∷ ts) (suc n) zero d ne = refl
 set-elsewhere (t ∷ ts) (suc n) (suc m) d ne = set-elsewhere ts n m d (λ e. ne (ap suc e))
 
-pub at-topic : (P : EndlessChannel → Type 0) (ts : EndlessTopics) (n : ℕ) (c : EndlessChannel) → AllByRecursion (λ topic. P topic.1) ts → slice_get (values_of ts) n ≡ Some c → P c
+pub at-topic : (P : EndlessChannel → Type 0) (ts : EndlessTopics) (n : ℕ) (c : EndlessChannel) → AllByRecursion (λ topic. P topic.1) ts →
+    slice_get (values_of ts) n ≡ Some c → P c
 at-topic P [] n c h e = absurd (none-some c e)
 at-topic P (t ∷ ts) zero c h e = subst P (same_Some t.1 c e) h.0
 at-topic P (t ∷ ts) (suc n) c h e = at-topic P ts n c h.1 e
@@ -67,8 +70,10 @@ stay-set ts topic n x c d at stays h = elim (eqb_tells n topic) [
 
 -- an event
 
-stay-on : (ts : EndlessTopics) (topic : ℕ) (event : Event) (n : ℕ) (x : Handle) (o : Option EndlessChannel) → slice_get (values_of ts) topic ≡ o → AreProper ts →
-    ((n ≡ topic) × Ends event (on_channel ts topic (step event) o).0 x → ⊥) → IsLive ts n x → IsLive (on_channel ts topic (step event) o).1 n x
+stay-on : (ts : EndlessTopics) (topic : ℕ) (event : Event) (n : ℕ) (x : Handle) (o : Option EndlessChannel) →
+    slice_get (values_of ts) topic ≡ o → AreProper ts →
+    ((n ≡ topic) × Ends event (on_channel ts topic (step event) o).0 x → ⊥) → IsLive ts n x →
+    IsLive (on_channel ts topic (step event) o).1 n x
 stay-on ts topic event n x None at proper kept h = h
 stay-on ts topic event n x (Some c) at proper kept h =
     let follows = channel_follows c event (at-topic IsProperChannel ts topic c proper at) in
@@ -76,8 +81,10 @@ stay-on ts topic event n x (Some c) at proper kept h =
     (λ e live. sym (lives-is_live (step event c).1 x) ∙ follows.stays x (λ k. kept (e, k)) (lives-is_live c x ∙ live)) h
 
 -- the handle that it made is live, was not so before, and has the channel's next number
-new-on : (ts : EndlessTopics) (topic : ℕ) (event : Event) (x : Handle) (o : Option EndlessChannel) → slice_get (values_of ts) topic ≡ o → AreProper ts →
-    new_handle (on_channel ts topic (step event) o).0 ≡ Some x → IsLive (on_channel ts topic (step event) o).1 topic x × (IsLive ts topic x → ⊥)
+new-on : (ts : EndlessTopics) (topic : ℕ) (event : Event) (x : Handle) (o : Option EndlessChannel) → slice_get (values_of ts) topic ≡ o →
+    AreProper ts →
+    new_handle (on_channel ts topic (step event) o).0 ≡ Some x → IsLive (on_channel ts topic (step event) o).1 topic x
+    × (IsLive ts topic x → ⊥)
 new-on ts topic event x None at proper e = absurd (none-some x e)
 new-on ts topic event x (Some c) at proper e =
     let follows = channel_follows c event (at-topic IsProperChannel ts topic c proper at) in
@@ -110,13 +117,16 @@ stay-open : (ts : EndlessTopics) (name : Bytes) (exists : Bool) (o : Option (ℕ
 stay-open ts name true o n x h = h
 stay-open ts name false None n x h = h
 stay-open ts name false (Some new) n x h =
-    cond_case (λ (s : Opened). IsLive s.1 n x) (nat_le most_topics (length ts)) (Err Refusals.TooManyTopics, ts) (Ok new.0, ts ++ (name, new.1) ∷ []) (λ _. h) (λ _. stay-append ts (name, new.1) n x h)
+    cond_case (λ (s : Opened). IsLive s.1 n x) (nat_le most_topics (length ts)) (Err Refusals.TooManyTopics, ts)
+    (Ok new.0, ts ++ (name, new.1) ∷ []) (λ _. h) (λ _. stay-append ts (name, new.1) n x h)
 
 pub handles_stay_live : HandlesStayLive
 handles_stay_live limit ts (Find name) n x proper kept h = h
 handles_stay_live limit ts List n x proper kept h = h
-handles_stay_live limit ts (Open name making) n x proper kept h = stay-open ts name (is_some (find ts name)) (hub.made (endless limit) (length ts + 1) making) n x h
-handles_stay_live limit ts (On topic event) n x proper kept h = stay-on ts topic event n x (slice_get (values_of ts) topic) refl proper kept h
+handles_stay_live limit ts (Open name making) n x proper kept h =
+    stay-open ts name (is_some (find ts name)) (hub.made (endless limit) (length ts + 1) making) n x h
+handles_stay_live limit ts (On topic event) n x proper kept h =
+    stay-on ts topic event n x (slice_get (values_of ts) topic) refl proper kept h
 handles_stay_live limit ts (Cut topic) n x proper kept h = stay-cut ts topic n x (slice_get (values_of ts) topic) refl h
 
 pub new_handles_are_new : NewHandlesAreNew
@@ -138,7 +148,8 @@ numbered-set [] n d h p = tt
 numbered-set (t ∷ ts) zero d h p = (p, h.1)
 numbered-set (t ∷ ts) (suc n) d h p = (h.0, numbered-set ts n d h.1 p)
 
-numbered-on : (ts : EndlessTopics) (topic : ℕ) (event : Event) (o : Option EndlessChannel) → slice_get (values_of ts) topic ≡ o → AreProper ts → AreNumbered ts →
+numbered-on : (ts : EndlessTopics) (topic : ℕ) (event : Event) (o : Option EndlessChannel) → slice_get (values_of ts) topic ≡ o →
+    AreProper ts → AreNumbered ts →
     AreNumbered (on_channel ts topic (step event) o).1
 numbered-on ts topic event None at proper h = h
 numbered-on ts topic event (Some c) at proper h =
@@ -152,7 +163,8 @@ numbered-cut ts topic None at h = h
 numbered-cut ts topic (Some c) at h =
     numbered-set ts topic (cut c).1 h (subst (λ ns. 1 < ns.next) (sym (cut_stands c)) (at-topic IsNumbered ts topic c h at))
 
-numbered-append : (ts : EndlessTopics) (name : Bytes) (c : EndlessChannel) → AreNumbered ts → IsNumbered c → AreNumbered (ts ++ (name, c) ∷ [])
+numbered-append : (ts : EndlessTopics) (name : Bytes) (c : EndlessChannel) → AreNumbered ts → IsNumbered c →
+    AreNumbered (ts ++ (name, c) ∷ [])
 numbered-append [] name c h p = (p, tt)
 numbered-append (t ∷ ts) name c h p = (h.0, numbered-append ts name c h.1 p)
 
@@ -181,17 +193,20 @@ numbered-open : (ts : EndlessTopics) (name : Bytes) (exists : Bool) (o : Option 
 numbered-open ts name true o h p = h
 numbered-open ts name false None h p = h
 numbered-open ts name false (Some new) h p =
-    cond_case (λ (s : Opened). AreNumbered s.1) (nat_le most_topics (length ts)) (Err Refusals.TooManyTopics, ts) (Ok new.0, ts ++ (name, new.1) ∷ []) (λ _. h) (λ _. numbered-append ts name new.1 h p)
+    cond_case (λ (s : Opened). AreNumbered s.1) (nat_le most_topics (length ts)) (Err Refusals.TooManyTopics, ts)
+    (Ok new.0, ts ++ (name, new.1) ∷ []) (λ _. h) (λ _. numbered-append ts name new.1 h p)
 
 pub stays_numbered : (limit : ℕ) (ts : EndlessTopics) (q : Query) → AreProper ts → AreNumbered ts → AreNumbered (say (endless limit) ts q).1
 stays_numbered limit ts (Find name) proper h = h
 stays_numbered limit ts List proper h = h
 stays_numbered limit ts (Open name making) proper h =
-    numbered-open ts name (is_some (find ts name)) (hub.made (endless limit) (length ts + 1) making) h (numbered-made limit (length ts + 1) making)
+    numbered-open ts name (is_some (find ts name)) (hub.made (endless limit) (length ts + 1) making) h
+    (numbered-made limit (length ts + 1) making)
 stays_numbered limit ts (On topic event) proper h = numbered-on ts topic event (slice_get (values_of ts) topic) refl proper h
 stays_numbered limit ts (Cut topic) proper h = numbered-cut ts topic (slice_get (values_of ts) topic) refl h
 
-not-hubs : (ts : EndlessTopics) (topic : ℕ) (event : Event) (x : Handle) (o : Option EndlessChannel) → slice_get (values_of ts) topic ≡ o → AreProper ts → AreNumbered ts →
+not-hubs : (ts : EndlessTopics) (topic : ℕ) (event : Event) (x : Handle) (o : Option EndlessChannel) → slice_get (values_of ts) topic ≡ o →
+    AreProper ts → AreNumbered ts →
     new_handle (on_channel ts topic (step event) o).0 ≡ Some x → x ≡ hubs_sender → ⊥
 not-hubs ts topic event x None at proper h e k = none-some x e
 not-hubs ts topic event x (Some c) at proper h e k =

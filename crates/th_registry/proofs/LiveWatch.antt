@@ -86,7 +86,9 @@ module _ {T : Type 0} (e : Endless T) (s : IsProper e) (gone : Handle → Type 0
   edits eq (Quiet v) = same
 
   changes : (r m : ℕ) → LeadsOn (changed e r m)
-  changes r m = cond_case LeadsOn (is_unseen e m) _ _ (λ _. moves (numbers e) gone r _) (λ _. without_new (open_reply e.senders NotYet) e (open-made e.senders NotYet refl) same)
+  changes r m =
+      cond_case LeadsOn (is_unseen e m) _ _ (λ _. moves (numbers e) gone r _)
+      (λ _. without_new (open_reply e.senders NotYet) e (open-made e.senders NotYet refl) same)
 
   subscribes : (mark : ℕ) → LeadsOn (subscribe e mark)
   subscribes mark = cond_case LeadsOn (is_full (length e.marks) e.next) _ _ (λ _. same) (λ _. joins (numbers e) gone s.handles mark)
@@ -98,12 +100,17 @@ module _ {T : Type 0} (e : Endless T) (s : IsProper e) (gone : Handle → Type 0
 module _ {T : Type 0} (eq : T → T → Bool) (e : Endless T) (gone : Handle → Type 0) (s : IsProper e) where
   pub call_follows : (call : WCall T) → ((x : Handle) → Spends call x → gone x) →
       Follows (numbers e) gone (made_by (step eq e call).0) (numbers (step eq e call).1)
-  call_follows (Send tx v) ends = by_sender e s gone tx (Some v) (send e v) (cond_case (LeadsOn e s gone) (eqb (length e.marks) 0) _ _ (λ _. stands (numbers e) gone) (λ _. publishes e s gone v Done refl))
+  call_follows (Send tx v) ends =
+      by_sender e s gone tx (Some v) (send e v)
+      (cond_case (LeadsOn e s gone) (eqb (length e.marks) 0) _ _ (λ _. stands (numbers e) gone) (λ _. publishes e s gone v Done refl))
   call_follows (Replace tx v) ends = by_sender e s gone tx (Some v) _ (publishes e s gone v (Was e.last) refl)
   call_follows (EditBy tx w) ends = by_sender e s gone tx _ (edit eq e w) (edits e s gone eq w)
   call_follows (Borrow r) ends = by_reader e s gone r _ (λ _. stands (numbers e) gone)
   call_follows (Take r) ends = by_reader e s gone r _ (λ _. moves (numbers e) gone r.0 (version_of e))
-  call_follows (HasChanged r) ends = by_reader e s gone r _ (λ m. without_new e s gone (open_reply e.senders (reply.Changed (is_unseen e m))) e (open-made e.senders (reply.Changed (is_unseen e m)) refl) (stands (numbers e) gone))
+  call_follows (HasChanged r) ends =
+      by_reader e s gone r _
+      (λ m. without_new e s gone (open_reply e.senders (reply.Changed (is_unseen e m))) e
+      (open-made e.senders (reply.Changed (is_unseen e m)) refl) (stands (numbers e) gone))
   call_follows (TryChanged r) ends = by_reader e s gone r (changed e r.0) (changes e s gone r.0)
   call_follows (Changed r) ends = by_reader e s gone r (changed e r.0) (changes e s gone r.0)
   call_follows (MarkChanged r) ends = by_reader e s gone r _ (λ _. moves (numbers e) gone r.0 0)
@@ -121,11 +128,15 @@ module _ {T : Type 0} (eq : T → T → Bool) (e : Endless T) where
   abbrev IsKnown : WReply T × Endless T → Type 0
   IsKnown x = no_handle x.0 ≡ false
 
-  known_sender : (tx : TxId) (back : Option T) (given : WReply T × Endless T) → is_sender e.senders tx.0 ≡ true → IsKnown given → IsKnown (as_sender e tx back given)
+  known_sender : (tx : TxId) (back : Option T) (given : WReply T × Endless T) → is_sender e.senders tx.0 ≡ true → IsKnown given →
+      IsKnown (as_sender e tx back given)
   known_sender tx back given live h = cond_case IsKnown (is_sender e.senders tx.0) _ _ (λ _. h) (λ no. absurd (false≢true (sym no ∙ live)))
 
-  known_reader : (r : RxId) (given : ℕ → WReply T × Endless T) → is_some (reader_of e.marks r.0) ≡ true → ((m : ℕ) → IsKnown (given m)) → IsKnown (as_reader e r given)
-  known_reader r given live h = elim (reader_of e.marks r.0) as (λ o. is_some o ≡ true → IsKnown (at_mark e o given)) [ None ↦ λ no. absurd (false≢true no) | Some m ↦ λ _. h m ] live
+  known_reader : (r : RxId) (given : ℕ → WReply T × Endless T) → is_some (reader_of e.marks r.0) ≡ true → ((m : ℕ) → IsKnown (given m)) →
+      IsKnown (as_reader e r given)
+  known_reader r given live h =
+      elim (reader_of e.marks r.0) as (λ o. is_some o ≡ true → IsKnown (at_mark e o given))
+      [ None ↦ λ no. absurd (false≢true no) | Some m ↦ λ _. h m ] live
 
   known_publish : (v : T) (r : WReply T) → no_handle r ≡ false → IsKnown (publish e v r)
   known_publish v r h = cond_case IsKnown (eqb (version_of e) (2 ^ 64 - 1)) _ _ (λ _. refl) (λ _. h)
@@ -142,7 +153,8 @@ module _ {T : Type 0} (eq : T → T → Bool) (e : Endless T) where
   known_subscribe mark = cond_case IsKnown (is_full (length e.marks) e.next) _ _ (λ _. refl) (λ _. refl)
 
   pub call_known : (call : WCall T) → lives (numbers e) (speaker call) ≡ true → no_handle (step eq e call).0 ≡ false
-  call_known (Send tx v) h = known_sender tx (Some v) (send e v) h (cond_case IsKnown (eqb (length e.marks) 0) _ _ (λ _. refl) (λ _. known_publish v Done refl))
+  call_known (Send tx v) h =
+      known_sender tx (Some v) (send e v) h (cond_case IsKnown (eqb (length e.marks) 0) _ _ (λ _. refl) (λ _. known_publish v Done refl))
   call_known (Replace tx v) h = known_sender tx (Some v) _ h (known_publish v (Was e.last) refl)
   call_known (EditBy tx w) h = known_sender tx _ (edit eq e w) h (known_edit w)
   call_known (Borrow r) h = known_reader r _ h (λ _. refl)
@@ -154,7 +166,8 @@ module _ {T : Type 0} (eq : T → T → Bool) (e : Endless T) where
   call_known (MarkUnchanged r) h = known_reader r _ h (λ _. refl)
   call_known (Subscribe tx) h = known_sender tx None (subscribe e (version_of e)) h (known_subscribe (version_of e))
   call_known (CloneRx r) h = known_reader r (subscribe e) h known_subscribe
-  call_known (CloneTx tx) h = known_sender tx None (clone_sender e) h (cond_case IsKnown (is_full (length e.senders) e.next) _ _ (λ _. refl) (λ _. refl))
+  call_known (CloneTx tx) h =
+      known_sender tx None (clone_sender e) h (cond_case IsKnown (is_full (length e.senders) e.next) _ _ (λ _. refl) (λ _. refl))
   call_known (DropTx tx) h = known_sender tx None _ h refl
   call_known (DropRx r) h = known_reader r _ h (λ _. refl)
   call_known (IsClosed tx) h = known_sender tx None _ h refl

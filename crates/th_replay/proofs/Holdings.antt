@@ -24,8 +24,10 @@ values-held : (actors : All) → values_of (holdings actors) ≡ map handles (va
 values-held [] = refl
 values-held (a ∷ actors) = ap (λ (all : List Holding). a.1.handles ∷ all) (values-held actors)
 
-pub at-held : (actors : All) (place : ℕ) → slice_get (values_of (holdings actors)) place ≡ option_map handles (slice_get (values_of actors) place)
-at-held actors place = ap (λ (all : List Holding). slice_get all place) (values-held actors) ∙ slice_get-map handles (values_of actors) place
+pub at-held : (actors : All) (place : ℕ) →
+    slice_get (values_of (holdings actors)) place ≡ option_map handles (slice_get (values_of actors) place)
+at-held actors place =
+    ap (λ (all : List Holding). slice_get all place) (values-held actors) ∙ slice_get-map handles (values_of actors) place
 
 pub held-at : (actors : All) (place : ℕ) (o : Option (List ℕ × Kept)) → o ≡ slice_get actors place →
     slice_get (values_of (holdings actors)) place ≡ option_map (λ (a : List ℕ × Kept). a.1.handles) o
@@ -37,7 +39,8 @@ pub length-held : (actors : All) → length (holdings actors) ≡ length actors
 length-held [] = refl
 length-held (a ∷ actors) = ap suc (length-held actors)
 
-pub set-held : (actors : All) (place : ℕ) (k : Kept) → holdings (set_value_at actors place k) ≡ set_value_at (holdings actors) place k.handles
+pub set-held : (actors : All) (place : ℕ) (k : Kept) →
+    holdings (set_value_at actors place k) ≡ set_value_at (holdings actors) place k.handles
 set-held [] place k = refl
 set-held (a ∷ actors) zero k = refl
 set-held (a ∷ actors) (suc place) k = ap (λ (rest : Actors). (a.0, a.1.handles) ∷ rest) (set-held actors place k)
@@ -48,7 +51,8 @@ remove-held [] (suc place) = refl
 remove-held (a ∷ actors) zero = refl
 remove-held (a ∷ actors) (suc place) = ap (λ (rest : Actors). (a.0, a.1.handles) ∷ rest) (remove-held actors place)
 
-pub append-held : (actors : All) (name : List ℕ) (k : Kept) → holdings (actors ++ (name, k) ∷ []) ≡ holdings actors ++ (name, k.handles) ∷ []
+pub append-held : (actors : All) (name : List ℕ) (k : Kept) →
+    holdings (actors ++ (name, k) ∷ []) ≡ holdings actors ++ (name, k.handles) ∷ []
 append-held [] name k = refl
 append-held (a ∷ actors) name k = ap (λ (rest : Actors). (a.0, a.1.handles) ∷ rest) (append-held actors name k)
 

@@ -28,7 +28,8 @@ module _ (had : Kept) (topics : SeenTopics) (command : Command) (answer : Answer
   ends (inr h) = inr (h.0, ap (λ (k : Kept). k.handles) h.1, h.2, h.3)
 
   -- where segments have as many entries as in a schedule
-  pub ends_so : (limit : ℕ) → limit ≡ most_entries → Steps (pictures limit) had topics command answer has topics' → Ends topics had.handles command answer has.handles topics'
+  pub ends_so : (limit : ℕ) → limit ≡ most_entries → Steps (pictures limit) had topics command answer has topics' →
+      Ends topics had.handles command answer has.handles topics'
   ends_so limit is s = ends (subst (λ (n : ℕ). Steps (pictures n) had topics command answer has topics') is s)
 
   -- and a segment that is answered is kept
@@ -51,13 +52,15 @@ told_reply (Told n r) reply t = absurd (let bad : ⊥ = cc in bad)
 told_reply (Traced n s) reply t = absurd (let bad : ⊥ = cc in bad)
 
 -- of no trace is anything so that is so of replies alone
-pub told_trace : (P : Answer → Bool) (answer : Answer) → ((n : ℕ) (s : ChannelSegment) → P (Traced n s) ≡ false) → answers.Trace ≡ told answer → P answer ≡ false
+pub told_trace : (P : Answer → Bool) (answer : Answer) → ((n : ℕ) (s : ChannelSegment) → P (Traced n s) ≡ false) →
+    answers.Trace ≡ told answer → P answer ≡ false
 told_trace P (Replied reply) none t = absurd (let bad : ⊥ = cc in bad)
 told_trace P (Told n r) none t = absurd (let bad : ⊥ = cc in bad)
 told_trace P (Traced n s) none t = none n s
 
 -- what is so of no event is not so of the answer
-pub told_event : (P : Answer → Bool) (answer : Answer) → ((n : ℕ) (r : ChannelReceipt) → P (Told n r) ≡ false) → answers.Event ≡ told answer → P answer ≡ false
+pub told_event : (P : Answer → Bool) (answer : Answer) → ((n : ℕ) (r : ChannelReceipt) → P (Told n r) ≡ false) →
+    answers.Event ≡ told answer → P answer ≡ false
 told_event P (Replied reply) none t = absurd (let bad : ⊥ = cc in bad)
 told_event P (Told n r) none t = none n r
 told_event P (Traced n s) none t = absurd (let bad : ⊥ = cc in bad)

@@ -99,7 +99,8 @@ module _ {X Y : Type 0} (f : X → Y) where
   insert-seen [] n x = refl
   insert-seen (e ∷ es) n x = elim (nat_cmp n e.0) as (λ o. seen
       (match_ordering o ((n, x) ∷ e ∷ es) ((e.0, x) ∷ es) (e ∷ insert_entry nat_cmp es n x))
-      ≡ match_ordering o ((n, f x) ∷ (e.0, f e.1) ∷ seen es) ((e.0, f x) ∷ seen es) ((e.0, f e.1) ∷ insert_entry nat_cmp (seen es) n (f x))) [
+      ≡ match_ordering o ((n, f x) ∷ (e.0, f e.1) ∷ seen es) ((e.0, f x) ∷ seen es)
+      ((e.0, f e.1) ∷ insert_entry nat_cmp (seen es) n (f x))) [
         | Less ↦ refl
         | Equal ↦ refl
         | Greater ↦ ap (λ l. (e.0, f e.1) ∷ l) (insert-seen es n x)

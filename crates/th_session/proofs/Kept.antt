@@ -37,7 +37,8 @@ last-of {A = A} es e =
 
 module _ {D : Type 0} (says : D → (q : Query) → Said q → D → Type 0) (had : Kept) (old : D) where
   -- a line that spells no command, and one for which memory was refused
-  pub refused_line : (command : Option Command) (fault : LineFault) → Reads {A = Command} carries_value (Err fault) command → AnswersAs says command had old (refused fault) had old
+  pub refused_line : (command : Option Command) (fault : LineFault) → Reads {A = Command} carries_value (Err fault) command →
+      AnswersAs says command had old (refused fault) had old
   refused_line None Faults.BadLine r = (refl, refl, refl)
   refused_line (Some command) Faults.BadLine r = absurd (let bad : ⊥ = cc in bad)
   refused_line None Faults.Short r = absurd r
@@ -51,7 +52,8 @@ module _ {D : Type 0} (says : D → (q : Query) → Said q → D → Type 0) (ha
   )
 
   -- what is kept after a line
-  pub keeps_as : (has : Kept) (new : D) (answer : Answer) (command : Option Command) → AnswersAs says command had old answer has new → IsKept had answer has
+  pub keeps_as : (has : Kept) (new : D) (answer : Answer) (command : Option Command) → AnswersAs says command had old answer has new →
+      IsKept had answer has
   keeps_as has new answer None w = as-before has answer (Refused Codes.BadLine) w.0 w.1
   keeps_as has new answer (Some command) (inl w) = w.1
   keeps_as has new answer (Some command) (inr w) = as-before has answer (Refused Codes.NoMemory) w.0 w.1
@@ -70,7 +72,8 @@ module _ (answer : Answer) (had has : Kept) (t : answers.Event ≡ told answer) 
   last-told (Told n r) t = (r, last-of had.receipts (record { 0 = n }, r), refl)
   last-told (Traced n s) t = absurd (let bad : ⊥ = cc in bad)
 
-  pub told_event : (receipt : ChannelReceipt) → last_of has.receipts ≡ Some receipt → said answer ≡ spell (replied_channel (reply_in receipt))
+  pub told_event : (receipt : ChannelReceipt) → last_of has.receipts ≡ Some receipt →
+      said answer ≡ spell (replied_channel (reply_in receipt))
   told_event receipt e =
       let k = last-told answer t in
       k.2 ∙ ap (λ r. spell (replied_channel (reply_in r))) (same_Some k.0 receipt (sym k.1 ∙ ap last_of (sym kept.0) ∙ e))
@@ -80,7 +83,8 @@ module _ (answer : Answer) (had has : Kept) (t : answers.Event ≡ told answer) 
 
 -- of a trace that of the segment kept last
 module _ (answer : Answer) (had has : Kept) (t : answers.Trace ≡ told answer) (kept : IsKept had answer has) where
-  last-kept : (answer : Answer) → answers.Trace ≡ told answer → (s : ChannelSegment) × (last_of (with_segment had.segments answer) ≡ Some s) × (said answer ≡ trace_told s)
+  last-kept : (answer : Answer) → answers.Trace ≡ told answer → (s : ChannelSegment)
+      × (last_of (with_segment had.segments answer) ≡ Some s) × (said answer ≡ trace_told s)
   last-kept (Replied reply) t = absurd (let bad : ⊥ = cc in bad)
   last-kept (Told n r) t = absurd (let bad : ⊥ = cc in bad)
   last-kept (Traced n s) t = (s, last-of had.segments (record { 0 = n }, s), refl)

@@ -38,7 +38,8 @@ module _ {D : Type 0} (says : D → (q : Query) → Said q → D → Type 0) whe
   plays-in-room End h s old answer after new p = p
 
 -- there was no room, and what is held is as before
-module _ {D : Type 0} (says : D → (q : Query) → Said q → D → Type 0) (topic : ℕ) (h after : Holding) (old : D) {judgement : Result Event Code} {event : Event} where
+module _ {D : Type 0} (says : D → (q : Query) → Said q → D → Type 0) (topic : ℕ) (h after : Holding) (old : D)
+    {judgement : Result Event Code} {event : Event} where
   pub no-room : (action : Action) → ((s : Script) → with_room action h s ≡ Room h s) → judgement ≡ Ok event → after ≡ h →
       Plays says (by_event action topic h judgement) old (Replied (Refused Codes.NoMemory)) after old
   no-room action needs j same =

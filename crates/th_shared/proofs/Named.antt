@@ -13,7 +13,8 @@ pub same_front : (n : ℕ) (one other : List ℕ) → take n one ≡ take n othe
 same_front n one other same here there = sym (take_all n one here) ∙ same ∙ take_all n other there
 
 module _ (q : List ℕ) (topics : List (List ℕ × Found)) (i : ℕ) (d : List ℕ × Found) (within : i < length topics) where
-  at_front : named q (drop i topics) ≡ cond (pointwise nat_eq q (get_or topics i d).0) (Some (get_or topics i d).1) (named q (drop (i + 1) topics))
+  at_front : named q (drop i topics)
+      ≡ cond (pointwise nat_eq q (get_or topics i d).0) (Some (get_or topics i d).1) (named q (drop (i + 1) topics))
   at_front = ap (λ (l : List (List ℕ × Found)). named q l) (drop_more topics i d within)
 
   -- where a topic has another name, those behind it are looked through
@@ -34,7 +35,8 @@ alone : (q name : List ℕ) (found : Found) (other : Option Found) (b : Bool) �
 alone q name found other true same = inr (same refl, refl)
 alone q name found other false same = inl refl
 
-on : (q name : List ℕ) (found : Found) (t : Found) (ts : List (List ℕ × Found)) (other : Option Found) (b : Bool) → IsBehind q name found ts other →
+on : (q name : List ℕ) (found : Found) (t : Found) (ts : List (List ℕ × Found)) (other : Option Found) (b : Bool) →
+    IsBehind q name found ts other →
     (option_or (cond b (Some t) (named q (ts ++ (name, found) ∷ []))) other ≡ option_or (cond b (Some t) (named q ts)) other)
     ⊎ ((q ≡ name) × (option_or (cond b (Some t) (named q (ts ++ (name, found) ∷ []))) other ≡ Some found))
 on q name found t ts other true more = inl refl

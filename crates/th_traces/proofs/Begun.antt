@@ -19,7 +19,8 @@ use Rattle.th_traces.specs.Pictures.{ReadsLine, if_told, step, watch_next, whole
 use Rattle.th_traces.specs.declared.place.Place.TheVariants.{InWatch}
 use Rattle.th_traces.proofs.Entries.{by_table-found}
 
-pub allowed-found : {A B : Type 0} (may : A → Bool) (tells : A → B) (o : Option A) (b : B) → allowed may tells o ≡ Some b → (a : A) × (o ≡ Some a) × (may a ≡ true) × (tells a ≡ b)
+pub allowed-found : {A B : Type 0} (may : A → Bool) (tells : A → B) (o : Option A) (b : B) → allowed may tells o ≡ Some b → (a : A)
+    × (o ≡ Some a) × (may a ≡ true) × (tells a ≡ b)
 allowed-found may tells None b h = absurd (none-some b h)
 allowed-found may tells (Some a) b h = at (may a) refl h
   where
@@ -32,7 +33,8 @@ module _ {P : Type 0} (so : Type 0) where
   abbrev IfWhole : List ℕ → Tells P → Type 0
   IfWhole bytes told = told ≡ Whole → so
 
-  more-finds : {A : Type 0} (word : Bytes) (may : A → Bool) (tells : A → P) (read : Rest → Option A) → Finds IfWhole (word, λ rest. allowed may (λ a. More (tells a)) (read rest))
+  more-finds : {A : Type 0} (word : Bytes) (may : A → Bool) (tells : A → P) (read : Rest → Option A) →
+      Finds IfWhole (word, λ rest. allowed may (λ a. More (tells a)) (read rest))
   more-finds word may tells read rest a h whole =
       let f = allowed-found may (λ a. More (tells a)) (read rest) a h in
       let e : More (tells f.0) ≡ Whole = subst (λ (t : Tells P). More (tells f.0) ≡ t) whole f.3 in
@@ -42,9 +44,11 @@ module _ {P : Type 0} (so : Type 0) where
       no_more p e = cc
 
 -- what the lines below the start tell, where a value is no whole picture
-table-whole : {X P A : Type 0} (put : Live X → P) (has_values : Bool) (h : Live X) (may : A → Bool) (tells : A → P) (value : Rest → Option A)
+table-whole : {X P A : Type 0} (put : Live X → P) (has_values : Bool) (h : Live X) (may : A → Bool) (tells : A → P)
+    (value : Rest → Option A)
     (receiver : Rest → Option (ℕ × X)) (is_whole : Bool) (line : List ℕ) →
-    by_table (table put has_values h (λ rest. allowed may (λ a. More (tells a)) (value rest)) receiver is_whole) line ≡ Some Whole → is_whole ≡ true
+    by_table (table put has_values h (λ rest. allowed may (λ a. More (tells a)) (value rest)) receiver is_whole) line ≡ Some Whole →
+    is_whole ≡ true
 table-whole {X} {P} {A} put has_values h may tells value receiver is_whole line e = by_table-found IsSo lines (table-finds IsSo lines (
     more-finds so (codes "KEEP") may tells value
     & more-finds so (codes "TX") (takes_sender has_values h) (λ (tx : ℕ). put (with_tx h tx)) (number_last (λ (tx : ℕ). tx))
@@ -65,7 +69,8 @@ table-whole {X} {P} {A} put has_values h may tells value receiver is_whole line 
 pub broadcast-whole : (p : broadcast.Drawn) (line : List ℕ) → by_table (broadcast.body p) line ≡ Some Whole → broadcast.is_whole p ≡ true
 unfolding broadcast.body
 broadcast-whole p line h =
-    table-whole (broadcast.with_handles p) (broadcast.has_values p) (broadcast.handles p) (λ (v : Bytes). broadcast.takes_value p) (broadcast.with_value p)
+    table-whole (broadcast.with_handles p) (broadcast.has_values p) (broadcast.handles p) (λ (v : Bytes). broadcast.takes_value p)
+    (broadcast.with_value p)
     (value_last (λ (v : Bytes). v)) (broadcast.place_last p) (broadcast.is_whole p) line h
 
 pub watch-whole : (p : watch.Sketch) (line : List ℕ) → by_table (watch.body p) line ≡ Some Whole → watch.has_value p ≡ true
@@ -75,7 +80,9 @@ watch-whole p line h =
     (value_last (λ (v : Bytes). v)) watch.reader_last (watch.has_value p) line h
 
 -- a fault leaves the draft of a watch picture as it was
-pub watch-fault : (fault : LineFault) (old new : watch.Sketch) (line : List ℕ) → TakesLine (Err fault) old new (by_table (watch.body old) line) → ReadsLine (Err fault) (InWatch old) (InWatch new) (step (InWatch old) line)
+pub watch-fault : (fault : LineFault) (old new : watch.Sketch) (line : List ℕ) →
+    TakesLine (Err fault) old new (by_table (watch.body old) line) →
+    ReadsLine (Err fault) (InWatch old) (InWatch new) (step (InWatch old) line)
 unfolding step
 watch-fault BadLine old new line h = (ap (λ (o : Option (Tells watch.Sketch)). if_told (watch_next old) o) h.0, ap InWatch h.1)
 watch-fault Short old new line h = (some (by_table (watch.body old) line) refl h.0, ap InWatch h.1)

@@ -12,4 +12,5 @@ kept-few w h =
     omega (arith, low, h.kept, h.capacity.2)
 
 pub few-lines : {T : Type 0} (p : Picture T) → IsSound p → length p.senders + length p.window.places + length p.window.kept + 3 ≤ 196609
-few-lines p h = omega (arith, kept-few p.window h.window, h.handles.by_sender.few, h.handles.by_receiver.few, length-keys_of p.window.places)
+few-lines p h =
+    omega (arith, kept-few p.window h.window, h.handles.by_sender.few, h.handles.by_receiver.few, length-keys_of p.window.places)

@@ -73,7 +73,8 @@ pub above : (next : ℕ) (ids : List ℕ) (id : ℕ) → AreHandles next ids →
 above next ids id h t = below_last ids id h.rising (ltb-true _ _ (and_parts _ _ t).0)
 
 -- a further sender, before any receiver
-pub sender-live : (next : ℕ) (senders : List ℕ) (tx : ℕ) → AreLive next senders [] → is_further next senders tx ≡ true → AreLive next (with_sender senders tx) []
+pub sender-live : (next : ℕ) (senders : List ℕ) (tx : ℕ) → AreLive next senders [] → is_further next senders tx ≡ true →
+    AreLive next (with_sender senders tx) []
 sender-live next senders tx h t =
     let at = with_sender-new senders tx (above next senders tx h.by_sender t) in
     record {
@@ -85,7 +86,8 @@ sender-live next senders tx h t =
     }
 
 -- a further receiver
-pub receiver-live : (next : ℕ) (senders ids : List ℕ) (rx : ℕ) → AreLive next senders ids → is_further next ids rx ≡ true → is_sender senders rx ≡ false → AreLive next senders (ids ++ rx ∷ [])
+pub receiver-live : (next : ℕ) (senders ids : List ℕ) (rx : ℕ) → AreLive next senders ids → is_further next ids rx ≡ true →
+    is_sender senders rx ≡ false → AreLive next senders (ids ++ rx ∷ [])
 receiver-live next senders ids rx h t free = record {
   first = h.first;
   fits = h.fits;
@@ -95,13 +97,17 @@ receiver-live next senders ids rx h t free = record {
 }
 
 -- an entry of a further number is the last one
-pub entry-last : {X : Type 0} (ps : List (ℕ × X)) (k : ℕ) (x : X) → AllByRecursion (λ j. j < k) (keys_of ps) → insert_entry nat_cmp ps k x ≡ ps ++ (k, x) ∷ []
+pub entry-last : {X : Type 0} (ps : List (ℕ × X)) (k : ℕ) (x : X) → AllByRecursion (λ j. j < k) (keys_of ps) →
+    insert_entry nat_cmp ps k x ≡ ps ++ (k, x) ∷ []
 entry-last {X} [] k x h = refl
-entry-last {X} (p ∷ ps) k x h = elim (nat_cmp k p.0) as (λ r. r ≡ nat_cmp k p.0 → match_ordering r ((k, x) ∷ p ∷ ps) ((p.0, x) ∷ ps) (p ∷ insert_entry nat_cmp ps k x) ≡ p ∷ ps ++ (k, x) ∷ []) [
-  | Less ↦ λ e. absurd (omega (arith, ranked k p.0 Less e, h.0))
-  | Equal ↦ λ e. absurd (omega (arith, ranked k p.0 Equal e, h.0))
-  | Greater ↦ λ e. ap (λ (l : List (ℕ × X)). p ∷ l) (entry-last ps k x h.1)
-] refl
+entry-last {X} (p ∷ ps) k x h =
+    elim (nat_cmp k p.0) as
+    (λ r. r ≡ nat_cmp k p.0 → match_ordering r ((k, x) ∷ p ∷ ps) ((p.0, x) ∷ ps) (p ∷ insert_entry nat_cmp ps k x) ≡ p ∷ ps ++ (k, x) ∷ [])
+        [
+      | Less ↦ λ e. absurd (omega (arith, ranked k p.0 Less e, h.0))
+      | Equal ↦ λ e. absurd (omega (arith, ranked k p.0 Equal e, h.0))
+      | Greater ↦ λ e. ap (λ (l : List (ℕ × X)). p ∷ l) (entry-last ps k x h.1)
+    ] refl
 
 pub keys-snoc : {X : Type 0} (ps : List (ℕ × X)) (k : ℕ) (x : X) → keys_of (ps ++ (k, x) ∷ []) ≡ keys_of ps ++ k ∷ []
 keys-snoc {X} ps k x = map-append (λ (q : ℕ × X). q.0) ps ((k, x) ∷ [])
@@ -124,7 +130,8 @@ all_below [] x todo r = tt
 all_below (k ∷ done) x todo r = (all-at (λ j. k < j) done x todo r.0, all_below done x todo r.1)
 
 -- each number of a group is a further one of those before it
-pub is_next : (next : ℕ) (done : List ℕ) (x : ℕ) (todo : List ℕ) → AreHandles next (done ++ x ∷ todo) → (is_further next done x ≡ true) × AllByRecursion (λ k. k < x) done × (x < next)
+pub is_next : (next : ℕ) (done : List ℕ) (x : ℕ) (todo : List ℕ) → AreHandles next (done ++ x ∷ todo) → (is_further next done x ≡ true)
+    × AllByRecursion (λ k. k < x) done × (x < next)
 is_next next done x todo h =
     let at = all-at (λ k. (0 < k) × (k < next)) done x todo h.given in (
       and_both _ _ (lt-ltb (last_id done) x (last_below done x todo h.rising at.0))
@@ -133,5 +140,6 @@ is_next next done x todo h =
       at.1,
     )
 
-pub keys-more : {X : Type 0} (done : List (ℕ × X)) (q : ℕ × X) (todo : List (ℕ × X)) → keys_of (done ++ q ∷ todo) ≡ keys_of done ++ q.0 ∷ keys_of todo
+pub keys-more : {X : Type 0} (done : List (ℕ × X)) (q : ℕ × X) (todo : List (ℕ × X)) →
+    keys_of (done ++ q ∷ todo) ≡ keys_of done ++ q.0 ∷ keys_of todo
 keys-more {X} done q todo = map-append (λ (q : ℕ × X). q.0) done (q ∷ todo)

@@ -25,16 +25,20 @@ module _ {X : Type 0} (has_values : Bool) (h : Live X) (live : AreLive h.next h.
       let alone = subst (λ (ks : List ℕ). AreLive h.next h.senders ks) none live in
       subst (λ (ks : List ℕ). AreLive h.next (with_sender h.senders tx) ks) (sym none) (sender-live h.next h.senders tx alone b.1)
 
-  pub receiver-told : (rx : ℕ) (x : X) → takes_receiver has_values h rx ≡ true → AreLive h.next h.senders (keys_of (with_reader h.receivers rx x))
+  pub receiver-told : (rx : ℕ) (x : X) → takes_receiver has_values h rx ≡ true →
+      AreLive h.next h.senders (keys_of (with_reader h.receivers rx x))
   receiver-told rx x t =
       let b = and_parts _ _ (and_parts has_values _ t).1 in
       let top = above h.next (keys_of h.receivers) rx live.by_receiver b.0 in
       let keys = ap (λ (rs : Kept X). keys_of rs) (entry-last h.receivers rx x top) ∙ keys-snoc h.receivers rx x in
-      subst (λ (ks : List ℕ). AreLive h.next h.senders ks) (sym keys) (receiver-live h.next h.senders (keys_of h.receivers) rx live b.0 (not_true _ b.1))
+      subst (λ (ks : List ℕ). AreLive h.next h.senders ks) (sym keys)
+      (receiver-live h.next h.senders (keys_of h.receivers) rx live b.0 (not_true _ b.1))
 
 -- the places of a picture stay within its tail
-pub receiver-within : (p : Drawn) (has_values : Bool) (rest : Rest) (r : Result Bool LineFault) (new : Live ℕ) → ArePlaces p.window.tail p.window.places →
-    TakesLine r (handles p) new (receiver_fields (λ (h : Live ℕ). h) has_values (handles p) (place_last p rest)) → ArePlaces p.window.tail new.receivers
+pub receiver-within : (p : Drawn) (has_values : Bool) (rest : Rest) (r : Result Bool LineFault) (new : Live ℕ) →
+    ArePlaces p.window.tail p.window.places →
+    TakesLine r (handles p) new (receiver_fields (λ (h : Live ℕ). h) has_values (handles p) (place_last p rest)) →
+    ArePlaces p.window.tail new.receivers
 receiver-within p has_values rest r new within t = at r t
   where
     put : ℕ × ℕ → Live ℕ
@@ -44,14 +48,21 @@ receiver-within p has_values rest r new within t = at r t
     more next (More h) = h
     more next Whole = next
 
-    at : (r : Result Bool LineFault) → TakesLine r (handles p) new (receiver_fields (λ (h : Live ℕ). h) has_values (handles p) (place_last p rest)) → ArePlaces p.window.tail new.receivers
+    at : (r : Result Bool LineFault) →
+        TakesLine r (handles p) new (receiver_fields (λ (h : Live ℕ). h) has_values (handles p) (place_last p rest)) →
+        ArePlaces p.window.tail new.receivers
     at (Ok false) t =
-        let told = allowed-found (λ (rx : ℕ × ℕ). takes_receiver has_values (handles p) rx.0) (λ (rx : ℕ × ℕ). More (put rx)) (place_last p rest) (More new) t in
+        let told =
+        allowed-found (λ (rx : ℕ × ℕ). takes_receiver has_values (handles p) rx.0) (λ (rx : ℕ × ℕ). More (put rx)) (place_last p rest)
+        (More new) t in
         let pair : ℕ → ℕ → ℕ × ℕ = λ n m. (n, m) in
-        let read = allowed-found (λ (x : ℕ × ℕ). nat_le x.1 p.window.tail) (λ (x : ℕ × ℕ). x) (number_then (λ n. number_last (pair n)) rest) told.0 told.1 in
+        let read =
+        allowed-found (λ (x : ℕ × ℕ). nat_le x.1 p.window.tail) (λ (x : ℕ × ℕ). x)
+        (number_then (λ n. number_last (pair n)) rest) told.0 told.1 in
         let rx = read.0 in
         let same : put rx ≡ new = ap put read.3 ∙ ap (more new) told.3 in
-        subst (λ (h : Live ℕ). ArePlaces p.window.tail h.receivers) same (places-with p.window.tail p.window.places rx.0 rx.1 within (leb-true rx.1 p.window.tail read.2))
+        subst (λ (h : Live ℕ). ArePlaces p.window.tail h.receivers) same
+        (places-with p.window.tail p.window.places rx.0 rx.1 within (leb-true rx.1 p.window.tail read.2))
     at (Ok true) t = subst (λ (h : Live ℕ). ArePlaces p.window.tail h.receivers) (sym t.1) within
     at (Err BadLine) t = subst (λ (h : Live ℕ). ArePlaces p.window.tail h.receivers) (sym t.1) within
     at (Err Short) t = subst (λ (h : Live ℕ). ArePlaces p.window.tail h.receivers) (sym t.1) within

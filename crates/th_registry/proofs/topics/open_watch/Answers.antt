@@ -27,7 +27,8 @@ returns-in_default-new c =
 pub returns-in_default-insert : goal.returns-in_default-insert
 returns-in_default-insert c =
     let room : length c.args.channels.now.entries < 1024 = omega (arith, c.len.ensures.len, c.if-len-ge-MOST_TOPICS.false) in
-    opens-short (pictures c.args.limit) c.args.channels.now.entries c.args.name c.requires (Makings.Watch c.args.value) _ _ refl room _ (c.in_default-insert.ensures.err)
+    opens-short (pictures c.args.limit) c.args.channels.now.entries c.args.name c.requires (Makings.Watch c.args.value) _ _ refl room _
+    (c.in_default-insert.ensures.err)
 
 pub returns : goal.returns
 returns c =
@@ -36,8 +37,10 @@ returns c =
     let opened : c.in-Ok-new.channel ≡ (pictures c.args.limit).watch_opened c.args.value (length ts + 1) =
     c.in-Ok-new.ensures
     ∙ ap (λ (p : Picture Bytes). opened c.args.limit (c.len-2.result + 1) p p) c.in-Ok.ensures.opened
-    ∙ (let count : c.len-2.result ≡ length ts = omega (arith, c.len-2.ensures.len) in let p = see (machine.opened c.args.value 1) in ap (λ (n : ℕ). opened c.args.limit (n + 1) p p) count) in
-    let last : ts ++ (c.args.name, Watch ((pictures c.args.limit).watch_opened c.args.value (length ts + 1))) ∷ [] ≡ c.insert.new.self.entries =
+    ∙ (let count : c.len-2.result ≡ length ts = omega (arith, c.len-2.ensures.len) in let p = see (machine.opened c.args.value 1) in
+    ap (λ (n : ℕ). opened c.args.limit (n + 1) p p) count) in
+    let last : ts ++ (c.args.name, Watch ((pictures c.args.limit).watch_opened c.args.value (length ts + 1))) ∷ []
+    ≡ c.insert.new.self.entries =
     sym (c.in-Ok-insert.ensures.entries
     ∙ insert-new ts c.args.name (Watch c.in-Ok-new.channel) c.requires
     ∙ ap (λ (h : SeenWatch). ts ++ (c.args.name, Watch h) ∷ []) opened) in

@@ -7,7 +7,8 @@ use Rattle.th_replay.proofs.actors.begins_nobody.Goals as goal
 
 pub returns-then-is_short : goal.returns-then-is_short
 returns-then-is_short c = λ given t.
-    let short : is_short given ≡ true = ap is_short (told_reply given _ (sym c.in-Reply.is ∙ t)) ∙ sym c.is_short.ensures ∙ c.if-is_short.true in
+    let short : is_short given ≡ true =
+    ap is_short (told_reply given _ (sym c.in-Reply.is ∙ t)) ∙ sym c.is_short.ensures ∙ c.if-is_short.true in
     c.if-is_short.true ∙ sym (ap (λ (b : Bool). b || has_quit given) short)
 
 pub returns-else-is_short : goal.returns-else-is_short

@@ -69,5 +69,6 @@ returns-in-Err-own_call g c = λ limit ts name stands.
     let before : Output = output g.W.Write.contents c.args.writer.now c.args.out.now in
     let after : Output = output g.W.Write.contents c.append-in-Err-own_call.new.writer c.append-in-Err-own_call.new.self in
     let there = stands.1 ∙ ap (λ (channel : SeenChannel). Some channel) c.in-Watch.is in
-    refuses limit c.args.session.now name c.args.own ts c.args.topic.0 (Watch c.in-Watch.channel) stands.0 there c.append-in-Err-own_call.result
+    refuses limit c.args.session.now name c.args.own ts c.args.topic.0
+    (Watch c.in-Watch.channel) stands.0 there c.append-in-Err-own_call.result
     watch_call c.in-Err-own_call.code before after (sym c.own_call-in-Watch.ensures ∙ c.in-Err-own_call.is) c.append-in-Err-own_call.ensures

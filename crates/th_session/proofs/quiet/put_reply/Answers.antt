@@ -20,7 +20,8 @@ returns-in-Err g c =
     let P : Result (Receipt g.row.K-Call.Denot g.row.R.Denot) NoEvent → Type 0 = λ came.
     AddsOrFails (spell (reply_or_none g.R.Told.told came)) before after result in
     let kept = c.keep.ensures in
-    let none = left-none (λ (r : Receipt g.row.K-Call.Denot g.row.R.Denot). r.reply) kept.0 c.keep.result c.in-Err.why _ c.in-Err.is kept.2 in
+    let none =
+    left-none (λ (r : Receipt g.row.K-Call.Denot g.row.R.Denot). r.reply) kept.0 c.keep.result c.in-Err.why _ c.in-Err.is kept.2 in
     let put = subst (λ (reply : Reply). AddsOrFails (spell reply) before after result) c.replied_none.ensures c.append-in-Err.ensures in
     (kept.0, kept.1, subst P (sym none) put)
 

@@ -6,11 +6,15 @@ use Rattle.th_session.specs.Kept.{with_segment}
 use Rattle.th_session.proofs.session.trace.Goals as goal
 
 pub returns-in_default : goal.returns-in_default
-returns-in_default g c = λ h. (Replied (Refused Codes.NoTopic), refl, ((None, c.args.desk.now, c.in_default.ensures, (refl, refl, refl)), refl))
+returns-in_default g c =
+    λ h. (Replied (Refused Codes.NoTopic), refl, ((None, c.args.desk.now, c.in_default.ensures, (refl, refl, refl)), refl))
 
 pub returns-in_default-reserve : goal.returns-in_default-reserve
-returns-in_default-reserve g c = λ h.
-    (Replied (Refused Codes.NoMemory), refl, ((Some c.in-Some.found, c.args.desk.now, c.in-Some.ensures, inr (refl, refl, refl)), c.reserve.ensures.items))
+returns-in_default-reserve g c = λ h. (
+  Replied (Refused Codes.NoMemory),
+  refl,
+  ((Some c.in-Some.found, c.args.desk.now, c.in-Some.ensures, inr (refl, refl, refl)), c.reserve.ensures.items),
+)
 
 pub returns-in-Ok-cut : goal.returns-in-Ok-cut
 returns-in-Ok-cut g c = λ h.
@@ -18,7 +22,12 @@ returns-in-Ok-cut g c = λ h.
       answer,
       refl,
       (
-        (Some c.in-Some.found, c.args.desk.now, c.in-Some.ensures, inl (Ok c.in-Ok-cut.segment, c.cut.new.self, c.in-Ok-cut.ensures, (refl, refl, refl))),
+        (
+          Some c.in-Some.found,
+          c.args.desk.now,
+          c.in-Some.ensures,
+          inl (Ok c.in-Ok-cut.segment, c.cut.new.self, c.in-Ok-cut.ensures, (refl, refl, refl)),
+        ),
         c.push_reserved.ensures.items ∙ ap (λ segments. with_segment segments answer) c.reserve.ensures.items,
       ),
     )
@@ -28,7 +37,12 @@ returns-in-Err g c = λ h. (
   Replied c.replied_none.result,
   refl,
   (
-    (Some c.in-Some.found, c.args.desk.now, c.in-Some.ensures, inl (Err c.in-Err.why, c.cut.new.self, c.in-Err.ensures, (ap (λ reply. Replied reply) c.replied_none.ensures, refl, refl))),
+    (
+      Some c.in-Some.found,
+      c.args.desk.now,
+      c.in-Some.ensures,
+      inl (Err c.in-Err.why, c.cut.new.self, c.in-Err.ensures, (ap (λ reply. Replied reply) c.replied_none.ensures, refl, refl)),
+    ),
     c.reserve.ensures.items,
   ),
 )

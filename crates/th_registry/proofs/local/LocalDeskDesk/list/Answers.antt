@@ -7,7 +7,8 @@ use Rattle.th_registry.specs.Pictures.{Desk, DeskSays, SeenTopics, pictures}
 use Rattle.th_registry.proofs.local.LocalDeskDesk.list.Goals as goal
 
 -- the topics are listed, or memory is refused
-listed : (limit : ℕ) (ts : SeenTopics) (result : Result (prelude.List Listed) (Short (Unit {0}))) → IfOk result (λ rows. rows ≡ list ts) → Says (pictures limit) ts List result ts
+listed : (limit : ℕ) (ts : SeenTopics) (result : Result (prelude.List Listed) (Short (Unit {0}))) → IfOk result (λ rows. rows ≡ list ts) →
+    Says (pictures limit) ts List result ts
 listed limit ts (Ok rows) is = inl (λ i. (Ok (sym is i), ts))
 listed limit ts (Err short) is = inr (refl, refl, refl)
 

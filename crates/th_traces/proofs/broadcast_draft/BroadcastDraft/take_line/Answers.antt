@@ -13,7 +13,8 @@ invariant_of-self-then-eq-3 c =
     let had = c.has_values-has_values.result in
     let rest = rest_of c.cut.result.1 in
     let new = c.take_receiver.new.self in
-    let told : TakesLine c.take_receiver.result (handles p) new (receiver_fields (λ (h : Live ℕ). h) had (handles p) (place_last p rest)) = search rules in
+    let told : TakesLine c.take_receiver.result (handles p) new (receiver_fields (λ (h : Live ℕ). h) had (handles p) (place_last p rest)) =
+    search rules in
     record {
       capacity = c.self.invariant.capacity;
       low = c.self.invariant.low;

@@ -12,4 +12,5 @@ invariant_of-self-2 g c =
     let h = live s.senders.keys s.receivers.entries s.next in
     let may : takes_receiver c.args.has_values h c.in-Some.rx ≡ true = search rules in
     let placed : c.insert.new.self.entries ≡ with_reader s.receivers.entries c.in-Some.rx c.in-Some.standing = search rules in
-    subst (λ l. AreLive s.next s.senders.keys (keys_of l)) (sym placed) (receiver-told c.args.has_values h c.self.invariant c.in-Some.rx c.in-Some.standing may)
+    subst (λ l. AreLive s.next s.senders.keys (keys_of l)) (sym placed)
+    (receiver-told c.args.has_values h c.self.invariant c.in-Some.rx c.in-Some.standing may)

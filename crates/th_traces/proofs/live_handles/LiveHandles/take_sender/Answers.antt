@@ -11,4 +11,5 @@ invariant_of-self-2 g c =
     let h = live s.senders.keys s.receivers.entries s.next in
     let may : takes_sender c.args.has_values h c.in-Some.tx ≡ true = search rules in
     let keys : c.insert.new.self.keys ≡ with_sender s.senders.keys c.in-Some.tx = search rules in
-    subst (λ (ks : List ℕ). AreLive s.next ks (keys_of s.receivers.entries)) (sym keys) (sender-told c.args.has_values h c.self.invariant c.in-Some.tx may)
+    subst (λ (ks : List ℕ). AreLive s.next ks (keys_of s.receivers.entries)) (sym keys)
+    (sender-told c.args.has_values h c.self.invariant c.in-Some.tx may)
