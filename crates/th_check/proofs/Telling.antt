@@ -232,8 +232,7 @@ module _ {E S C R : Type 0} (m : Machine E S C R) (words : Words C R) (IsCall : 
           )
       entries_lead state before (e ∷ es) count run each counted most =
           let low : before < most_entries = omega (arith, counted, most) in
-          let says : SaysReply m words state e.0 (reply_line (reply_fields e.1)) = (run.0, reply_again e.0 e.1 each.0.1 ∙ ap Some run.1) in
-              (
+          let says : SaysReply m words state e.0 (reply_line (reply_fields e.1)) = (run.0, reply_again e.0 e.1 each.0.1 ∙ ap Some run.1) in (
             point (ReplyDue state before e.0),
             on_does (CallDue state before) (call_line (call_fields e.0)) (ReplyDue state before e.0)
                 (call_turn state before e.0 each.0.0 low),
