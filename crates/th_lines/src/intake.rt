@@ -1,8 +1,8 @@
 //! Bytes that a reader gives, and the lines that are found in them.
-ghost use Rattle.std.specs.Prelude.{◌≡◌, [], true, false, ◌<◌, ◌+◌, ◌≤◌, IfOk, drop, length, slice_range, take};
+ghost use Rattle.std.specs.Prelude.{◌≡◌, ◌∷◌, ◌++◌, ℕ, Bool, IfSome, List, [], true, false, ◌<◌, ◌+◌, ◌≤◌, IfOk, drop, length, slice_range, take};
 ghost use Rattle.th_lines.specs.Device.{ReadMoved, bytes_moved, failures_after, one_more};
 ghost use Rattle.th_lines.specs.Intake.{Ends, Fills, Finds, IsSameLine, Reading, line_given, most_read, nothing_came, nothing_read};
-ghost use Rattle.th_lines.specs.Lines.{line_of};
+ghost use Rattle.th_lines.specs.Lines.{Good, line_of, lines_from};
 ghost use Rattle.th_lines.specs.Repeating.{Repeats};
 
 use crate::counted::{Counted, Moved};
@@ -105,14 +105,7 @@ impl Intake {
     pub fn line(&self, before_lf: bool) -> Option<&[u8]>
         ensures { line_given result ≡ line_of before_lf self.now.line }
     {
-        let line = &self.buffer[self.line_from..self.line_to];
-        if line.len() > LINE_LIMIT {
-            return None;
-        }
-        if before_lf && line.last() == Some(&b'\r') {
-            return Some(&line[..line.len() - 1]);
-        }
-        Some(line)
+        given(&self.buffer[self.line_from..self.line_to], before_lf)
     }
 
     /// How often the line that was handed out comes next, byte for byte the same and with its LF, at most so often: fewer
@@ -123,6 +116,14 @@ impl Intake {
         let line = &self.buffer[self.line_from..self.line_to];
         let ahead = &self.buffer[self.ahead_from..self.ahead_to];
         repeats(line, ahead, most)
+    }
+
+    /// The bytes that came behind the line that was handed out.
+    #[inline(always)]
+    pub fn ahead(&self) -> &[u8]
+        ensures { result.now ≡ self.now.came.ahead }
+    {
+        &self.buffer[self.ahead_from..self.ahead_to]
     }
 
     /// Whether nothing came since the last LF.
@@ -157,6 +158,32 @@ impl Intake {
         self.ahead_to = LINE_KEPT + bytes_moved(moved);
         moved
     }
+}
+
+/// The line at the front of these bytes, without its end, and what stands behind it; `None` where none is whole, or where it is
+/// too long.
+pub fn front_line(bytes: &[u8]) -> Option<(&[u8], &[u8])>
+    ensures { IfSome result (λ found. (ended : Bool) (more : List ℕ) →
+        lines_from ended [] (bytes.now ++ more)
+        ≡ Good found.0.now ∷ lines_from ended [] (found.1.now ++ more)) }
+{
+    let count = bytes.find_byte(b'\n')?;
+    let line = given(&bytes[..count], true)?;
+    Some((line, &bytes[count + 1..]))
+}
+
+// The line that these bytes are; `None` where it is too long.
+#[inline(always)]
+fn given(line: &[u8], before_lf: bool) -> Option<&[u8]>
+    ensures { line_given result ≡ line_of before_lf line.now }
+{
+    if line.len() > LINE_LIMIT {
+        return None;
+    }
+    if before_lf && line.last() == Some(&b'\r') {
+        return Some(&line[..line.len() - 1]);
+    }
+    Some(line)
 }
 
 // How many bytes a call moved.

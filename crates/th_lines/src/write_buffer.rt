@@ -130,6 +130,11 @@ impl WriteBuffer {
         self.bytes.capacity() - self.filled >= LINE_ROOM
     }
 
+    /// Whether so many bytes go in without a write, and then one line more. No clause says so either.
+    pub fn has_room_for(&self, bytes: usize) -> bool {
+        self.waiting.capacity() - self.waiting.len() >= LINE_ROOM.saturating_add(bytes)
+    }
+
     /// Writes all that waits and flushes the writer, so that whoever reads the replies has them all. Where nothing
     /// waits the writer is not called.
     ///
