@@ -3,8 +3,8 @@ use std::alloc::{AllocError, Global};
 use std::fs::File;
 use th_lines::fields::{cut, number, number_and_rest, value};
 use th_lines::{
-    Counted, Feeder, Intake, Lines, Reply, TakesLines, ValueWord, WriteBuffer, laws, name_and_rest,
-    read_command,
+    Counted, Feeder, Intake, Lines, Reply, TakesLines, ValueWord, WriteBuffer, front_line, laws,
+    name_and_rest, read_command, read_send,
 };
 use th_model::Value;
 
@@ -45,6 +45,9 @@ pub fn fields(alloc: Global, bytes: &[u8]) {
 
 pub fn commands(alloc: Global, line: &[u8]) {
     let _ = read_command(alloc, line);
+    if let Ok(value) = Value::new(alloc, b"x") {
+        let _ = read_send(line, &value);
+    }
 }
 
 pub fn take_in(alloc: Global, intake: &mut Intake, reader: &mut Counted<File>) -> (usize, bool) {
@@ -53,6 +56,7 @@ pub fn take_in(alloc: Global, intake: &mut Intake, reader: &mut Counted<File>) -
         let _ = intake.fill(reader);
     }
     let _ = intake.line(true);
+    let _ = front_line(intake.ahead());
     (intake.repeats(7), intake.is_empty())
 }
 
@@ -136,5 +140,5 @@ pub fn wait_for_lines(buffer: &mut WriteBuffer, writer: &mut Counted<File>) {
 pub fn write_out(alloc: Global, buffer: &mut WriteBuffer, writer: &mut Counted<File>) -> bool {
     let _ = WriteBuffer::new(alloc);
     let _ = buffer.flush(writer);
-    buffer.has_room()
+    buffer.has_room() && buffer.has_room_for(7)
 }

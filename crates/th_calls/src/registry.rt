@@ -146,8 +146,10 @@ pub fn leave(
 pub fn keep(
     desk: &mut LocalDesk,
     topic: TopicId,
+    tx: &mut TxId,
     rx: &mut RxId,
 ) -> (Result<TopicSegment, NoEvent>, usize) {
     desk.wake();
+    desk.send_ahead(topic, tx, &[]);
     (desk.cut(topic), desk.ready(topic, rx, 7))
 }

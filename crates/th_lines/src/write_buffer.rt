@@ -127,12 +127,12 @@ impl WriteBuffer {
 
     /// Whether one line more goes in without a write. No clause says so: when bytes are written, none rests on.
     pub fn has_room(&self) -> bool {
-        self.bytes.capacity() - self.filled >= LINE_ROOM
+        self.has_room_for(0)
     }
 
     /// Whether so many bytes go in without a write, and then one line more. No clause says so either.
     pub fn has_room_for(&self, bytes: usize) -> bool {
-        self.waiting.capacity() - self.waiting.len() >= LINE_ROOM.saturating_add(bytes)
+        self.bytes.capacity() - self.filled >= LINE_ROOM.saturating_add(bytes)
     }
 
     /// Writes all that waits and flushes the writer, so that whoever reads the replies has them all. Where nothing

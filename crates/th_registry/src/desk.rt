@@ -12,11 +12,11 @@ use crate::opening::{Found, Refusal, TopicId};
 use crate::outcome::{Made, NoEvent, Unspent};
 use th_model::{Listing, Making, NameRef, Question, ReceiverVerb, SenderVerb, Short, Start, Value};
 
-/// The most calls of one receiver that a desk is asked to have ready at once ([`Desk::ready`]).
+/// The most calls of one handle that a desk is asked to have ready at once ([`Desk::ready`], [`Desk::send_ahead`]).
 pub const MOST_READY: usize = 64;
 
-/// Topics by name. Each call but `find`, `list`, `cut`, `wake` and `ready` is one event, on the topic of that number or of
-/// the registry, or none; `resubscribe` is both of its events, or none. By which side of handles an event is made
+/// Topics by name. Each call but `find`, `list`, `cut`, `wake`, `ready` and `send_ahead` is one event, on the topic of that
+/// number or of the registry, or none; `resubscribe` is both of its events, or none. By which side of handles an event is made
 /// is the call's name and the type of its verb. An event's receipt is handed out, but for the end of a handle.
 pub trait Desk: Drop {
     /// A sender of a topic.
@@ -140,4 +140,11 @@ pub trait Desk: Drop {
     fn ready(&mut self, topic: TopicId, receiver: &mut Self::Rx, most: usize) -> usize
         ensures desk { self.new ≡ self.old }
         ensures receiver { rx receiver.new ≡ rx receiver.old };
+
+    /// The caller's next calls by this sender, 1 to 64, send these values in their order, and it makes them before any other
+    /// call by this sender. So a desk may make their events here, of all or of the first ones, and then hands out the
+    /// receipts to those calls, in their order. It saves locks, and no clause rests on it. The sender keeps its number.
+    fn send_ahead(&mut self, topic: TopicId, sender: &mut Self::Tx, values: &[Value])
+        ensures desk { self.new ≡ self.old }
+        ensures sender { tx sender.new ≡ tx sender.old };
 }

@@ -222,6 +222,8 @@ impl Desk for LocalDesk {
 
     fn wake(&mut self) {}
 
+    fn send_ahead(&mut self, _topic: TopicId, _sender: &mut TxId, _values: &[Value]) {}
+
     fn ready(&mut self, _topic: TopicId, _receiver: &mut RxId, most: usize) -> usize {
         most
     }

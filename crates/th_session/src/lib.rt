@@ -30,6 +30,7 @@ pub mod quiet;
 mod quit;
 mod replies;
 mod run;
+mod sends_ahead;
 pub mod session;
 mod table;
 mod told;

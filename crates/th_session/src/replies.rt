@@ -1,22 +1,29 @@
 //! The replies of a session that wait to be written, and its gate, which is told of them.
 ghost use Rattle.std.specs.Prelude.{◌≡◌, []};
+ghost use Rattle.th_lines.specs.Commands.{carries_value, command_of};
+ghost use Rattle.th_lines.specs.Reads.{Reads};
 ghost use Rattle.th_lines.specs.Output.{AddsOrFails, Flushes, output};
 ghost use Rattle.th_session.specs.Answer.{PutsTold};
 ghost use Rattle.th_session.specs.Run.{Enters};
 
 use crate::fault::SessionFault;
 use crate::gate::Gate;
+use crate::sends_ahead::SendsAhead;
 use crate::session::{Answer, Session};
+use std::alloc::Global;
 use std::io::Write;
 use std::marker::Model;
 use std::thread::sleep;
 use std::time::{Clock, Duration};
-use th_lines::{Action, Command, Counted, Intake, Reply, WriteBuffer, WriteFailed};
-use th_model::ReceiverVerb;
+use th_lines::{Action, Command, Counted, Intake, LineFault, Reply, WriteBuffer, WriteFailed};
+use th_model::{NameRef, ReceiverVerb, SenderVerb, Value};
 use th_registry::{Desk, MOST_READY};
 
 /// How often a gate is asked for one line.
 const MOST_ASKS: u32 = 1000;
+
+/// The most bytes of the reply to a send: a number, or a refusal.
+const SENT_ROOM: usize = 32;
 
 /// How long a session sleeps at a gate before it asks again, in milliseconds.
 const PAUSE: u64 = 10;
@@ -36,6 +43,8 @@ pub(crate) struct Replies<'a, C, G> {
     limit: u64,
     // How many of the next lines are the same as the last one that waits, and have their answers at the desk.
     sure: usize,
+    // Those of the next lines that send to the same topic, and were read before they are due.
+    sends: SendsAhead,
 }
 
 impl<'a, C, G> Model for Replies<'a, C, G> {
@@ -96,6 +105,7 @@ impl<'a, C: Clock, G: Gate> Replies<'a, C, G> {
         session: u64,
         waiting: WriteBuffer,
         limit: u64,
+        alloc: Global,
     ) -> Replies<'a, C, G>
         ensures { result ≡ waiting }
     {
@@ -107,6 +117,7 @@ impl<'a, C: Clock, G: Gate> Replies<'a, C, G> {
             told: 0,
             limit,
             sure: 0,
+            sends: SendsAhead::new(alloc),
         }
     }
 
@@ -133,17 +144,64 @@ impl<'a, C: Clock, G: Gate> Replies<'a, C, G> {
         Ok(())
     }
 
+    // How many lines behind the next one may be answered, and be asked about at once. So many lines were answered.
+    fn allowed_ahead(&self, answered: u64) -> usize {
+        let allowed = self.limit.saturating_sub(answered).saturating_sub(1);
+        (MOST_READY - 1).min(allowed as usize)
+    }
+
     // How many lines behind the next one are the same as it, may be answered, and are let through now, so that they will
     // be carried out before anything else. So many lines were answered.
     fn same_ahead(&self, intake: &Intake, answered: u64) -> usize {
-        let allowed = self.limit.saturating_sub(answered).saturating_sub(1);
-        let most = (MOST_READY - 1).min(allowed as usize);
-        let same = intake.repeats(most);
+        let same = intake.repeats(self.allowed_ahead(answered));
         let_through(self.gate, self.session, answered, same)
     }
 
+    /// The command that the next line spells. For the value of a send that was read before, no memory is asked.
+    #[inline(always)]
+    pub(crate) fn read<'l>(
+        &mut self,
+        alloc: Global,
+        line: &'l [u8],
+    ) -> Result<Command<'l>, LineFault>
+        ensures same { self.new ≡ self.old }
+        ensures read { Reads carries_value result (command_of line.now) }
+    {
+        self.sends.read(alloc, line)
+    }
+
+    // Tells the desk of this send together with those that stand right behind it on the same topic, may be answered, and are let
+    // through now, so that they will be carried out before anything else: where their replies go in without a write, so that
+    // none of them is left without its reply but where a write fails. So many lines were answered.
+    fn send_ahead<D: Desk>(
+        &mut self,
+        session: &mut Session<D>,
+        desk: &mut D,
+        answered: u64,
+        name: &NameRef<'_>,
+        value: &Value,
+        intake: &Intake,
+    )
+        ensures same { self.new ≡ self.old }
+        ensures session { session.new ≡ session.old }
+        ensures desk { desk.new ≡ desk.old }
+    {
+        if !self.waiting.has_room_for(MOST_READY * SENT_ROOM) {
+            return;
+        }
+        let allowed = self.allowed_ahead(answered);
+        let read = self.sends.read_on(intake, value, allowed.saturating_add(1));
+        let behind = let_through(self.gate, self.session, answered, read.saturating_sub(1));
+        let values = self.sends.first(behind.saturating_add(1));
+        if values.len() > 1 {
+            session.send_ahead(desk, name, values);
+        }
+        self.sends.begin();
+    }
+
     /// Settles where lines were answered since and this command would wait at the desk. So many lines were answered. Its
-    /// line is the one that was handed out last: of lines behind it that are the same the desk is asked too, once for all.
+    /// line is the one that was handed out last: of lines behind it that are the same the desk is asked too, once for all. And
+    /// where it sends, the desk is told of the sends behind it.
     pub(crate) fn settle_before<D: Desk, W: Write>(
         &mut self,
         session: &mut Session<D>,
@@ -159,6 +217,11 @@ impl<'a, C: Clock, G: Gate> Replies<'a, C, G> {
             (output W.contents writer.old self.old) (output W.contents writer.new self.new) result }
     {
         if !waits(command) {
+            if let Command::On(name, Action::BySender(SenderVerb::Send(value))) = command {
+                if self.sends.is_empty() && !intake.ahead().is_empty() {
+                    self.send_ahead(session, desk, answered, name, value, intake);
+                }
+            }
             return Ok(());
         }
         if self.sure > 0 {

@@ -17,7 +17,7 @@ use std::marker::Model;
 use std::time::Clock;
 use th_lines::{
     Code, Counted, Fed, Feeder, Intake, MOST_LINES, MOST_READS, Reply, TakesLines, WriteBuffer,
-    WriteFailed, read_command,
+    WriteFailed,
 };
 use th_registry::Desk;
 
@@ -72,7 +72,7 @@ fn answer_in_time<C: Clock, G: Gate, D: Desk, W: Write>(
     let Some(bytes) = line else {
         return Ok(Answer::Reply(Reply::Refused(Code::LongLine)));
     };
-    let command = match read_command(alloc, bytes) {
+    let command = match replies.read(alloc, bytes) {
         Ok(command) => command,
         Err(fault) => return Ok(refused(fault)),
     };
@@ -185,7 +185,7 @@ impl<'a, D: Desk, C: Clock, G: Gate> Run<'a, D, C, G> {
         let waiting = WriteBuffer::new(alloc)?;
         Ok(Run {
             session: Session::new(alloc),
-            replies: Replies::new(clock, gate, number, waiting, limit),
+            replies: Replies::new(clock, gate, number, waiting, limit, alloc),
             keeping,
         })
     }

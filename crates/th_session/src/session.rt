@@ -15,7 +15,7 @@ use crate::table::{is_for, replied_list, replied_none, replied_opening};
 use std::alloc::Global;
 use std::marker::Model;
 use th_lines::{Action, Code, Command, Reply};
-use th_model::NameRef;
+use th_model::{NameRef, Value};
 use th_numbered::ByNumber;
 use th_registry::channel::{TopicReceipt, TopicSegment};
 use th_registry::{Desk, TopicId};
@@ -125,6 +125,25 @@ fn ready<D: Desk>(
         return most;
     };
     desk.ready(topic, receiver, most)
+}
+
+// These are what the actor's own sender of this topic sends next, if there is one.
+fn send_ahead<D: Desk>(
+    handles: &mut ByNumber<Handles<D::Tx, D::Rx>>,
+    desk: &mut D,
+    topic: TopicId,
+    values: &[Value],
+)
+    ensures held { held D.tx D.rx handles.new.entries ≡ held D.tx D.rx handles.old.entries }
+    ensures desk { desk.new ≡ desk.old }
+{
+    let Some(own) = handles.get_mut(topic.0) else {
+        return;
+    };
+    let Some(sender) = &mut own.sender else {
+        return;
+    };
+    desk.send_ahead(topic, sender, values);
 }
 
 impl<D: Desk> Session<D> {
@@ -286,6 +305,20 @@ impl<D: Desk> Session<D> {
         match self.receipts.reserve(most) {
             Ok(()) => ready(&mut self.handles, desk, found.topic, most),
             Err(_) => 0,
+        }
+    }
+
+    /// The next commands send these values to the topic of this name: the desk may make their events. There is room then for
+    /// the receipts of all of them, so that no command is refused whose event the desk has made.
+    pub(crate) fn send_ahead(&mut self, desk: &mut D, name: &NameRef<'_>, values: &[Value])
+        ensures session { self.new ≡ self.old }
+        ensures desk { desk.new ≡ desk.old }
+    {
+        let Some(found) = desk.find(name) else {
+            return;
+        };
+        if self.receipts.reserve(values.len()).is_ok() {
+            send_ahead(&mut self.handles, desk, found.topic, values);
         }
     }
 }

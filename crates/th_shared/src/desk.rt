@@ -3,7 +3,7 @@
 use crate::deferred_wake::{DeferredWake, defer, is_deferred, wake};
 use crate::ended::{Ended, end_of};
 use crate::handles::{TopicReceiver, TopicSender};
-use crate::received_ahead::ReceivedAhead;
+use crate::receipts_ahead::ReceiptsAhead;
 use crate::registry::{Topics, another_owner, ask, bind, end, open, subscribe};
 use crate::shares::Shares;
 use crate::told;
@@ -25,12 +25,13 @@ use th_seats::Share;
 /// one by the hub's own sender the lock of the topics too; `list`, `open_topic` and `find` take the latter alone, but that
 /// `find` takes none for a topic of which this desk had a handle made. Neither is held while a receiver waits.
 ///
-/// An event of a sender wakes nobody before `wake`. The desk wakes too before it waits, before it goes to another channel, and
-/// where it is given up (`into_shares`, `finish`).
+/// An event of a sender wakes nobody before `wake`, but for those of `send_ahead`. The desk wakes too before it waits, before it
+/// goes to another channel, and where it is given up (`into_shares`, `finish`).
 ///
 /// `ready` makes the receives of a broadcast receiver that it answers, at most 64 under one lock, and `by_receiver` hands out
-/// their receipts without it. A receiver that is spent before it was told of all of them is not told of the others: their
-/// events stand in the history, and its share counts them.
+/// their receipts without it. `send_ahead` likewise makes the sends of a broadcast sender under one lock, wakes once, and
+/// `by_sender` hands out their receipts. A handle that is spent before it was told of all of them is not told of the others:
+/// their events stand in the history, and its share counts them.
 #[derive(Drop)]
 pub struct SharedDesk<R: Wait + Clone> {
     // By which it waits.
@@ -43,7 +44,9 @@ pub struct SharedDesk<R: Wait + Clone> {
     // Topics that it finds without their lock.
     cache: TopicCache,
     // Receives that it made before they were asked for.
-    ahead: ReceivedAhead,
+    received: ReceiptsAhead,
+    // Sends that it made so.
+    sent: ReceiptsAhead,
 }
 
 impl<R: Wait + Clone> Model for SharedDesk<R> {
@@ -74,7 +77,8 @@ impl<R: Wait + Clone> SharedDesk<R> {
             shares: Shares::new(alloc),
             deferred: None,
             cache: TopicCache::new(alloc),
-            ahead: ReceivedAhead::new(alloc),
+            received: ReceiptsAhead::new(alloc),
+            sent: ReceiptsAhead::new(alloc),
         }
     }
 
@@ -129,7 +133,8 @@ impl<R: Wait + Clone> SharedDesk<R> {
             shares,
             deferred,
             cache,
-            ahead,
+            received,
+            sent,
         } = self;
         match Arc::try_unwrap(topics) {
             Ok(lock) => {
@@ -145,7 +150,8 @@ impl<R: Wait + Clone> SharedDesk<R> {
                 shares,
                 deferred,
                 cache,
-                ahead,
+                received,
+                sent,
             }),
         }
     }
@@ -234,7 +240,16 @@ impl<R: Wait + Clone> Desk for SharedDesk<R> {
         sender: &mut TopicSender,
         verb: SenderVerb<Value>,
     ) -> Result<TopicReceipt, NoEvent> {
-        let SharedDesk { rt, deferred, .. } = self;
+        let SharedDesk {
+            rt,
+            deferred,
+            sent,
+            ..
+        } = self;
+        // Whoever waits for it was woken when it was made.
+        if let Some(receipt) = told::sent(topic, sent, sender, &verb) {
+            return Ok(receipt);
+        }
         let receipt = told::send(rt, topic, sender, verb)?;
         if !is_deferred(deferred, topic) {
             if let Ok(owner) = told::owner_of(sender) {
@@ -270,7 +285,7 @@ impl<R: Wait + Clone> Desk for SharedDesk<R> {
         let SharedDesk {
             rt,
             deferred,
-            ahead,
+            received,
             ..
         } = self;
         match verb {
@@ -278,7 +293,7 @@ impl<R: Wait + Clone> Desk for SharedDesk<R> {
             _ => {}
         }
         match receiver {
-            TopicReceiver::Live(receiver) => told::receive(rt, topic, ahead, receiver, verb),
+            TopicReceiver::Live(receiver) => told::receive(rt, topic, received, receiver, verb),
             TopicReceiver::Spent(_) => Err(NoEvent::NotLive),
         }
     }
@@ -291,13 +306,13 @@ impl<R: Wait + Clone> Desk for SharedDesk<R> {
         let SharedDesk {
             rt,
             shares,
-            ahead,
+            received,
             ..
         } = self;
         shares.make_room()?;
         let (after, said) = match replace(receiver, TopicReceiver::Spent(0)) {
             TopicReceiver::Live(old) => {
-                ahead.forget(topic, &old);
+                received.forget(&old);
                 told::resubscribe(rt, topic, old)
             }
             TopicReceiver::Spent(number) => (TopicReceiver::Spent(number), Err(NoEvent::NotLive)),
@@ -315,7 +330,13 @@ impl<R: Wait + Clone> Desk for SharedDesk<R> {
         topic: TopicId,
         sender: TopicSender,
     ) -> Result<(), Unspent<TopicSender>> {
-        let SharedDesk { rt, shares, .. } = self;
+        let SharedDesk {
+            rt,
+            shares,
+            sent,
+            ..
+        } = self;
+        sent.forget(&sender);
         match told::end_sender(rt, topic, sender) {
             Ok(share) => {
                 shares.keep(topic, share);
@@ -333,12 +354,12 @@ impl<R: Wait + Clone> Desk for SharedDesk<R> {
         let SharedDesk {
             rt,
             shares,
-            ahead,
+            received,
             ..
         } = self;
         match receiver {
             TopicReceiver::Live(receiver) => {
-                ahead.forget(topic, &receiver);
+                received.forget(&receiver);
                 match told::end_receiver(rt, topic, receiver) {
                     Ok(share) => {
                         shares.keep(topic, share);
@@ -384,10 +405,10 @@ impl<R: Wait + Clone> Desk for SharedDesk<R> {
     }
 
     fn ready(&mut self, topic: TopicId, receiver: &mut TopicReceiver, most: usize) -> usize {
-        let SharedDesk { rt, ahead, .. } = self;
+        let SharedDesk { rt, received, .. } = self;
         match receiver {
             TopicReceiver::Live(Channel::Broadcast(receiver)) => {
-                ahead.receive_ahead(rt, topic, receiver, most)
+                received.receive_ahead(rt, topic, receiver, most)
             }
             TopicReceiver::Live(Channel::Watch(reader)) => {
                 if reader.would_wait(rt, &WCall::Changed(RxId(reader.number()))) {
@@ -397,6 +418,14 @@ impl<R: Wait + Clone> Desk for SharedDesk<R> {
                 }
             }
             TopicReceiver::Spent(_) => most,
+        }
+    }
+
+    fn send_ahead(&mut self, topic: TopicId, sender: &mut TopicSender, values: &[Value]) {
+        let SharedDesk { rt, sent, .. } = self;
+        match sender {
+            Channel::Broadcast(sender) => sent.send_ahead(rt, topic, sender, values),
+            Channel::Watch(_) => {}
         }
     }
 }

@@ -29,7 +29,7 @@ mod event;
 pub mod handles;
 mod new_handle;
 pub mod observer;
-mod received_ahead;
+mod receipts_ahead;
 mod registry;
 pub mod serve;
 mod shares;

@@ -1,6 +1,6 @@
 //! The events of a topic's handles: by the kind of its channel, each is what the kind's own handle does, with the receipt as
 //! one of the topic.
-ghost use Rattle.std.specs.Prelude.{◌≡◌, IfErr, IfOk, None, Ok, OnOk};
+ghost use Rattle.std.specs.Prelude.{◌≡◌, IfErr, IfOk, IfSome, None, Ok, OnOk};
 ghost use Rattle.th_log.specs.Replies.{broadcast_made_rx as made_broadcast_rx, broadcast_made_tx as made_broadcast_tx, made_by, watch_made_rx as made_watch_rx, watch_made_tx as made_watch_tx};
 ghost use Rattle.th_registry.specs.Events.{Asks, Binds, By, DropsRx, DropsTx, Ended, NewRx, NewTx, Receives as Received, Resubscribes, Sends as Sent, Subscribes, broadcast_made_rx, broadcast_made_tx, sender_of, watch_made_rx, watch_made_tx};
 ghost use Rattle.th_registry.specs.Hub.{On};
@@ -10,11 +10,13 @@ ghost use Rattle.th_shared.specs.Saying.{IsEvent, IsNumbered, MaySay, first};
 
 use crate::handles::{LiveReceiver, TopicOwner, TopicReceiver, TopicSender};
 use crate::new_handle::New;
-use crate::received_ahead::ReceivedAhead;
+use crate::receipts_ahead::ReceiptsAhead;
 use crate::{event, new_handle};
 use std::sync::Wait;
 use th_block::{Receives, Sends};
-use th_model::{BReply, Question, ReceiverVerb, RxId, SenderVerb, Short, Start, Value, WReply};
+use th_model::{
+    BReply, Question, ReceiverVerb, RxId, SenderVerb, Short, Start, TxId, Value, WReply,
+};
 use th_registry::channel::{HubBroadcast, HubWatch, TopicReceipt};
 use th_registry::{Channel, Made, NoEvent, TopicId, Unspent};
 use th_seats::Share;
@@ -34,6 +36,26 @@ pub(crate) fn send<R: Wait>(
         Channel::Broadcast(handle) => Channel::Broadcast(event::send(rt, topic, handle, verb)?),
         Channel::Watch(handle) => Channel::Watch(event::send(rt, topic, handle, verb)?),
     })
+}
+
+/// What a sender does, where it was done before.
+#[inline(always)]
+pub(crate) fn sent(
+    topic: TopicId,
+    ahead: &mut ReceiptsAhead,
+    handle: &TopicSender,
+    verb: &SenderVerb<Value>,
+) -> Option<TopicReceipt>
+    ensures { let event = Sent (sender handle.now) verb.now in
+        IfSome result (λ receipt. MaySay (On topic.0 event) (replied (Ok receipt))) }
+{
+    match handle {
+        Channel::Broadcast(handle) => {
+            let receipt = ahead.take_sent(topic, TxId(handle.number()), verb)?;
+            Some(Channel::Broadcast(receipt))
+        }
+        Channel::Watch(_) => None,
+    }
 }
 
 /// A question through a sender.
@@ -58,7 +80,7 @@ pub(crate) fn ask<R: Wait>(
 pub(crate) fn receive<R: Wait>(
     rt: &R,
     topic: TopicId,
-    ahead: &mut ReceivedAhead,
+    ahead: &mut ReceiptsAhead,
     handle: &mut LiveReceiver,
     verb: ReceiverVerb,
 ) -> Result<TopicReceipt, NoEvent>
@@ -68,10 +90,12 @@ pub(crate) fn receive<R: Wait>(
 {
     Ok(match handle {
         Channel::Broadcast(handle) => {
-            Channel::Broadcast(match ahead.take(topic, RxId(handle.number()), verb) {
-                Some(receipt) => receipt,
-                None => event::receive(rt, topic, handle, verb)?,
-            })
+            Channel::Broadcast(
+                match ahead.take_received(topic, RxId(handle.number()), verb) {
+                    Some(receipt) => receipt,
+                    None => event::receive(rt, topic, handle, verb)?,
+                },
+            )
         }
         Channel::Watch(handle) => Channel::Watch(event::receive(rt, topic, handle, verb)?),
     })
