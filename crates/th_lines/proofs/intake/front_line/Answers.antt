@@ -12,8 +12,11 @@ returns c ended more =
     let count : ℕ = c.in_ok-count.count in
     let part : List ℕ = take count bytes in
     let rest : List ℕ = drop (count + 1) bytes in
-    let lf : HasLfAt bytes count = lf_at bytes count c.in_ok-count.ensures.0.high c.in_ok-count.ensures.1 (λ j lt e. c.in_ok-count.ensures.0.before j (omega arith) lt e) in
-    let line : line_of true part ≡ Good c.in_ok-line.line.now = sym c.given.ensures ∙ ap (λ (r : Option (Bor (List ℕ))). line_given r) c.in_ok-line.was in
+    let lf : HasLfAt bytes count =
+    lf_at bytes count c.in_ok-count.ensures.0.high c.in_ok-count.ensures.1
+    (λ j lt e. c.in_ok-count.ensures.0.before j (omega arith) lt e) in
+    let line : line_of true part ≡ Good c.in_ok-line.line.now =
+    sym c.given.ensures ∙ ap (λ (r : Option (Bor (List ℕ))). line_given r) c.in_ok-line.was in
     ap (λ (l : List ℕ). lines_from ended [] (l ++ more)) lf.parts
     ∙ ap (λ (l : List ℕ). lines_from ended [] l) (append_assoc part (10 ∷ rest) more)
     ∙ lines_from-lf ended [] part (rest ++ more) lf.first

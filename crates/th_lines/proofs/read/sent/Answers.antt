@@ -19,7 +19,8 @@ returns-then-eq c =
     let t : List ℕ = c.args.t in
     let text : List ℕ = c.args.text.now in
     let value : List ℕ = c.args.value.now in
-    let same : text ≡ value = (bytes_eq-Decides text c.as_bytes.result.now).0 (sym c.eq.ensures ∙ c.if-eq.true) ∙ c.as_bytes.ensures.value in
+    let same : text ≡ value =
+    (bytes_eq-Decides text c.as_bytes.result.now).0 (sym c.eq.ensures ∙ c.if-eq.true) ∙ c.as_bytes.ensures.value in
     reads-after carries_value words (codes "PUB") c.args.word.now t (Some text) (λ (t : List ℕ). value_last (sending Send t))
     (Ok (sending Send t value)) refl c.requires (search rules) (search rules)
     (value-read (sending Send t) (Some text) value (value_is text value same c.as_bytes.ensures.form))

@@ -16,14 +16,22 @@ use Rattle.th_session.proofs.run.answer_in_time.Goals as goal
 pub returns-in_default : goal.returns-in_default
 returns-in_default g c =
     let answer : Answer = Replied (Refused Codes.LongLine) in
-    let P : Option (Bor (List ℕ)) → Type 0 = λ line. IsAnswered g.D.Desk.says (line_given line) (c.args.session.now, c.args.desk.now) answer (c.args.session.now, c.args.desk.now) in
+    let P : Option (Bor (List ℕ)) → Type 0 =
+    λ line.
+    IsAnswered g.D.Desk.says (line_given line) (c.args.session.now, c.args.desk.now) answer (c.args.session.now, c.args.desk.now) in
     ((answer, refl, subst P (sym c.in_default.is) (refl, refl)), adds_none _)
 
 pub returns-in-Err : goal.returns-in-Err
 returns-in-Err g c =
     let answer : Answer = refused c.in-Err.fault in
-    let P : Option (Bor (List ℕ)) → Type 0 = λ line. IsAnswered g.D.Desk.says (line_given line) (c.args.session.now, c.args.desk.now) answer (c.args.session.now, c.args.desk.now) in
-    let bad = refused_line g.D.Desk.says c.args.session.now c.args.desk.now (command_of c.in-Some.bytes.now) c.in-Err.fault c.in-Err.ensures.read in
+    let P : Option (Bor (List ℕ)) → Type 0 =
+    λ line.
+    IsAnswered g.D.Desk.says (line_given line) (c.args.session.now, c.args.desk.now) answer (c.args.session.now, c.args.desk.now) in
+    let bad =
+    refused_line g.D.Desk.says c.args.session.now c.args.desk.now
+    (command_of c.in-Some.bytes.now) c.in-Err.fault c.in-Err.ensures.read in
     let at : List ℕ → Output = λ waiting. output g.W.Write.contents c.args.writer.now waiting in
-    let none = subst (λ (waiting : List ℕ). Adds [] (at c.args.replies.now) (at waiting)) (sym c.read.ensures.same) (adds_none (at c.args.replies.now)) in
+    let none =
+    subst (λ (waiting : List ℕ). Adds [] (at c.args.replies.now) (at waiting)) (sym c.read.ensures.same)
+    (adds_none (at c.args.replies.now)) in
     ((answer, c.refused.ensures, subst P (sym c.in-Some.is) bad), none)
