@@ -191,7 +191,8 @@ impl Hub {
         let Some((_, session)) = self.actors.get_index(place) else {
             return out.append(writer, &Reply::Refused(Code::NotHeld));
         };
-        quiet::carry_out(session, &mut self.desk.topics, name, own, out, writer)
+        let desk = &mut self.desk;
+        quiet::carry_out(session, &mut desk.topics, name, own, out, writer)
     }
 
     // Carries out any command of the actor at this place, who is gone where it has quit. That takes time with the number of
