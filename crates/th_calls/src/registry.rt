@@ -7,11 +7,11 @@ use th_model::{
     TxId, Value, WCall,
 };
 use th_registry::calls::{answers, receives, sends, starts};
-use th_registry::channel::{TopicReceipt, TopicSegment};
+use th_registry::channel::{LocalChannel, TopicReceipt, TopicSegment};
 use th_registry::recorded::Recorded;
 use th_registry::topics::list;
 use th_registry::{
-    BadLimit, Desk, Found, LocalDesk, Made, NoEvent, Refusal, TopicId, Unspent, keep, laws,
+    BadLimit, Desk, Found, LocalDesk, Made, NoEvent, Refusal, TopicId, Unspent, laws,
 };
 use th_watch::Watch;
 
@@ -53,7 +53,7 @@ pub fn keep_call(log: &mut Recorded<Watch<u64>>, call: WCall<u64>) -> Result<(),
 }
 
 pub fn keep_or_say_why(log: &mut Recorded<Watch<u64>>, call: WCall<u64>) -> Result<(), NoEvent> {
-    keep(log, Some(call))
+    th_registry::keep(log, Some(call))
 }
 
 pub fn cut(log: &mut Recorded<Watch<u64>>) -> Result<Segment<Watch<u64>>, Short<()>> {
