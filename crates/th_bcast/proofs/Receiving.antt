@@ -21,8 +21,7 @@ module _ {T : Type 0} (p : Picture T) (s : IsSound p) (rx : RxId) where
   at i here = ap (λ o. at_place p o (receive p rx.0)) here
 
   reads : (i : ℕ) → IsToRead p.window rx.0 i
-      → receive p rx.0 i
-      ≡ (value_reply (slice_get p.window.kept (i - p.window.low)), with_window p (placed p.window rx.0 (i + 1)))
+      → receive p rx.0 i ≡ (value_reply (slice_get p.window.kept (i - p.window.low)), with_window p (placed p.window rx.0 (i + 1)))
   reads i r =
       let before : i < p.window.tail = r.sent in
       let inside : p.window.tail - p.window.capacity ≤ i = r.in_window in

@@ -14,8 +14,7 @@ module _ {C R : Type 0} where
   row_on : (old : Known) (call : C) (place : ℕ) (rs : List (Told C R)) (r : Told C R) → IsRow old call place rs
       → Tells old call r → r.place ≡ place + length rs → IsRow old call place (rs ++ r ∷ [])
   row_on old call place [] r row tells there = (tells, there ∙ omega arith, tt)
-  row_on old call place (x ∷ xs) r row tells there =
-      (row.0, row.1, row_on old call (place + 1) xs r row.2 tells (there ∙ omega arith))
+  row_on old call place (x ∷ xs) r row tells there = (row.0, row.1, row_on old call (place + 1) xs r row.2 tells (there ∙ omega arith))
 
   pub none_yet : (old : Known) (call : C) (first : ℕ) (rs : List (Told C R)) → rs ≡ [] → EnteredInRow old old call first first rs
   none_yet old call first rs none = subst (λ (l : List (Told C R)). EnteredInRow old old call first first l) (sym none) (record {

@@ -76,8 +76,7 @@ module _ {E S C R : Type 0} (m : Machine E S C R) (words : Words C R) where
 one_does : (here : Point) (line : Line) (t u : Turn Point) → Does here line t → Does here line u → t ≡ u
 one_does here Long t u p q = p ∙ sym q
 one_does (InPicture place) (Good line) t u p q = p ∙ sym q
-one_does (InBroadcast version stage) (Good line) t u p q =
-    p.2 ∙ ap (λ (a : Turn BroadcastStage). lifted (InBroadcast version) a)
+one_does (InBroadcast version stage) (Good line) t u p q = p.2 ∙ ap (λ (a : Turn BroadcastStage). lifted (InBroadcast version) a)
     (one_turn machines.broadcast (words_of_broadcast version) stage line p.0 q.0 p.1 q.1) ∙ sym q.2
 one_does (InWatch stage) (Good line) t u p q =
     p.2 ∙ ap (λ (a : Turn WatchStage). lifted InWatch a) (one_turn watch_machine words_of_watch stage line p.0 q.0 p.1 q.1) ∙ sym q.2
@@ -137,8 +136,7 @@ one_of n lines v w later Illegal p q = p ∙ sym q
 
 one_says : (here : Point) (n : ℕ) (lines : List Line) (v w : Verdict) → Says here n lines v → Says here n lines w → v ≡ w
 one_says here n [] v w p q = one_end (ended_with here) n v w p q
-one_says here n (line ∷ lines) v w p q =
-    one_of n lines v w (λ next. one_says next (n + 1) lines v w) p.0 p.2
+one_says here n (line ∷ lines) v w p q = one_of n lines v w (λ next. one_says next (n + 1) lines v w) p.0 p.2
     (subst (λ (t : Turn Point). SaysOf t (λ next. Says next (n + 1) lines w) n w) (one_does here line q.0 p.0 q.1 p.1) q.2)
 
 -- what is said is so, and what is so is said
@@ -184,11 +182,9 @@ so_said lines (verdict.BadTrace number) h =
 end_so : (before : List Line) (here : Point) → Leads start before here → (o : Option ℕ) → ended_with here ≡ o → (v : Verdict) →
     EndOf o (length before) v
     → IsSo (before ++ []) v
-end_so before here led (Some count) e v p =
-    subst (λ (w : Verdict). IsSo (before ++ []) w) (sym p)
+end_so before here led (Some count) e v p = subst (λ (w : Verdict). IsSo (before ++ []) w) (sym p)
     (record { end = here; led = subst (λ (l : List Line). Leads start l here) (sym (append-nil before)) led; ended = e })
-end_so before here led None e v p =
-    subst (λ (w : Verdict). IsSo (before ++ []) w) (sym p)
+end_so before here led None e v p = subst (λ (w : Verdict). IsSo (before ++ []) w) (sym p)
     (record { before = before; rest = []; parts = refl; here = here; led = led; bad = e; counted = refl })
 
 turn_so : (before : List Line) (here : Point) → Leads start before here → (line : Line) (rest : List Line) (v : Verdict)
@@ -196,19 +192,16 @@ turn_so : (before : List Line) (here : Point) → Leads start before here → (l
     → (t : Turn Point) → Does here line t → SaysOf t (λ next. Says next (length before + 1) rest v) (length before) v →
     IsSo (before ++ line ∷ rest) v
 turn_so before here led line rest v later (On next) d p = later next (leads-append start here next before (line ∷ []) led (next, d, refl)) p
-turn_so before here led line rest v later Bad d p =
-    subst (λ (w : Verdict). IsSo (before ++ line ∷ rest) w) (sym p)
+turn_so before here led line rest v later Bad d p = subst (λ (w : Verdict). IsSo (before ++ line ∷ rest) w) (sym p)
     (record { before = before; rest = line ∷ rest; parts = refl; here = here; led = led; bad = d; counted = refl })
-turn_so before here led line rest v later Illegal d p =
-    subst (λ (w : Verdict). IsSo (before ++ line ∷ rest) w) (sym p)
+turn_so before here led line rest v later Illegal d p = subst (λ (w : Verdict). IsSo (before ++ line ∷ rest) w) (sym p)
     (record { before = before; line = line; later = rest; parts = refl; here = here; led = led; illegal = d; counted = refl })
 
 said_so : (before : List Line) (here : Point) → Leads start before here → (rest : List Line) (v : Verdict) →
     Says here (length before) rest v
     → IsSo (before ++ rest) v
 said_so before here led [] v p = end_so before here led (ended_with here) refl v p
-said_so before here led (line ∷ rest) v p =
-    turn_so before here led line rest v
+said_so before here led (line ∷ rest) v p = turn_so before here led line rest v
     (λ next on later.
     let more : length (before ++ line ∷ []) ≡ length before + 1 = omega (arith, length-append before (line ∷ [])) in
     subst (λ (l : List Line). IsSo l v) (append_assoc before (line ∷ []) rest)

@@ -72,12 +72,6 @@ takes_watch (InPicture place) held new line result h s = absurd s
 takes_watch (InBroadcast told stage) held new line result h s = absurd s
 takes_watch (InWatch stage) held new line result h s = in_watch stage line new result (h stage s)
 
-pub takes_picture : (here : Point) (draft : Place) (line : List ℕ) (result : Result Spot Stop)
-    → Takes (InPicture draft) (Good line) result → Holds here (spot.InPicture draft) → Takes here (Good line) result
-takes_picture (InPicture place) draft line result h s = subst (λ (p : Place). Takes (InPicture p) (Good line) result) s h
-takes_picture (InBroadcast told stage) draft line result h s = absurd s
-takes_picture (InWatch stage) draft line result h s = absurd s
-
 -- a line that is too long
 pub too_long : (here : Point) → Takes here Long (Err stop.Bad)
 too_long here = refl

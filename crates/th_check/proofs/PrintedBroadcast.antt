@@ -8,7 +8,7 @@ use Rattle.std.specs.Map.{keys_of}
 use Rattle.th_model.specs.declared.broadcast.BCall.{BCall}
 use Rattle.th_model.specs.declared.broadcast.BCall.TheVariants.{Send, TryRecv, Recv, Subscribe, SubscribeOldest, Resubscribe, CloneTx, DropTx, DropRx, Queued, Left, Readers}
 use Rattle.th_model.specs.declared.broadcast.BReply.{BReply}
-use Rattle.th_model.specs.declared.broadcast.BReply.TheVariants.{Sent, NoReceivers, Exhausted, Value, Empty, Closed, Lagged, NewRx, NewTx, Count, Done, TooMany, NoHandle}
+use Rattle.th_model.specs.declared.broadcast.BReply.TheVariants.{Sent, Value, Empty, Closed, Lagged, NewRx, NewTx, Count}
 use Rattle.th_model.specs.BroadcastMachine.{Endless, at_index, receive, step, tail_of, value_reply, window_of}
 use Rattle.th_model.specs.BroadcastPicture.{IsSound, Picture, whole}
 use Rattle.th_model.specs.Handles.{is_full, is_sender}
@@ -55,19 +55,15 @@ call_plain (Left k) h = number_said (codes "C ") (codes "left") refl refl k.0 h
 call_plain (Readers k) h = number_said (codes "C ") (codes "readers") refl refl k.0 h
 
 reply_plain : (reply : BReply Bytes) → ReplyFits reply → IsLine (reply_line (reply_fields reply))
-reply_plain (Sent n) h = number_said (codes "R ") (codes "sent") refl refl n h
-reply_plain (NoReceivers v) h = word 4096 (reply_line (codes "no-receivers" ∷ [])) refl
-reply_plain (Exhausted v) h = word 4096 (reply_line (codes "exhausted" ∷ [])) refl
-reply_plain (Value v) h = last_said (codes "R ") (codes "value") refl refl v (value v h)
-reply_plain Empty h = word 4096 (reply_line (codes "empty" ∷ [])) refl
-reply_plain Closed h = word 4096 (reply_line (codes "closed" ∷ [])) refl
-reply_plain (Lagged n) h = number_said (codes "R ") (codes "lagged") refl refl n h
-reply_plain (NewRx k) h = number_said (codes "R ") (codes "new-rx") refl refl k.0 h
-reply_plain (NewTx k) h = number_said (codes "R ") (codes "new-tx") refl refl k.0 h
-reply_plain (Count n) h = number_said (codes "R ") (codes "count") refl refl n h
-reply_plain Done h = word 4096 (reply_line (codes "done" ∷ [])) refl
-reply_plain TooMany h = word 4096 (reply_line (codes "too-many" ∷ [])) refl
-reply_plain (NoHandle back) h = word 4096 (reply_line (codes "no-handle" ∷ [])) refl
+reply_plain reply = elim reply as (λ reply. ReplyFits reply → IsLine (reply_line (reply_fields reply))) [
+  | Sent n ↦ λ h. number_said (codes "R ") (codes "sent") refl refl n h
+  | Value v ↦ λ h. last_said (codes "R ") (codes "value") refl refl v (value v h)
+  | Lagged n ↦ λ h. number_said (codes "R ") (codes "lagged") refl refl n h
+  | NewRx k ↦ λ h. number_said (codes "R ") (codes "new-rx") refl refl k.0 h
+  | NewTx k ↦ λ h. number_said (codes "R ") (codes "new-tx") refl refl k.0 h
+  | Count n ↦ λ h. number_said (codes "R ") (codes "count") refl refl n h
+  | _ ↦ λ h. word 4096 _ refl
+]
 
 -- the lines of a picture
 standing_plain : (next tail : ℕ) → next < 2 ^ 64 → tail < 2 ^ 64 → (places : Places)
@@ -110,18 +106,8 @@ picture_told version p s values =
 -- the version has each of the calls
 two_stays : (calls : List (BCall Bytes)) → version_from Two calls ≡ Two
 two_stays [] = refl
-two_stays (SubscribeOldest tx ∷ calls) = two_stays calls
-two_stays (Send tx v ∷ calls) = two_stays calls
-two_stays (TryRecv rx ∷ calls) = two_stays calls
-two_stays (Recv rx ∷ calls) = two_stays calls
-two_stays (Subscribe tx ∷ calls) = two_stays calls
-two_stays (Resubscribe rx ∷ calls) = two_stays calls
-two_stays (CloneTx tx ∷ calls) = two_stays calls
-two_stays (DropTx tx ∷ calls) = two_stays calls
-two_stays (DropRx rx ∷ calls) = two_stays calls
-two_stays (Queued tx ∷ calls) = two_stays calls
-two_stays (Left rx ∷ calls) = two_stays calls
-two_stays (Readers tx ∷ calls) = two_stays calls
+two_stays (call ∷ calls) = elim call as (λ call. version_from Two (call ∷ calls) ≡ Two)
+    [ SubscribeOldest tx ↦ two_stays calls | _ ↦ two_stays calls ]
 
 either : (version : Version) (call : BCall Bytes) → has_call One call ≡ true → has_call version call ≡ true
 either One call h = h
@@ -129,18 +115,11 @@ either Two call h = refl
 
 first_has : (version : Version) (call : BCall Bytes) (calls : List (BCall Bytes))
     → has_call (version_from (version_with version call) calls) call ≡ true
-first_has version (SubscribeOldest tx) calls = ap (λ (v : Version). has_call {T = Bytes} v (SubscribeOldest tx)) (two_stays calls)
-first_has version (Send tx v) calls = either (version_from version calls) (Send tx v) refl
-first_has version (TryRecv rx) calls = either (version_from version calls) (TryRecv rx) refl
-first_has version (Recv rx) calls = either (version_from version calls) (Recv rx) refl
-first_has version (Subscribe tx) calls = either (version_from version calls) (Subscribe tx) refl
-first_has version (Resubscribe rx) calls = either (version_from version calls) (Resubscribe rx) refl
-first_has version (CloneTx tx) calls = either (version_from version calls) (CloneTx tx) refl
-first_has version (DropTx tx) calls = either (version_from version calls) (DropTx tx) refl
-first_has version (DropRx rx) calls = either (version_from version calls) (DropRx rx) refl
-first_has version (Queued tx) calls = either (version_from version calls) (Queued tx) refl
-first_has version (Left rx) calls = either (version_from version calls) (Left rx) refl
-first_has version (Readers tx) calls = either (version_from version calls) (Readers tx) refl
+first_has version call calls =
+    elim call as (λ call. has_call (version_from (version_with version call) calls) call ≡ true) [
+      | SubscribeOldest tx ↦ ap (λ (v : Version). has_call {T = Bytes} v (SubscribeOldest tx)) (two_stays calls)
+      | _ ↦ either (version_from version calls) _ refl
+    ]
 
 abbrev calls_of : {R : Type 0} → List (BCall Bytes × R) → List (BCall Bytes)
 calls_of entries = map (λ e. e.0) entries

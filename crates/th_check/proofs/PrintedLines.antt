@@ -49,16 +49,14 @@ not_cut : (bytes : List ℕ) → list_all is_value_byte bytes ≡ true → ends_
 not_cut bytes h = and_false _ _ (no_cr bytes (length bytes - 1) h)
 
 read_again : (line : Bytes) → IsLine line → line_of true line ≡ Good line
-read_again line p =
-    ap (λ (b : Bool). cond b Long (Good (cond (ends_with_byte 13 line) (take (length line - 1) line) line)))
+read_again line p = ap (λ (b : Bool). cond b Long (Good (cond (ends_with_byte 13 line) (take (length line - 1) line) line)))
     (le-ltb 4096 (length line) p.short)
     ∙ ap (λ (b : Bool). Good (cond b (take (length line - 1) line) line)) (not_cut line p.free)
 
 -- the lines of a text
 pub lines_again : (lines : List Bytes) → AllByRecursion IsLine lines → lines_of (text lines) ≡ map Good lines
 lines_again [] h = refl
-lines_again (l ∷ ls) h =
-    ap lines_of (append_assoc l (10 ∷ []) (text ls))
+lines_again (l ∷ ls) h = ap lines_of (append_assoc l (10 ∷ []) (text ls))
     ∙ at_lf true l (text ls) (no_lf l h.0.free)
     ∙ ap₂ (λ (x : Line) (xs : List Line). x ∷ xs) (read_again l h.0) (lines_again ls h.1)
 

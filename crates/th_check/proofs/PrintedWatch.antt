@@ -10,7 +10,7 @@ use Rattle.th_model.specs.declared.watch.Edit.TheVariants.{Set, Differ, Quiet}
 use Rattle.th_model.specs.declared.watch.WCall.{WCall}
 use Rattle.th_model.specs.declared.watch.WCall.TheVariants.{Send, Replace, EditBy, Borrow, Take, HasChanged, TryChanged, Changed, MarkChanged, MarkUnchanged, Subscribe, CloneRx, CloneTx, DropTx, DropRx, IsClosed, Readers}
 use Rattle.th_model.specs.declared.watch.WReply.{WReply}
-use Rattle.th_model.specs.declared.watch.WReply.TheVariants.{Done, NoReceivers, Exhausted, Was, Modified, Shown, Marked, NotYet, Closed, Gone, NewRx, NewTx, Count, TooMany, NoHandle}
+use Rattle.th_model.specs.declared.watch.WReply.TheVariants.{Done, Was, Modified, Shown, NotYet, Closed, Gone, NewRx, NewTx, Count}
 use Rattle.th_model.specs.declared.watch.WReply.TheVariants as reply
 use Rattle.th_model.specs.WatchMachine.{Endless, Kept, at_mark, changed, is_unseen, open_reply, publish, reader_of, step, subscribe, version_of}
 use Rattle.th_model.specs.WatchPicture.{IsSound, Picture, whole}
@@ -60,31 +60,22 @@ call_plain (IsClosed k) h = number_said (codes "C ") (codes "is-closed") refl re
 call_plain (Readers k) h = number_said (codes "C ") (codes "readers") refl refl k.0 h
 
 shown_plain : (name v : Bytes) → IsPlain 1024 name → IsValue v → IsLine (reply_line (codes "shown" ∷ name ∷ v ∷ []))
-shown_plain name v n h =
-    marked (codes "R ") 1024 (codes "shown" ∷ name ∷ v ∷ []) (word 2 (codes "R ") refl)
+shown_plain name v n h = marked (codes "R ") 1024 (codes "shown" ∷ name ∷ v ∷ []) (word 2 (codes "R ") refl)
     (word 1024 (codes "shown") refl, (n, (value v h, tt))) (omega arith)
 
 reply_plain : (reply : WReply Bytes) → ReplyFits reply → IsLine (reply_line (reply_fields reply))
-reply_plain Done h = word 4096 (reply_line (codes "done" ∷ [])) refl
-reply_plain (NoReceivers v) h = word 4096 (reply_line (codes "no-receivers" ∷ [])) refl
-reply_plain (Exhausted v) h = word 4096 (reply_line (codes "exhausted" ∷ [])) refl
-reply_plain (Was v) h = last_said (codes "R ") (codes "was") refl refl v (value v h)
-reply_plain (Modified true) h = word 4096 (reply_line (codes "modified" ∷ codes "yes" ∷ [])) refl
-reply_plain (Modified false) h = word 4096 (reply_line (codes "modified" ∷ codes "no" ∷ [])) refl
-reply_plain (Shown v true) h = shown_plain (codes "new") v (word 1024 (codes "new") refl) h
-reply_plain (Shown v false) h = shown_plain (codes "same") v (word 1024 (codes "same") refl) h
-reply_plain (reply.Changed true) h = word 4096 (reply_line (codes "changed" ∷ codes "yes" ∷ [])) refl
-reply_plain (reply.Changed false) h = word 4096 (reply_line (codes "changed" ∷ codes "no" ∷ [])) refl
-reply_plain Marked h = word 4096 (reply_line (codes "marked" ∷ [])) refl
-reply_plain NotYet h = word 4096 (reply_line (codes "not-yet" ∷ [])) refl
-reply_plain Closed h = word 4096 (reply_line (codes "closed" ∷ [])) refl
-reply_plain (Gone true) h = word 4096 (reply_line (codes "gone" ∷ codes "yes" ∷ [])) refl
-reply_plain (Gone false) h = word 4096 (reply_line (codes "gone" ∷ codes "no" ∷ [])) refl
-reply_plain (NewRx k) h = number_said (codes "R ") (codes "new-rx") refl refl k.0 h
-reply_plain (NewTx k) h = number_said (codes "R ") (codes "new-tx") refl refl k.0 h
-reply_plain (Count n) h = number_said (codes "R ") (codes "count") refl refl n h
-reply_plain TooMany h = word 4096 (reply_line (codes "too-many" ∷ [])) refl
-reply_plain (NoHandle back) h = word 4096 (reply_line (codes "no-handle" ∷ [])) refl
+reply_plain said = elim said as (λ r. ReplyFits r → IsLine (reply_line (reply_fields r))) [
+  | Was v ↦ λ h. last_said (codes "R ") (codes "was") refl refl v (value v h)
+  | Shown v true ↦ λ h. shown_plain (codes "new") v (word 1024 (codes "new") refl) h
+  | Shown v false ↦ λ h. shown_plain (codes "same") v (word 1024 (codes "same") refl) h
+  | NewRx k ↦ λ h. number_said (codes "R ") (codes "new-rx") refl refl k.0 h
+  | NewTx k ↦ λ h. number_said (codes "R ") (codes "new-tx") refl refl k.0 h
+  | Count n ↦ λ h. number_said (codes "R ") (codes "count") refl refl n h
+  | Modified true ↦ λ h. word 4096 _ refl
+  | reply.Changed true ↦ λ h. word 4096 _ refl
+  | Gone true ↦ λ h. word 4096 _ refl
+  | _ ↦ λ h. word 4096 _ refl
+]
 
 -- the lines of a picture
 state_plain : (unseen : Bool) → IsPlain 1024 (seen_or_unseen unseen)
@@ -145,8 +136,7 @@ module _ (eq : Bytes → Bytes → Bool) where
   gives e (EditBy tx (Quiet v)) = chosen (HandsBack (EditBy tx (Quiet v))) (is_sender e.senders tx.0) _ _ tt refl
   gives e (Borrow rx) = marked_by (Borrow rx) e (reader_of e.marks rx.0) _ refl (λ mark. tt)
   gives e (Take rx) = marked_by (Take rx) e (reader_of e.marks rx.0) _ refl (λ mark. tt)
-  gives e (HasChanged rx) =
-      marked_by (HasChanged rx) e (reader_of e.marks rx.0) _ refl
+  gives e (HasChanged rx) = marked_by (HasChanged rx) e (reader_of e.marks rx.0) _ refl
       (λ mark. opened (HasChanged rx) e.senders (reply.Changed (is_unseen e mark)) tt)
   gives e (TryChanged rx) = marked_by (TryChanged rx) e (reader_of e.marks rx.0) _ refl (waited (TryChanged rx) e rx.0)
   gives e (Changed rx) = marked_by (Changed rx) e (reader_of e.marks rx.0) _ refl (waited (Changed rx) e rx.0)

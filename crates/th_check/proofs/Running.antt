@@ -1,5 +1,5 @@
 -- How a check goes on, line after line, and what comes of it.
-use Rattle.std.proofs.Common.{◌≡◌, ℕ, ◌+◌, ◌*◌, ◌≤◌, ◌<◌, ◌^◌, Bool, true, false, cond, eqb, List, [], ◌∷◌, ◌++◌, length, refl, sym, ap, ◌∙◌, append_assoc, append-nil, arith, length-append, subst, Option, Ok, Err}
+use Rattle.std.proofs.Common.{◌≡◌, ℕ, ◌+◌, ◌≤◌, ◌<◌, ◌^◌, Bool, true, false, cond, eqb, List, [], ◌∷◌, ◌++◌, length, refl, sym, ap, ◌∙◌, append_assoc, append-nil, arith, length-append, subst, Option, Ok, Err}
 use Rattle.std.specs.Prelude.{IfErr, IfOk, Result}
 use Rattle.std.specs.Io.KnownBytes.{IsAtEnd}
 use Rattle.std.proofs.lemmas.Bool.{false≢true}
@@ -13,15 +13,14 @@ use Rattle.th_lines.specs.declared.feeder.Fed.TheVariants as why
 use Rattle.th_lines.proofs.LineLemmas.{last_line-none}
 use Rattle.th_traces.specs.declared.place.Place.TheVariants.{Nothing}
 use Rattle.th_check.specs.declared.fault.CheckFault.{CheckFault}
-use Rattle.th_check.specs.declared.fault.CheckFault.TheVariants as fault
 use Rattle.th_check.specs.declared.fault.Stop.{Stop}
 use Rattle.th_check.specs.declared.fault.Stop.TheVariants as stop
 use Rattle.th_check.specs.declared.point.Spot.{Spot}
 use Rattle.th_check.specs.declared.point.Spot.TheVariants as spot
 use Rattle.th_check.specs.declared.verdict.Verdict.{Verdict}
 use Rattle.th_check.specs.declared.verdict.Verdict.TheVariants as verdict
-use Rattle.th_check.specs.Checked.{Checked, IsGoodSoFar, Stopped, within_most}
-use Rattle.th_check.specs.Judging.{Concludes, EndSays, Halts, HaltsAt, Holds, IsReached, Passes, Reached, StopsAt, Takes, taken}
+use Rattle.th_check.specs.Checked.{Checked, IsGoodSoFar, Stopped}
+use Rattle.th_check.specs.Judging.{Concludes, EndSays, Halts, Holds, IsReached, Passes, Reached, StopsAt, Takes, taken}
 use Rattle.th_check.specs.Points.{Point, start}
 use Rattle.th_check.specs.Verdicts.{IsSo, Leads}
 
@@ -145,8 +144,7 @@ module _ (r r' : Option (List ℕ)) where
     pub stands_so : (x : Spot) (fed : Fed Stop) → x ≡ spot.InPicture Nothing →
         Feeds Passes Halts IsReached r r' calls calls' n (x, tt, tt) fed f now
         → Stands Passes Halts r r' first IsReached (kept_count calls' ≡ kept_count (calls + n)) n fed f now
-    stands_so x fed e h =
-        subst (λ (y : Spot). Passes (y, tt, tt) [] (y, tt, tt) →
+    stands_so x fed e h = subst (λ (y : Spot). Passes (y, tt, tt) [] (y, tt, tt) →
         Stands Passes Halts r r' (y, tt, tt) IsReached (kept_count calls' ≡ kept_count (calls + n)) n fed f now) e h
         (λ here held. (here, refl, held))
 
@@ -170,8 +168,7 @@ module _ (r r' : Option (List ℕ)) where
           here = here;
           led = led;
           illegal = stops.illegal;
-          counted =
-              count;
+          counted = count;
         }))
     says_so (why.Stopped stop.Short) (Ok said) s c = absurd c
     says_so why.Full (Ok said) s c = absurd c

@@ -26,8 +26,7 @@ abbrev ends : Table ℕ
 ends = (codes "END", number_last (λ (n : ℕ). n)) ∷ []
 
 pub end_found : (line : List ℕ) (n : ℕ) → end_of line ≡ Some n → line ≡ end_line n
-end_found line n h =
-    by_table-found SpellsEnd ends
+end_found line n h = by_table-found SpellsEnd ends
     (table-finds SpellsEnd ends (number_last-finds SpellsEnd (codes "END") (λ n. n) (λ n s. refl) & tt)) line n h
 
 pub end_again : (n : ℕ) → n < 2 ^ 64 → end_of (end_line n) ≡ Some n
@@ -93,8 +92,7 @@ module _ {E S C R : Type 0} (m : Machine E S C R) (words : Words C R) (IsCall : 
 
   -- what a line was where a call was due
   abbrev Begins : E → ℕ → Option C → Option ℕ → Stage E C → Type 0
-  Begins state before said told stage =
-      ((call : C) × (said ≡ Some call) × (before < most_entries) × (stage ≡ ReplyDue state before call))
+  Begins state before said told stage = ((call : C) × (said ≡ Some call) × (before < most_entries) × (stage ≡ ReplyDue state before call))
       ⊎ ((told ≡ Some before) × (stage ≡ Ended before))
 
   module _ (state : E) (before : ℕ) (stage : Stage E C) where
@@ -197,8 +195,7 @@ module _ {E S C R : Type 0} (m : Machine E S C R) (words : Words C R) (IsCall : 
         (ended : (stage : Stage E C) → ended_with (point stage) ≡ ended_stage stage) where
       pub lines_below : (stage : Stage E C) → Fits stage → (lines : List Line) (there : Point) → Leads (point stage) lines there
           → (count : ℕ) → ended_with there ≡ Some count → (left : List Bytes) × (lines ≡ map Good left) × Below stage left count
-      lines_below stage f [] there led count e =
-          ([], refl, nothing_below stage count (sym (ended stage) ∙ ap ended_with (sym led) ∙ e))
+      lines_below stage f [] there led count e = ([], refl, nothing_below stage count (sym (ended stage) ∙ ap ended_with (sym led) ∙ e))
       lines_below stage f (Long ∷ lines) there led count e = on_bad led.0 led.1
       lines_below stage f (Good line ∷ lines) there led count e =
           let d = does_on stage line led.0 led.1 in
@@ -214,8 +211,7 @@ module _ {E S C R : Type 0} (m : Machine E S C R) (words : Words C R) (IsCall : 
           ∙ ap (λ (b : Bool). cond b (Some (ReplyDue state before call)) None) (lt-ltb before most_entries low)
 
       end_turn : (state : E) (count : ℕ) → count ≤ most_entries → Turns m words (CallDue state count) (end_line count) (On (Ended count))
-      end_turn state count few =
-          ap (λ (o : Option C). begins m words state count o (end_of (end_line count))) (no_call count)
+      end_turn state count few = ap (λ (o : Option C). begins m words state count o (end_of (end_line count))) (no_call count)
           ∙ ap (λ (o : Option ℕ). begins m words state count None o) (end_again count (omega (arith, few)))
           ∙ ap (λ (b : Bool). cond b (Some (Ended count)) None) (eq-eqb count count refl)
 
@@ -232,7 +228,8 @@ module _ {E S C R : Type 0} (m : Machine E S C R) (words : Words C R) (IsCall : 
           )
       entries_lead state before (e ∷ es) count run each counted most =
           let low : before < most_entries = omega (arith, counted, most) in
-          let says : SaysReply m words state e.0 (reply_line (reply_fields e.1)) = (run.0, reply_again e.0 e.1 each.0.1 ∙ ap Some run.1) in (
+          let says : SaysReply m words state e.0 (reply_line (reply_fields e.1)) =
+          (run.0, reply_again e.0 e.1 each.0.1 ∙ ap Some run.1) in (
             point (ReplyDue state before e.0),
             on_does (CallDue state before) (call_line (call_fields e.0)) (ReplyDue state before e.0)
                 (call_turn state before e.0 each.0.0 low),

@@ -80,8 +80,7 @@ module _ (version : Version) where
       (broadcast_words.IsCall version) broadcast_words.IsReplyTo broadcast.call_fields broadcast.reply_fields
       (broadcast_spelling.call_of-found version)
       (broadcast_spelling.call_of-again version) broadcast_spelling.reply_of-found broadcast_spelling.reply_of-again
-      (no_broadcast_call version)
-      at (broadcast_on version) (λ stage line next t. (On next, t, refl)) (λ stage. refl)
+      (no_broadcast_call version) at (broadcast_on version) (λ stage line next t. (On next, t, refl)) (λ stage. refl)
       (CallDue state 0) (omega arith) lines there led count e in (
         b.0,
         b.1,
@@ -92,8 +91,7 @@ module _ (version : Version) where
   broadcast_leads : (p : broadcast_picture.Picture Bytes) (lines : List Bytes) (count : ℕ) →
       HasHistory (head.Broadcast version) (picture.Broadcast p) lines count
       → Leads (at (CallDue (broadcast_picture.whole p) 0)) (map Good lines) (at (Ended count))
-  broadcast_leads p lines count h =
-      telling.history_leads machines.broadcast (words_of_broadcast version)
+  broadcast_leads p lines count h = telling.history_leads machines.broadcast (words_of_broadcast version)
       (broadcast_words.IsCall version) broadcast_words.IsReplyTo broadcast.call_fields broadcast.reply_fields
       (broadcast_spelling.call_of-found version)
       (broadcast_spelling.call_of-again version) broadcast_spelling.reply_of-found broadcast_spelling.reply_of-again
@@ -112,7 +110,8 @@ watch_below p lines there led count e =
     (CallDue state 0) (omega arith) lines there led count e in (
       b.0,
       b.1,
-      telling.history_of watch_machine words_of_watch watch_words.IsCall watch_words.IsReplyTo watch.call_fields watch.reply_fields state b.0 count b.2,
+      telling.history_of watch_machine words_of_watch watch_words.IsCall watch_words.IsReplyTo watch.call_fields watch.reply_fields state
+          b.0 count b.2,
     )
 
 watch_leads : (p : watch_picture.Picture Bytes) (lines : List Bytes) (count : ℕ) → HasHistory head.Watch (picture.Watch p) lines count
@@ -198,8 +197,7 @@ module _ (place : Place) (line : Bytes) (front : List Bytes) (h : Head) (p : Pic
   last_line : (h' : Head) (p' : Picture) → step place line ≡ Some (pictures.Begun h' p') → (front : List Bytes)
       → goes_on (Some (pictures.Begun h' p')) front (λ n. leads n front) ≡ Some (pictures.Begun h p) →
       Leads (InPicture place) (map Good (line ∷ front)) there
-  last_line h' p' is [] g =
-      (there, sym (ap picture_turn (is ∙ g) ∙ on), refl)
+  last_line h' p' is [] g = (there, sym (ap picture_turn (is ∙ g) ∙ on), refl)
   last_line h' p' is (x ∷ xs) g = absurd (none-some _ g)
 
   next_line : (later : (next : Place) → leads next front ≡ Some (pictures.Begun h p) → Leads (InPicture next) (map Good front) there)

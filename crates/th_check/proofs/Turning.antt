@@ -1,7 +1,7 @@
 -- One line below a picture.
-use Rattle.std.proofs.Common.{◌≡◌, ℕ, ◌+◌, ◌<◌, ◌≤◌, Bool, true, false, cond, List, refl, sym, ap, ◌∙◌, subst, Option, Some, None, Ok, Err}
+use Rattle.std.proofs.Common.{◌≡◌, ℕ, ◌+◌, ◌<◌, Bool, true, false, cond, List, refl, sym, ap, ◌∙◌, subst, Option, Some, None, Ok, Err}
 use Rattle.std.specs.Prelude.{Result, is_some}
-use Rattle.std.proofs.lemmas.Bool.{false≢true, eq-eqb, le-ltb, lt-ltb, ne_eqb}
+use Rattle.std.proofs.lemmas.Bool.{false≢true, eq-eqb, lt-ltb, ne_eqb}
 use Rattle.th_lines.specs.Reads.{Reads}
 use Rattle.th_lines.specs.declared.fault.LineFault.{LineFault}
 use Rattle.th_lines.specs.declared.fault.LineFault.TheVariants.{BadLine}
@@ -40,13 +40,6 @@ module _ {E S C R : Type 0} (m : Machine E S C R) (IsProper : E → Type 0) (wor
           (subst (λ (o : S). IsShown m IsProper state o) (sym same) shown, more, refl),
     )
 
-    -- one call more than there may be
-    pub says_too_much : (call : C) → words.call_of line ≡ Some call → 1000000 ≤ count
-        → TurnsTo m IsProper words (CallDue state count) line (Err stop.Bad)
-    says_too_much call e high =
-        ap (λ (o : Option C). begins m words state count o (end_of line)) e
-        ∙ ap (λ (b : Bool). cond b (Some (ReplyDue state count call)) None) (le-ltb count 1000000 high)
-
     -- no call: the end line, or a bad one
     module _ (held : Course S C) (same : held.count ≡ count) (over : held.due ≡ due.Nothing) where
       end_turns : (told : Option ℕ) (result : Result (Unit {0}) Stop) → end_of line ≡ told → words.call_of line ≡ None
@@ -59,11 +52,9 @@ module _ {E S C R : Type 0} (m : Machine E S C R) (IsProper : E → Type 0) (wor
             ∙ ap (λ (b : Bool). cond b (Some (Ended count)) None) (eq-eqb count count refl),
         subst (λ (d : Due C). ShowsBy m IsProper (Ended count) held.channel held.count d) (sym over) same,
       )
-      end_turns None (Err stop.Bad) t e h =
-          ap (λ (o : Option C). begins m words state count o (end_of line)) e
+      end_turns None (Err stop.Bad) t e h = ap (λ (o : Option C). begins m words state count o (end_of line)) e
           ∙ ap (λ (o : Option ℕ). begins m words state count None o) t
-      end_turns (Some told) (Err stop.Bad) t e h =
-          ap (λ (o : Option C). begins m words state count o (end_of line)) e
+      end_turns (Some told) (Err stop.Bad) t e h = ap (λ (o : Option C). begins m words state count o (end_of line)) e
           ∙ ap (λ (o : Option ℕ). begins m words state count None o) t
           ∙ ap (λ (b : Bool). cond b (Some (Ended count)) None) (ne_eqb told count (λ k. h (ap Some k)))
       end_turns told (Err (stop.Illegal own)) t e h = absurd h
@@ -110,28 +101,6 @@ module _ {E S C R : Type 0} (m : Machine E S C R) (IsProper : E → Type 0) (wor
         subst (λ (d : Due C). ShowsBy m IsProper (CallDue (m.step state call).1 (count + 1)) held.channel held.count d) (sym next)
             (record { proper = step_ok state call shown.proper; shown = sym (same ∙ ap (λ (a : R × S). a.1) answered) }, more),
       )
-
-      pub says_another : (why : Stop) → IsOther (words.reply_of call line) (words.told (Some reply)) why → m.ready object call ≡ true
-          → (reply ≡ (m.step state call).0 → words.reply_of call line ≡ Some reply → ⊥) → TurnsTo m IsProper words
-          (ReplyDue state count call) line (Err why)
-      says_another stop.Bad h late apart = h
-      says_another (stop.Illegal expected) h late apart =
-          let said = some_of (words.reply_of call line) h.0 in (
-            (said.0, said.1, λ now same. apart own (said.1 ∙ ap Some (same ∙ sym own))),
-            h.1 ∙ ap (λ (r : R). words.told (Some r)) own ∙ expects true late,
-          )
-      says_another stop.Short h late apart = tt
-
-  -- by what the code holds
-  pub at_call : (object : S) (count : ℕ) (next : Due C) → next ≡ due.Call → (line : List ℕ) (result : Result (Course S C) Stop)
-      → ((state : E) → IsShown m IsProper state object → TurnsTo m IsProper words (CallDue state count) line result)
-      → (stage : Stage E C) → ShowsBy m IsProper stage object count next → TurnsTo m IsProper words stage line result
-  at_call object count next e line result h stage s = by_stage stage (subst (λ (d : Due C). ShowsBy m IsProper stage object count d) e s)
-    where
-      by_stage : (stage : Stage E C) → ShowsBy m IsProper stage object count due.Call → TurnsTo m IsProper words stage line result
-      by_stage (CallDue state told) k = subst (λ (n : ℕ). TurnsTo m IsProper words (CallDue state n) line result) k.1 (h state k.0)
-      by_stage (ReplyDue state told call) k = absurd k
-      by_stage (Ended told) k = absurd k
 
   pub at_reply : (object : S) (count : ℕ) (next : Due C) (call : C) → next ≡ due.Reply call
       → (line : List ℕ) (result : Result (Course S C) Stop)

@@ -17,8 +17,7 @@ first_counted (suc k) g e = absurd (cc (e))
 
 first_seat : (by : ℕ) (v : Sight) → get_elem? (first_sight ∷ []) by ≡ some v → IsPrefix v.seen (glance_of 0 false ∷ [])
     × IsPrefix v.told (glance_of 0 false ∷ [])
-first_seat zero v e =
-    subst (λ (x : Sight). IsPrefix x.seen (glance_of 0 false ∷ []) × IsPrefix x.told (glance_of 0 false ∷ []))
+first_seat zero v e = subst (λ (x : Sight). IsPrefix x.seen (glance_of 0 false ∷ []) × IsPrefix x.told (glance_of 0 false ∷ []))
     (some-injective first_sight v e) (prefix_self _, (glance_of 0 false ∷ [], refl))
 first_seat (suc by) v e = absurd (some-ne-none v (sym e))
 
@@ -103,8 +102,7 @@ writes slots id me closed word first is s r wide at small =
         pen = λ v e.
             ⊎_elim (λ (t : (0 ≡ id) × (w ≡ v)). ap (λ (x : Sight). x.seen) (sym t.1))
             (λ (t : (0 ≢ id) × (get_elem? s.views 0 ≡ some v)). absurd (t.0 (sym first))) (at_set s.views id 0 w v e);
-        seats =
-            λ by v e.
+        seats = λ by v e.
             ⊎_elim
             (λ (t : (by ≡ id) × (w ≡ v)). subst (λ (x : Sight). IsPrefix x.seen log × IsPrefix x.told log) t.1
             (prefix_self log, prefix_trans me.0.told r.log log mine.1 longer))
@@ -126,8 +124,7 @@ splits id v s r at = let mine = r.seats id v at in
       words = r.words;
       counted = r.counted;
       pen = λ u e. r.pen u (sym (first_stays s.views (v ∷ []) id v at) ∙ e);
-      seats =
-          λ by u e.
+      seats = λ by u e.
           ⊎_elim (λ (t : get_elem? s.views by ≡ some u). r.seats by u t)
           (λ (t : v ≡ u). subst (λ (x : Sight). IsPrefix x.seen r.log × IsPrefix x.told r.log) t mine) (at_snoc s.views v u by e);
     }

@@ -1,13 +1,12 @@
 -- How lines are answered, one after another, and what is written of the texts.
-use Rattle.std.proofs.Common.{◌≡◌, ℕ, Bool, true, false, List, [], ◌∷◌, ◌++◌, refl, sym, ap, ◌∙◌, append_assoc, append-nil, Ok, Err, subst}
-use Rattle.std.specs.Prelude.{Result}
+use Rattle.std.proofs.Common.{◌≡◌, ℕ, Bool, true, false, List, [], ◌∷◌, ◌++◌, refl, sym, ap, ◌∙◌, append_assoc, append-nil, subst}
 use Rattle.std.specs.Io.KnownBytes.{Appends}
 use Rattle.std.specs.List.{concat}
 use Rattle.std.proofs.lemmas.List.Folds.{concat-append}
 use Rattle.th_lines.specs.Answering.{Answers, Breaks, Ended, Says, Turned}
 use Rattle.th_lines.specs.Lines.{Line}
-use Rattle.th_lines.specs.Output.{Output, Adds, AddsOrFails, Flushes, WritesAll, WritesFront}
-use Rattle.th_lines.proofs.OutputLemmas.{adds_both, adds_flushed, adds_none, flushed_adds, front_after, waiting_front}
+use Rattle.th_lines.specs.Output.{Output, Adds, WritesAll, WritesFront}
+use Rattle.th_lines.proofs.OutputLemmas.{adds_both, adds_flushed, adds_none, front_after, waiting_front}
 
 -- something came behind what waited, and then more
 pub says_after : (whole : Bool) {a b : Output} {x : List ℕ} (c : Output) (y : List ℕ) → Adds x a b → Says whole y b c →
@@ -17,11 +16,6 @@ says_after false c y p q = front_after y p q
 
 pub says_as : (whole : Bool) (a b : Output) {x y : List ℕ} → x ≡ y → Says whole x a b → Says whole y a b
 says_as whole a b e q = subst (λ (l : List ℕ). Says whole l a b) e q
-
--- all that waited was written, or the writer failed
-pub flushes_adds : {A E : Type 0} (a b : Output) (r : Result A E) → Flushes a b r → AddsOrFails [] a b r
-flushes_adds a b (Ok x) p = flushed_adds p.0 p.1
-flushes_adds a b (Err e) p = waiting_front (adds_none a) p
 
 -- nothing waited at first; what came was written at the end
 pub wrote_all : {a b c : Output} {x : List ℕ} → a.waiting ≡ [] → Adds x a b → WritesAll b.waiting b c → WritesAll x a c

@@ -3,13 +3,12 @@ use Rattle.std.proofs.Common.{◌≡◌, ℕ, ◌+◌, ◌<◌, ◌≤◌, Bool,
 use Rattle.std.specs.Io.KnownBytes.{Consumes, IsAtEnd, Keeps}
 use Rattle.std.proofs.KnownBytes.{Consumes-nil, Consumes-trans, Consumes-kept}
 use Rattle.std.proofs.lemmas.Bool.{false≢true}
-use Rattle.th_lines.specs.Feeding.{Feeding, Finished, Halted, HandsOut, Stands, Underway, beginning}
+use Rattle.th_lines.specs.Feeding.{Feeding, Finished, Halted, HandsOut, Underway, beginning}
 use Rattle.th_lines.specs.Intake.{Came, Ends, Fills, Finds, IsSameLine, Reading, lines_after, most_read}
 use Rattle.th_lines.specs.Lines.{Line, last_line, line_of, lines_from, lines_of}
 use Rattle.th_lines.specs.declared.counted.Moved.{Moved}
 use Rattle.th_lines.specs.declared.counted.Moved.TheVariants as moved
-use Rattle.th_lines.specs.declared.feeder.Fed.{Fed}
-use Rattle.th_lines.specs.declared.feeder.Fed.TheVariants.{Ended, Stopped, Full, Failed, Spent}
+use Rattle.th_lines.specs.declared.feeder.Fed.TheVariants.{Failed}
 use Rattle.th_lines.proofs.LineLemmas.{last_line-one, lines_from-same}
 
 -- the next line was looked for, within the bound
@@ -30,19 +29,6 @@ as_kept r1 r2 bytes e k = subst (λ (l : List ℕ). Consumes r1 r2 l) (sym e) (C
 
 module _ {P E : Type 0} {took : P → List Line → P → Type 0} {halts : P → List Line → E → P → Type 0} where
   module _ {r r' : Option (List ℕ)} {from : P} {n : ℕ} {old : Feeding} {was : P} (u : Underway took halts r r' from n old was) where
-    -- no further line is whole, or may be handed out
-    pub looks_on : (new : Feeding) → HandsOut old false new → Underway took halts r r' from n new was
-    looks_on new h = record {
-      input = u.input;
-      read = u.read;
-      few = u.few;
-      done = u.done;
-      lines = λ ended more. u.lines ended more ∙ ap (λ (l : List Line). u.done ++ l) (h.1 ended more);
-      counted = ap (λ (f : Feeding). f.taken) h.2 ∙ u.counted;
-      more = ap (λ (f : Feeding). f.ended) h.2 ∙ u.more;
-      stands = u.stands;
-    }
-
     -- the taker holds nothing back, or has stopped
     pub settles : (now : P) → ((start : P) (lines : List Line) → took start lines was → took start lines now) →
         Underway took halts r r' from n old now
@@ -53,8 +39,7 @@ module _ {P E : Type 0} {took : P → List Line → P → Type 0} {halts : P →
       done = u.done;
       lines = u.lines;
       counted = u.counted;
-      more =
-          u.more;
+      more = u.more;
       stands = s from u.done u.stands;
     }
 
@@ -195,31 +180,6 @@ module _ {P E : Type 0} {took : P → List Line → P → Type 0} {halts : P →
         })
 
 module _ {P E : Type 0} (took : P → List Line → P → Type 0) (halts : P → List Line → E → P → Type 0) where
-  -- by more reads at most, and whatever holds where all were made
-  more_reads : (r r' : Option (List ℕ)) (from : P) (n m : ℕ) (f : Feeding) (now : P) → n ≤ m → Underway took halts r r' from n f now →
-      Underway took halts r r' from m f now
-  more_reads r r' from n m f now le u =
-      record {
-        input = u.input;
-        read = u.read;
-        few = omega (arith, u.few, le);
-        done = u.done;
-        lines = u.lines;
-        counted = u.counted;
-        more =
-            u.more;
-        stands = u.stands;
-      }
-
-  pub within_more : (r r' : Option (List ℕ)) (from : P) (is_settled : P → Type 0) (spent : Type 0) (n m : ℕ) (fed : Fed E) (f : Feeding)
-      (now : P) → n ≤ m
-      → Stands took halts r r' from is_settled ⊥ n fed f now → Stands took halts r r' from is_settled spent m fed f now
-  within_more r r' from is_settled spent n m Ended f now le s = s
-  within_more r r' from is_settled spent n m (Stopped why) f now le s = s
-  within_more r r' from is_settled spent n m Full f now le s = (more_reads r r' from n m f now le s.0, s.1)
-  within_more r r' from is_settled spent n m Failed f now le s = (more_reads r r' from n m f now le s.0, s.1, s.2)
-  within_more r r' from is_settled spent n m Spent f now le s = absurd s.2
-
   -- nothing was read yet
   pub starts : (r : Option (List ℕ)) (limit : ℕ) (from : P) → took from [] from → Underway took halts r r from 0 (beginning limit) from
   starts r limit from t = record {

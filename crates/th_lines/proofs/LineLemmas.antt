@@ -104,8 +104,7 @@ no_lf-all (b ∷ bs) h =
     ] (h 0 (omega arith))
 
 split_at : (bytes : List ℕ) (k : ℕ) → k < length bytes → eqb (get_or bytes k 0) 10 ≡ true → bytes ≡ take k bytes ++ 10 ∷ drop (k + 1) bytes
-split_at bytes k h e =
-    sym (take-append-drop k bytes)
+split_at bytes k h e = sym (take-append-drop k bytes)
     ∙ ap (λ (l : List ℕ). take k bytes ++ l) (drop_more bytes k 0 h)
     ∙ ap (λ (b : ℕ). take k bytes ++ b ∷ drop (k + 1) bytes) (eqb-true (get_or bytes k 0) 10 e)
 
@@ -179,8 +178,7 @@ module _ (buffer looked_at : List ℕ) (begun from to : ℕ) (low : begun ≤ fr
         ∙ ap (λ (n : ℕ). drop (count + 1) (take n (drop from buffer))) all
 
     line : slice_range buffer begun (from + count) ≡ here.begun ++ take count here.ahead
-    line =
-        sym (range_both buffer begun from (from + count) low (omega arith))
+    line = sym (range_both buffer begun from (from + count) low (omega arith))
         ∙ ap (λ (l : List ℕ). here.begun ++ l) front
 
     -- the line is whole
@@ -215,8 +213,7 @@ range_front old new from front low e =
 
 -- a buffer whose bytes were lent and came back
 pub lent_back : (len : ℕ) (now old : List ℕ) → length now ≡ len → take len (now ++ drop (length now) old) ≡ now
-lent_back len now old e =
-    ap (λ (n : ℕ). take n (now ++ drop (length now) old)) (sym e) ∙ take-append_seam now (drop (length now) old)
+lent_back len now old e = ap (λ (n : ℕ). take n (now ++ drop (length now) old)) (sym e) ∙ take-append_seam now (drop (length now) old)
 
 -- a read that moved so many bytes
 pub moved_within : (r r' : Option (List ℕ)) (moved : Moved) (bytes : List ℕ) → ReadMoved r r' moved bytes → bytes_moved moved ≤ length bytes

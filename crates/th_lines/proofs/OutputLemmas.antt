@@ -44,13 +44,6 @@ flushed_adds {o} {n} p none = record {
   same = p.same;
 }
 
--- nothing waited before, and nothing waits now: all was written
-pub adds_all : {o n : Output} {bytes : List ℕ} → o.waiting ≡ [] → n.waiting ≡ [] → Adds bytes o n → WritesAll bytes o n
-adds_all {o} {n} {bytes} none nothing p =
-    let text : p.shown ≡ bytes =
-    sym (append-nil p.shown) ∙ ap (λ (l : List ℕ). p.shown ++ l) (sym nothing) ∙ sym p.text ∙ ap (λ (l : List ℕ). l ++ bytes) none in
-    record { wrote = subst (λ (l : List ℕ). Appends o.written n.written l) text p.wrote; same = p.same }
-
 -- what was written, and then what came and was flushed
 pub adds_flushed : {a b c : Output} {bytes : List ℕ} → Adds bytes a b → WritesAll b.waiting b c → WritesAll (a.waiting ++ bytes) a c
 adds_flushed {a} {b} {c} {bytes} p q = record {
@@ -104,8 +97,7 @@ front_after {a} {b} {c} {x} y p q = record {
 
 -- a front of what waits, whatever comes behind it
 pub waiting_front : {a b c : Output} {x : List ℕ} → Adds x a b → WritesFront b.waiting b c → WritesFront (a.waiting ++ x) a c
-waiting_front {a} {b} {c} {x} p q =
-    front_as (ap (λ (l : List ℕ). a.waiting ++ l) (append-nil x)) (front_after [] p (front_more [] q))
+waiting_front {a} {b} {c} {x} p q = front_as (ap (λ (l : List ℕ). a.waiting ++ l) (append-nil x)) (front_after [] p (front_more [] q))
 
 -- the writer failed before they came
 pub front_all : (o n : Output) (bytes : List ℕ) → WritesFront (o.waiting ++ []) o n → WritesFront (o.waiting ++ bytes) o n
@@ -124,8 +116,7 @@ adds_others a b c line others (Err e) p f = front_after others p f
 -- lines of which the first k were put behind what waited, and one line more
 pub adds_line : {a b c : Output} (lines : List (List ℕ)) (k : ℕ) → k < length lines → Adds (concat (take k lines)) a b
     → Adds (get_or lines k []) b c → Adds (concat (take (k + 1) lines)) a c
-adds_line {a} {b} {c} lines k within p q =
-    subst (λ (t : List ℕ). Adds t a c) (sym (concat-more lines k within)) (adds_both p q)
+adds_line {a} {b} {c} lines k within p q = subst (λ (t : List ℕ). Adds t a c) (sym (concat-more lines k within)) (adds_both p q)
 
 -- the writer failed at it
 pub front_line : {a b c : Output} (lines : List (List ℕ)) (k : ℕ) → k < length lines → Adds (concat (take k lines)) a b
@@ -147,8 +138,7 @@ range_rest bytes i = take_all (length bytes - i) (drop i bytes) (omega (arith, l
 
 pub write_next : (a b c : Option (List ℕ)) (bytes : List ℕ) (i n : ℕ) → Appends a b (take i bytes)
     → Appends b c (take n (take (length bytes - i) (drop i bytes))) → Appends a c (take (i + n) bytes)
-write_next a b c bytes i n p q =
-    subst (λ (t : List ℕ). Appends a c t) (sym (take-add i n bytes))
+write_next a b c bytes i n p q = subst (λ (t : List ℕ). Appends a c t) (sym (take-add i n bytes))
     (Appends-trans a b c (take i bytes) (take n (drop i bytes)) p (subst (λ (t : List ℕ). Appends b c (take n t)) (range_rest bytes i) q))
 
 pub write_failed : (o n : Output) (b : Option (List ℕ)) (bytes : List ℕ) (i : ℕ) → Appends o.written b (take i bytes)

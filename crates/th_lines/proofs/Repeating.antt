@@ -1,10 +1,9 @@
 -- A line that stands at the front of bytes, and how often it does.
-use Rattle.std.proofs.Common.{◌≡◌, ◌∙◌, ℕ, suc, ◌+◌, ◌-◌, ◌<◌, Bool, true, false, not, List, [], ◌∷◌, ◌++◌, length, take, drop, get_or, refl, ap, sym, append_assoc, arith, length-append, take-append-drop}
+use Rattle.std.proofs.Common.{◌≡◌, ◌∙◌, ℕ, ◌+◌, ◌-◌, ◌<◌, Bool, true, false, not, List, ◌∷◌, ◌++◌, length, take, drop, get_or, refl, ap, sym, arith, length-append, take-append-drop}
 use Rattle.std.proofs.lemmas.List.{drop_more}
 use Rattle.std.proofs.Math.Seq.{get_or-append_seam, take-append_seam}
 use Rattle.std.proofs.lemmas.Slice.Eq.{bytes_eq-Decides}
 use Rattle.std.specs.Str.{bytes_eq}
-use Rattle.th_lines.specs.Repeating.{times}
 use Rattle.th_lines.proofs.Cuts.{range_rest}
 
 -- what a test says that was turned
@@ -25,8 +24,7 @@ module _ (line bytes : List ℕ) where
 
   pub stands : length line < length bytes → get_or bytes (length line) 0 ≡ 10 → bytes_eq front line ≡ true
       → bytes ≡ line ++ 10 ∷ take (length bytes - (length line + 1)) (drop (length line + 1) bytes)
-  stands within lf same =
-      sym (take-append-drop (length line) bytes)
+  stands within lf same = sym (take-append-drop (length line) bytes)
       ∙ ap (λ (l : List ℕ). l ++ drop (length line) bytes) ((bytes_eq-Decides front line).0 same)
       ∙ ap (λ (l : List ℕ). line ++ l) (drop_more bytes (length line) 0 within)
       ∙ ap (λ (b : ℕ). line ++ b ∷ drop (length line + 1) bytes) lf
@@ -41,12 +39,3 @@ module _ (line bytes : List ℕ) where
 
     pub same : bytes_eq front line ≡ true
     same = (bytes_eq-Decides front line).1 (ap (λ (l : List ℕ). take (length line) l) is ∙ take-append_seam line (10 ∷ rest))
-
--- once more
-pub once_more : (n : ℕ) (line bytes rest more : List ℕ) → bytes ≡ times n line ++ rest → rest ≡ line ++ 10 ∷ more
-    → bytes ≡ times (n + 1) line ++ more
-once_more n line bytes rest more so_far next =
-    let at : suc n ≡ n + 1 = omega arith in
-    so_far ∙ ap (λ (l : List ℕ). times n line ++ l) (next ∙ sym (append_assoc line (10 ∷ []) more))
-    ∙ sym (append_assoc (times n line) (line ++ 10 ∷ []) more)
-    ∙ ap (λ (k : ℕ). times k line ++ more) at

@@ -59,8 +59,7 @@ module _ {T : Type 0} where
     joined i = cases (is_full (length p.window.places) p.next) _ _ _ _ (λ _. refl) (λ _. more i)
 
     received : (rx i : ℕ) → place_of p.window.places rx ≡ Some i → live_handles (receive p rx i).1 ≡ live_handles p
-    received rx i is =
-        same (eqb i p.window.tail) _ _ _ (λ _. refl)
+    received rx i is = same (eqb i p.window.tail) _ _ _ (λ _. refl)
         (λ _. same (nat_lt i (first_of p.window)) _ _ _ (λ _. moved rx i _ is) (λ _. moved rx i _ is))
 
     pub live_after : (call : BCall T) → live_handles (answer p call).1 ≡ live_then p call
@@ -73,13 +72,11 @@ module _ {T : Type 0} where
     live_after (Subscribe tx) = cases (is_sender p.senders tx.0) _ _ _ _ (λ _. joined p.window.tail) (λ _. refl)
     live_after (SubscribeOldest tx) = cases (is_sender p.senders tx.0) _ _ _ _ (λ _. joined p.window.low) (λ _. refl)
     live_after (Resubscribe rx) = there p (place_of p.window.places rx.0) _ _ (λ i is. joined p.window.tail)
-    live_after (CloneTx tx) =
-        cases (is_sender p.senders tx.0) _ _ _ _
+    live_after (CloneTx tx) = cases (is_sender p.senders tx.0) _ _ _ _
         (λ _. cases (is_full (length p.senders) p.next) _ _ _ _ (λ _. refl)
         (λ _. omega (arith, length-cloned p.next p.senders _ s.handles))) (λ _. refl)
     live_after (DropTx tx) = cases (is_sender p.senders tx.0) _ _ _ _ (λ is. omega (arith, length-dropped p.senders tx.0 is)) (λ _. refl)
-    live_after (DropRx rx) =
-        there p (place_of p.window.places rx.0) _ _
+    live_after (DropRx rx) = there p (place_of p.window.places rx.0) _ _
         (λ i is. omega (arith, ap length (places-left p.window rx.0), entry-left p.window.places rx.0 i is))
     live_after (Queued tx) = same (is_sender p.senders tx.0) _ _ _ (λ _. refl) (λ _. refl)
     live_after (Left rx) = there-same p (place_of p.window.places rx.0) _ (λ i is. refl)

@@ -11,8 +11,7 @@ use Rattle.th_model.specs.Names.{front_name, is_name, is_name_byte}
 -- a run that ends within the first n is the whole run, and one of all n goes on behind them
 module _ (p : ℕ → Bool) (bs : List ℕ) (n : ℕ) (le : n ≤ length bs) where
   parts : prefix_len p bs ≡ cond (eqb (prefix_len p (take n bs)) n) (n + prefix_len p (drop n bs)) (prefix_len p (take n bs))
-  parts =
-      ap (prefix_len p) (sym (take-append-drop n bs)) ∙ prefix_len-append p (take n bs) (drop n bs)
+  parts = ap (prefix_len p) (sym (take-append-drop n bs)) ∙ prefix_len-append p (take n bs) (drop n bs)
       ∙ ap (λ k. cond (eqb (prefix_len p (take n bs)) k) (k + prefix_len p (drop n bs)) (prefix_len p (take n bs))) (length-take-le n bs le)
 
   pub run-ends : prefix_len p (take n bs) < n → prefix_len p (take n bs) ≡ prefix_len p bs
@@ -52,8 +51,7 @@ module _ (p : ℕ → Bool) (bs : List ℕ) (h r : ℕ) (le : h ≤ length bs) (
   rest = prefix_len p (drop back bs)
 
   joined : r ≡ cond (eqb first h) (h + rest) first
-  joined =
-      found ∙ prefix_len-append p (take h bs) (drop back bs)
+  joined = found ∙ prefix_len-append p (take h bs) (drop back bs)
       ∙ ap (λ k. cond (eqb first k) (k + rest) first) (length-take-le h bs le)
 
   at-most : first ≤ h
@@ -94,8 +92,7 @@ module _ (bs : List ℕ) (n : ℕ) (found : n ≡ prefix_len is_name_byte bs) (s
   long = length-take-le n bs (omega (arith, found, prefix_len-le-length is_name_byte bs))
 
   passes : list_all is_name_byte (take n bs) ≡ true
-  passes =
-      list_all-from_AllPass is_name_byte (take n bs) (All-from_get_or (λ b. is_name_byte b ≡ true) (take n bs) 0 (λ i inside.
+  passes = list_all-from_AllPass is_name_byte (take n bs) (All-from_get_or (λ b. is_name_byte b ≡ true) (take n bs) 0 (λ i inside.
       ap is_name_byte (get_or-take n bs i 0 (omega (arith, inside, long)))
       ∙ prefix_len_passes is_name_byte bs i 0 (omega (arith, inside, long, found))))
 

@@ -32,8 +32,7 @@ module _ {X : Type 0} where
   length-new : (es : List (ℕ × X)) (rx : ℕ) (x : X) → AllByRecursion (λ k. k < rx) (keys_of es) →
       length (insert_entry nat_cmp es rx x) ≡ length es + 1
   length-new [] rx x h = refl
-  length-new (e ∷ es) rx x h =
-      elim (nat_cmp rx e.0) as
+  length-new (e ∷ es) rx x h = elim (nat_cmp rx e.0) as
       (λ r. r ≡ nat_cmp rx e.0 →
       length (match_ordering r ((rx, x) ∷ e ∷ es) ((e.0, x) ∷ es) (e ∷ insert_entry nat_cmp es rx x)) ≡ length (e ∷ es) + 1) [
         | Less ↦ λ q. absurd (omega (arith, ranked rx e.0 Less q, h.0))
@@ -44,8 +43,7 @@ module _ {X : Type 0} where
   length-at : (es : List (ℕ × X)) (rx : ℕ) (x : X) → IsRising (keys_of es) → IsSome (lookup (is_at (nat_cmp rx)) es) →
       length (insert_entry nat_cmp es rx x) ≡ length es
   length-at [] rx x h there = absurd (false≢true there)
-  length-at (e ∷ es) rx x h there =
-      elim (nat_cmp rx e.0) as
+  length-at (e ∷ es) rx x h there = elim (nat_cmp rx e.0) as
       (λ r. r ≡ nat_cmp rx e.0 → IsSome (cond (is_eq r) (Some e.1) (lookup (is_at (nat_cmp rx)) es)) →
       length (match_ordering r ((rx, x) ∷ e ∷ es) ((e.0, x) ∷ es) (e ∷ insert_entry nat_cmp es rx x)) ≡ length (e ∷ es)) [
         | Less ↦ λ q t. absurd (false≢true (subst IsSome (none_below es rx (all_below e.0 rx (keys_of es) (ranked rx e.0 Less q) h.0)) t))
@@ -56,8 +54,7 @@ module _ {X : Type 0} where
   length-without : (es : List (ℕ × X)) (rx : ℕ) (x : X) → lookup (is_at (nat_cmp rx)) es ≡ Some x →
       length (remove_entry (is_at (nat_cmp rx)) es) + 1 ≡ length es
   length-without [] rx x h = absurd (none-some x h)
-  length-without (e ∷ es) rx x h =
-      elim (is_at (nat_cmp rx) e.0) as
+  length-without (e ∷ es) rx x h = elim (is_at (nat_cmp rx) e.0) as
       (λ b. cond b (Some e.1) (lookup (is_at (nat_cmp rx)) es) ≡ Some x →
       length (cond b es (e ∷ remove_entry (is_at (nat_cmp rx)) es)) + 1 ≡ length (e ∷ es)) [
         | true ↦ λ _. omega arith
@@ -81,8 +78,7 @@ module _ {X : Type 0} where
   pub entry-last : (es : List (ℕ × X)) (rx : ℕ) (x : X) → AllByRecursion (λ k. k < rx) (keys_of es) →
       insert_entry nat_cmp es rx x ≡ es ++ (rx, x) ∷ []
   entry-last [] rx x h = refl
-  entry-last (e ∷ es) rx x h =
-      elim (nat_cmp rx e.0) as
+  entry-last (e ∷ es) rx x h = elim (nat_cmp rx e.0) as
       (λ r. r ≡ nat_cmp rx e.0 →
       match_ordering r ((rx, x) ∷ e ∷ es) ((e.0, x) ∷ es) (e ∷ insert_entry nat_cmp es rx x) ≡ e ∷ (es ++ (rx, x) ∷ [])) [
         | Less ↦ λ q. absurd (omega (arith, ranked rx e.0 Less q, h.0))

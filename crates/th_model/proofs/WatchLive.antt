@@ -54,8 +54,7 @@ module _ {T : Type 0} where
         ap (λ n. length p.senders + n) (entry-moved p.next p.senders p.readers rx w s.handles here)
 
     joined : (w : Bool) → live_watchers (subscribe p w).1 ≡ one_more p (length p.readers)
-    joined w =
-        cases (is_full (length p.readers) p.next) _ _ _ _ (λ _. refl)
+    joined w = cases (is_full (length p.readers) p.next) _ _ _ _ (λ _. refl)
         (λ _. omega (arith, entry-joined p.next p.senders p.readers w s.handles))
 
     changes : (rx : ℕ) (u : Bool) → reader_of p.readers rx ≡ Some u → live_watchers (changed p rx u).1 ≡ live_watchers p
@@ -75,8 +74,7 @@ module _ {T : Type 0} where
     live_after eq (MarkUnchanged rx) = there-same p (reader_of p.readers rx.0) _ (λ u is. moved rx.0 u false is)
     live_after eq (Subscribe tx) = cases (is_sender p.senders tx.0) _ _ _ _ (λ _. joined false) (λ _. refl)
     live_after eq (CloneRx rx) = there p (reader_of p.readers rx.0) _ _ (λ u is. joined u)
-    live_after eq (CloneTx tx) =
-        cases (is_sender p.senders tx.0) _ _ _ _
+    live_after eq (CloneTx tx) = cases (is_sender p.senders tx.0) _ _ _ _
         (λ _. cases (is_full (length p.senders) p.next) _ _ _ _ (λ _. refl)
         (λ _. omega (arith, length-cloned p.next p.senders _ s.handles))) (λ _. refl)
     live_after eq (DropTx tx) = cases (is_sender p.senders tx.0) _ _ _ _ (λ is. omega (arith, length-dropped p.senders tx.0 is)) (λ _. refl)

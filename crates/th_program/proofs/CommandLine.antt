@@ -55,15 +55,13 @@ named_by : (m : ArgMatches) (app : App) (words : List (List ℕ)) (command : Lis
     → subcommand_rows_of m ≡ subcommand_of app words
     → option_map (λ p. p.0) (subcommand_of app words) ≡ Some command
     → subcommand_name_of m ≡ Some command
-named_by m app words command rows e =
-    matches_name m
+named_by m app words command rows e = matches_name m
     ∙ ap (λ (r : Option (Text × List Row)). option_map (λ p. p.0) r) rows ∙ e
 
 module _ (m : ArgMatches) (app : App) (words : List (List ℕ)) (is : app ≡ command_line)
     (has : HasMatchesOf app words m) (name : List ℕ) where
   rows_are : subcommand_rows_of m ≡ subcommand_of command_line words
-  rows_are =
-      (has (ap is_simple is ∙ is_simple_line)).1
+  rows_are = (has (ap is_simple is ∙ is_simple_line)).1
       ∙ ap (λ (a : App). subcommand_of a words) is
 
   pub name_is : subcommand_name_of m ≡ option_map (λ p. p.0) (subcommand_of command_line words)
@@ -74,14 +72,12 @@ module _ (m : ArgMatches) (app : App) (words : List (List ℕ)) (is : app ≡ co
 
   pub replay_named : words ≡ name ∷ codes "replay" ∷ []
       → subcommand_name_of m ≡ Some (codes "replay")
-  replay_named e =
-      named_by m command_line words (codes "replay") rows_are
+  replay_named e = named_by m command_line words (codes "replay") rows_are
       (subst (first_is (codes "replay")) (sym e) (names_replay name))
 
   pub check_named : words ≡ name ∷ codes "check" ∷ []
       → subcommand_name_of m ≡ Some (codes "check")
-  check_named e =
-      named_by m command_line words (codes "check") rows_are
+  check_named e = named_by m command_line words (codes "check") rows_are
       (subst (first_is (codes "check")) (sym e) (names_check name))
 
 pub help_fails : (name : List ℕ)
@@ -103,6 +99,5 @@ pub adds_app : {E : Type 0} (program sub : Command) (app : App) (result : Result
     → IfOk result (λ r. AddsSubcommand program sub r)
     → (out-Command sub).has_globals ≡ false → app_of sub ≡ app
     → IfOk result (λ r. app_of r ≡ with_subcommand (app_of program) app.top)
-adds_app program sub app (Ok r) adds local is =
-    adds.shape local ∙ ap (λ (a : App). with_subcommand (app_of program) a.top) is
+adds_app program sub app (Ok r) adds local is = adds.shape local ∙ ap (λ (a : App). with_subcommand (app_of program) a.top) is
 adds_app program sub app (Err e) adds local is = adds

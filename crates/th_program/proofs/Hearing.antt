@@ -21,8 +21,7 @@ regrouped (x ∷ xs) ys zs = ap (λ (ws : List ℕ). x ∷ ws) (regrouped xs ys 
 advice_more : (h : Heard) (bytes : List ℕ) (b : ℕ)
     → advice_to h (bytes ++ b ∷ []) ≡ advice_to h bytes ++ text_of (news (heard_after h bytes) b)
 advice_more h [] b = and_nothing (text_of (news h b))
-advice_more h (x ∷ xs) b =
-    ap (λ (ys : List ℕ). text_of (news h x) ++ ys) (advice_more (after h x) xs b)
+advice_more h (x ∷ xs) b = ap (λ (ys : List ℕ). text_of (news h x) ++ ys) (advice_more (after h x) xs b)
     ∙ regrouped (text_of (news h x)) (advice_to (after h x) xs)
     (text_of (news (heard_after (after h x) xs) b))
 

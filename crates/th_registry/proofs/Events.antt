@@ -1,5 +1,5 @@
 -- An event of a topic is an event of its channel.
-use Rattle.std.proofs.Common.{◌≡◌, ℕ, zero, suc, inl, inr, List, [], ◌∷◌, Option, Some, None, slice_get, Result, Err, refl, sym, ap, subst, ◌∙◌}
+use Rattle.std.proofs.Common.{◌≡◌, ℕ, zero, suc, inl, inr, List, [], ◌∷◌, Option, Some, None, slice_get, Result, refl, sym, ap, subst, ◌∙◌}
 use Rattle.std.specs.Prelude.{is_ok}
 use Rattle.std.proofs.lemmas.Option.{same_Some}
 use Rattle.std.specs.Option.{option_map}
@@ -9,7 +9,6 @@ use Rattle.th_model.specs.declared.handles.TxId.{TxId}
 use Rattle.th_model.specs.declared.verb.Question.{Question}
 use Rattle.th_model.specs.declared.verb.Start.{Start}
 use Rattle.th_registry.specs.declared.outcome.NoEvent.{NoEvent}
-use Rattle.th_registry.specs.declared.outcome.NoEvent.TheVariants.{NoTopic}
 use Rattle.th_registry.specs.Calls.{Bytes}
 use Rattle.th_registry.specs.Events.{Event, Asks, Subscribes, any_sender, takes_memory}
 use Rattle.th_registry.specs.declared.opening.Found.{Found}
@@ -39,12 +38,11 @@ module _ (limit : ℕ) where
       slice_get (values_of ts) topic ≡ Some c → ChannelTells c e said new →
       Says (pictures limit) ts (On topic e) said (set_value_at ts topic new)
   topic-says ts topic e there (inl eq) = inl (ap (noted ts topic e) there ∙ ap (written ts topic) eq)
-  topic-says {c = c} ts topic e there (inr h) =
-      inr (
-        h.0,
-        ap (set_value_at ts topic) h.1 ∙ set-same ts topic c there,
-        ap (λ o. takes_memory e (noted ts topic e o).0.0) there ∙ h.2,
-      )
+  topic-says {c = c} ts topic e there (inr h) = inr (
+    h.0,
+    ap (set_value_at ts topic) h.1 ∙ set-same ts topic c there,
+    ap (λ o. takes_memory e (noted ts topic e o).0.0) there ∙ h.2,
+  )
 
   -- and what it cuts is the topic's segment
   pub topic-cuts : {c new : SeenChannel} {segment : Result ChannelSegment NoEvent} (ts : SeenTopics) (topic : ℕ) →
@@ -52,12 +50,11 @@ module _ (limit : ℕ) where
       Says (pictures limit) ts (Cut topic) segment (set_value_at ts topic new)
   topic-cuts ts topic there (inl eq) =
       inl (ap (on_channel ts topic (cut_channel seen_broadcast seen_watch)) there ∙ ap (written ts topic) eq)
-  topic-cuts {c = c} ts topic there (inr h) =
-      inr (
-        h.0,
-        ap (set_value_at ts topic) h.1 ∙ set-same ts topic c there,
-        ap (λ o. is_ok (on_channel ts topic (cut_channel seen_broadcast seen_watch) o).0) there ∙ h.2,
-      )
+  topic-cuts {c = c} ts topic there (inr h) = inr (
+    h.0,
+    ap (set_value_at ts topic) h.1 ∙ set-same ts topic c there,
+    ap (λ o. is_ok (on_channel ts topic (cut_channel seen_broadcast seen_watch) o).0) there ∙ h.2,
+  )
 
 -- the same of a desk that holds these topics
 abbrev desk_of : ℕ → SeenTopics → Desk
@@ -70,14 +67,6 @@ pub desk-says : {c new : SeenChannel} {said : Noted} {limit : ℕ} {ts : SeenTop
 desk-says {new = new} {said = said} {limit = limit} {ts = ts} topic e same there tells =
     let P : Desk → Type 0 = λ old. DeskSays old (On topic e) said (desk_of limit (set_value_at ts topic new)) in
     subst P same (refl, topic-says limit ts topic e there tells)
-
--- a number that no topic has
-pub desk-lacks : {limit : ℕ} {ts : SeenTopics} {old : Desk} (topic : ℕ) (e : Event) →
-    desk_of limit ts ≡ old → slice_get (values_of ts) topic ≡ None →
-    DeskSays old (On topic e) (Err NoTopic, None) (desk_of limit ts)
-desk-lacks {limit = limit} {ts = ts} topic e same none =
-    let P : Desk → Type 0 = λ old. DeskSays old (On topic e) (Err NoTopic, None) (desk_of limit ts) in
-    subst P same (refl, inl (ap (noted limit ts topic e) none))
 
 pub desk-cuts : {c new : SeenChannel} {segment : Result ChannelSegment NoEvent} {limit : ℕ} {ts : SeenTopics} {old : Desk} (topic : ℕ) →
     desk_of limit ts ≡ old →

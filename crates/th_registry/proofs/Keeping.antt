@@ -14,7 +14,7 @@ use Rattle.th_log.specs.Machines as machines
 use Rattle.th_registry.specs.declared.channel.Channel.TheVariants.{Broadcast, Watch}
 use Rattle.th_registry.specs.declared.outcome.NoEvent.{NoEvent}
 use Rattle.th_registry.specs.declared.outcome.NoEvent.TheVariants as NoEvents
-use Rattle.th_registry.specs.Events.{Event, Binds, Subscribes, Sends, Asks, Receives, Resubscribes, DropsTx, DropsRx, ChannelReply, Outcome, Replied, Told, broadcast_call, takes_memory, watch_call}
+use Rattle.th_registry.specs.Events.{Event, Binds, Subscribes, Sends, Asks, Receives, Resubscribes, DropsTx, DropsRx, ChannelReply, Outcome, Replied, EventResult, broadcast_call, takes_memory, watch_call}
 use Rattle.th_registry.specs.History.{History, is_full, recorded}
 use Rattle.th_registry.specs.Hub.{came, hub_replies, if_room, receipted}
 use Rattle.th_registry.specs.Keeping.{KindKeeps}
@@ -53,16 +53,13 @@ module _ {E S C R : Type 0} (m : Machine E S C R) (has_sender : S → TxId → B
   -- the call was made, as there was room for it
   made-ok : (reply : R) → seen-replies ≡ seen-room → is_full old (live_after m old.state c) ≡ false → made ≡ (reply, new) →
       seen-replies ≡ (Ok reply, new)
-  made-ok reply allows room event =
-      allows ∙ ap chosen room ∙ ap (λ (p : R × History S S C R). (Ok p.0, p.1)) event
+  made-ok reply allows room event = allows ∙ ap chosen room ∙ ap (λ (p : R × History S S C R). (Ok p.0, p.1)) event
 
   -- or it was not
   made-not : (why : NoEvent) → seen-replies ≡ seen-room → RefusesEvent old new (live_after m old.state c) why →
       SaysOrShort (Err NoEvents.Short) is_ok seen-replies old (Err why) new
-  made-not NoEvents.LogFull allows r =
-      inl (allows ∙ ap chosen r.0 ∙ ap (λ (h : History S S C R). (Err NoEvents.LogFull, h)) (sym r.1))
-  made-not NoEvents.Short allows r =
-      inr (refl, r.1, ap (λ (s : Result R NoEvent × History S S C R). is_ok s.0) (allows ∙ ap chosen r.0))
+  made-not NoEvents.LogFull allows r = inl (allows ∙ ap chosen r.0 ∙ ap (λ (h : History S S C R). (Err NoEvents.LogFull, h)) (sym r.1))
+  made-not NoEvents.Short allows r = inr (refl, r.1, ap (λ (s : Result R NoEvent × History S S C R). is_ok s.0) (allows ∙ ap chosen r.0))
   made-not NoEvents.NoTopic allows r = absurd r
   made-not NoEvents.WrongKind allows r = absurd r
   made-not NoEvents.NotLive allows r = absurd r
@@ -72,8 +69,7 @@ module _ {E S C R : Type 0} (m : Machine E S C R) (has_sender : S → TxId → B
   -- what is said of a call that was allowed
   pub says-by : (said : Result (Receipt C R) NoEvent) → call ≡ Some c → seen-replies ≡ seen-room →
       IfOk said (λ receipt. made ≡ (receipt.reply, new)) → IfOk said (λ receipt. receipt ≡ receipt_of old c receipt.reply) →
-      OnOk said (is_full old (live_after m old.state c) ≡ false) →
-      IfErr said (λ why. RefusesEvent old new (live_after m old.state c) why) →
+      OnOk said (is_full old (live_after m old.state c) ≡ false) → IfErr said (λ why. RefusesEvent old new (live_after m old.state c) why) →
       CallSays seen-replies call old said new
   says-by (Ok receipt) is allows event shape room refused =
       let same : receipt.call ≡ c = ap (λ (r : Receipt C R). r.call) shape in (
@@ -88,8 +84,7 @@ module _ {E S C R : Type 0} (m : Machine E S C R) (has_sender : S → TxId → B
   pub keeps-by : (kept : Result (Unit {0}) NoEvent) → call ≡ Some c →
       hub_replies (seen_by m has_sender has_receiver) waits old false call ≡ if_room (seen_by m has_sender has_receiver) old c →
       OnOk kept (recorded old c (m.answer old.state c) ≡ ((m.answer old.state c).0, new)) →
-      OnOk kept (is_full old (live_after m old.state c) ≡ false) →
-      IfErr kept (λ why. RefusesEvent old new (live_after m old.state c) why) →
+      OnOk kept (is_full old (live_after m old.state c) ≡ false) → IfErr kept (λ why. RefusesEvent old new (live_after m old.state c) why) →
       KindKeeps m has_sender has_receiver waits old call kept new
   keeps-by (Ok _) is allows event room refused =
       let reply = (m.answer old.state c).0 in (
@@ -108,26 +103,25 @@ of_kind in_receipt (Err why) = Err why
 module _ {E S C R : Type 0} (m : Machine E S C R) (has_sender : S → TxId → Bool) (has_receiver : S → RxId → Bool)
     (in_channel : History S S C R → SeenChannel) (in_receipt : Receipt C R → ChannelReceipt) (in_reply : R → ChannelReply)
     (same : (r : Receipt C R) → reply_in (in_receipt r) ≡ in_reply r.reply) (old new : History S S C R) where
-  abbrev came_so : Result R NoEvent → Told
+  abbrev came_so : Result R NoEvent → EventResult
   came_so said = came (λ reply. Replied (in_reply reply)) said
 
   abbrev receipt_so : Result R NoEvent → Option C → Option (Receipt C R)
   receipt_so said call = receipted (seen_by m has_sender has_receiver) old said call
 
-  abbrev told-so : Option C → Result R NoEvent × History S S C R → (Told × Option ChannelReceipt) × SeenChannel
+  abbrev told-so : Option C → Result R NoEvent × History S S C R → (EventResult × Option ChannelReceipt) × SeenChannel
   told-so call s = ((came_so s.0, option_map in_receipt (receipt_so s.0 call)), in_channel s.1)
 
-  takes-so : (takes : Told → Bool) → ((o : Outcome) → takes (Ok o) ≡ true) → (s : Result R NoEvent) → is_ok s ≡ true →
+  takes-so : (takes : EventResult → Bool) → ((o : Outcome) → takes (Ok o) ≡ true) → (s : Result R NoEvent) → is_ok s ≡ true →
       takes (came_so s) ≡ true
   takes-so takes all (Ok reply) h = all _
   takes-so takes all (Err why) h = absurd (let bad : ⊥ = cc in bad)
 
   -- what a call of the kind says is what the channel says of the event
-  pub tells-so : (takes : Told → Bool) → ((o : Outcome) → takes (Ok o) ≡ true) → (s : Result R NoEvent × History S S C R)
+  pub tells-so : (takes : EventResult → Bool) → ((o : Outcome) → takes (Ok o) ≡ true) → (s : Result R NoEvent × History S S C R)
       (call : Option C) (said : Result (Receipt C R) NoEvent) → CallSays s call old said new →
       NotesOrShort takes (told-so call s) (in_channel old) (replied (of_kind in_receipt said)) (in_channel new)
-  tells-so takes all s call (Ok receipt) (inl e, (is, shape)) =
-      inl (
+  tells-so takes all s call (Ok receipt) (inl e, (is, shape)) = inl (
       ap (told-so call) e
       ∙ ap (λ (k : Option C). told-so k (Ok receipt.reply, new)) is
       ∙ ap (λ (r : Receipt C R). ((Ok (Replied (in_reply receipt.reply)), Some (in_receipt r)), in_channel new)) (sym shape)
@@ -135,12 +129,11 @@ module _ {E S C R : Type 0} (m : Machine E S C R) (has_sender : S → TxId → B
       )
   tells-so takes all s call (Ok receipt) (inr h, shape) = absurd (let no = h.0 in let bad : ⊥ = cc in bad)
   tells-so takes all s call (Err why) (inl e, shape) = inl (ap (told-so call) e)
-  tells-so takes all s call (Err why) (inr h, shape) =
-      inr (
-        ap (λ (x : Result R NoEvent). (came_so x, None)) h.0,
-        ap in_channel h.1,
-        takes-so takes all s.0 h.2,
-      )
+  tells-so takes all s call (Err why) (inr h, shape) = inr (
+    ap (λ (x : Result R NoEvent). (came_so x, None)) h.0,
+    ap in_channel h.1,
+    takes-so takes all s.0 h.2,
+  )
 
 -- what an actor's own sender or receiver does
 abbrev pub IsOwn : Event → Type 0

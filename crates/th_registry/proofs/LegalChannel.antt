@@ -119,14 +119,13 @@ watch-dropped e t live = rw live (omega (arith, length-dropped e.senders t.0 liv
 pub watch-left : (e : watch.Endless Bytes) (r : RxId) (m : ℕ) → reader_of e.marks r.0 ≡ Some m →
     live_watchers (watch_picture.see (watch_step e (WCalls.DropRx r)).1) + 1 ≡ live_watchers (watch_picture.see e)
 unfolding watch_picture.see
-watch-left e r m there =
-    rw there (omega (
-      arith,
-      entry-left e.marks r.0 m there,
-      length-shown (watch.version_of e) e.marks,
-      length-shown (watch.version_of
-          e) (without_reader e.marks r.0),
-    ))
+watch-left e r m there = rw there (omega (
+  arith,
+  entry-left e.marks r.0 m there,
+  length-shown (watch.version_of e) e.marks,
+  length-shown (watch.version_of
+      e) (without_reader e.marks r.0),
+))
 
 -- a call is an entry where it does not wait and there is room for it, and else nothing has changed
 module _ {C K R P : Type 0} (Q : C → Type 0) (m : ChannelMachine C K R P) (waits : K → R → Bool) (c : C) (before : Q c)
@@ -136,8 +135,7 @@ module _ {C K R P : Type 0} (Q : C → Type 0) (m : ChannelMachine C K R P) (wai
 
   kept-replies : (no_sender : Bool) (call : Option K) → Holds (replies m waits no_sender c call)
   kept-replies no_sender None = before
-  kept-replies no_sender (Some call) =
-      cond_case Holds no_sender _ _ (λ _. before)
+  kept-replies no_sender (Some call) = cond_case Holds no_sender _ _ (λ _. before)
       (λ _. cond_case Holds (waits call (m.step c call).0) _ _ (λ _. before)
       (λ goes. cond_case Holds (m.is_full c call) _ _ (λ _. before) (λ room. added call goes room)))
 
@@ -168,15 +166,12 @@ module _ (limit : ℕ) where
   -- a broadcast channel
   module _ (h : EndlessBroadcast) (p : broadcast.IsProper h.state) (k : IsKeptBroadcast h) where
     broadcast-recorded : (call : BCall Bytes) → broadcast_waits call (broadcast.step h.state call).0 ≡ false →
-        endless_broadcast.is_full h call ≡ false →
-        IsKeptBroadcast (endless_broadcast.step h call).1
-    broadcast-recorded call goes room =
-        legal.kept-recorded broadcast-laws limit h p k call (broadcast-ready h.state call p goes) room
+        endless_broadcast.is_full h call ≡ false → IsKeptBroadcast (endless_broadcast.step h call).1
+    broadcast-recorded call goes room = legal.kept-recorded broadcast-laws limit h p k call (broadcast-ready h.state call p goes) room
 
     broadcast-spent : (r : RxId) (i : ℕ) → place_of h.state.index r.0 ≡ Some i →
         IsKeptBroadcast (endless_broadcast.step h (BCalls.DropRx r)).1
-    broadcast-spent r i there =
-        legal.kept-spent broadcast-laws limit h p k (BCalls.DropRx r) refl (broadcast-left h.state r i there)
+    broadcast-spent r i there = legal.kept-spent broadcast-laws limit h p k (BCalls.DropRx r) refl (broadcast-left h.state r i there)
 
     kept-by-call : (by_hub : Bool) (call : Option (BCall Bytes)) → IsKeptBroadcast (broadcast_replies endless_broadcast h by_hub call).1
     kept-by-call by_hub call = kept-replies IsKeptBroadcast endless_broadcast broadcast_waits h k broadcast-recorded
@@ -199,16 +194,14 @@ module _ (limit : ℕ) where
         let apart : r.0 ≡ h.state.next → ⊥ = λ e. none-some i (sym free ∙ ap (place_of h.state.index) (sym e) ∙ there) in
         cond_case (λ (a : BReply Bytes × broadcast.Endless Bytes). IsKeptBroadcast (recorded h (BCalls.Resubscribe r) a).1 →
         IsKeptBroadcast (moved_on h r a).1)
-        (is_full (length h.state.index) h.state.next) (BReplies.TooMany, h.state) (BReplies.NewRx (rx h.state.next), mid)
-        (λ _ kept. kept)
+        (is_full (length h.state.index) h.state.next) (BReplies.TooMany, h.state) (BReplies.NewRx (rx h.state.next), mid) (λ _ kept. kept)
         (λ room kept. broadcast-spent (recorded h (BCalls.Resubscribe r) (BReplies.NewRx (rx h.state.next), mid)).1
         (proper.proper-joined h.state p tail (omega arith, omega arith) room) kept
         r i (place-with_other h.state.index h.state.next tail r.0 apart ∙ there))
         kept
 
     kept-moved : IsKeptBroadcast (broadcast_event endless_broadcast h (Resubscribes r)).1
-    kept-moved =
-        cond_case (λ (a : Result (BReply Bytes) NoEvent × EndlessBroadcast). IsKeptBroadcast (moved endless_broadcast r a).1)
+    kept-moved = cond_case (λ (a : Result (BReply Bytes) NoEvent × EndlessBroadcast). IsKeptBroadcast (moved endless_broadcast r a).1)
         (endless_broadcast.is_full h (BCalls.Resubscribe r)) _ _
         (λ _. k) (λ room. moved-on (place_of h.state.index r.0) refl (broadcast-recorded h p k (BCalls.Resubscribe r) refl room))
 
@@ -228,8 +221,7 @@ module _ (limit : ℕ) where
   module _ (h : EndlessWatch) (p : watch.IsProper h.state) (k : IsKeptWatch h) where
     watch-recorded : (call : WCall Bytes) → watch_waits call (watch_step h.state call).0 ≡ false → endless_watch.is_full h call ≡ false →
         IsKeptWatch (endless_watch.step h call).1
-    watch-recorded call goes room =
-        legal.kept-recorded watch-laws limit h p k call (watch-ready h.state call p goes) room
+    watch-recorded call goes room = legal.kept-recorded watch-laws limit h p k call (watch-ready h.state call p goes) room
 
     kept-by-watch-call : (by_hub : Bool) (call : Option (WCall Bytes)) → IsKeptWatch (watch_replies endless_watch h by_hub call).1
     kept-by-watch-call by_hub call = kept-replies IsKeptWatch endless_watch watch_waits h k watch-recorded
@@ -258,7 +250,5 @@ module _ (limit : ℕ) where
 
   pub kept-cut : (c : EndlessChannel) → IsProperChannel c → IsKeptChannel limit c →
       IsKeptChannel limit (cut_channel endless_broadcast endless_watch c).1
-  kept-cut (Broadcast h) p k =
-      legal.kept-cut broadcast-laws limit h p k
-  kept-cut (Watch h) p k =
-      legal.kept-cut watch-laws limit h p k
+  kept-cut (Broadcast h) p k = legal.kept-cut broadcast-laws limit h p k
+  kept-cut (Watch h) p k = legal.kept-cut watch-laws limit h p k

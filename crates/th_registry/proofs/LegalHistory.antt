@@ -41,8 +41,7 @@ module _ {E S C R : Type 0} {m : Machine E S C R} {proper : E → Type 0} {sound
         let reply = (m.step h.state call).0 in
         let more = length-append h.entries ((call, reply) ∷ []) in
         record {
-          legal =
-              grows m proper sound laws.whole laws.stays laws.answer (segment h (m.see h.state)) call reply
+          legal = grows m proper sound laws.whole laws.stays laws.answer (segment h (m.see h.state)) call reply
               (m.see (m.step h.state call).1) k.legal ready (laws.answer h.state call p);
           same_limit = k.same_limit;
           within = omega (arith, more, within);
@@ -55,8 +54,7 @@ module _ {E S C R : Type 0} {m : Machine E S C R} {proper : E → Type 0} {sound
         let apart =
         neither (nat_lt h.limit (length h.entries + 1 + live_then h call))
         (nat_lt most (h.first + length h.entries + 1 + live_then h call)) room in
-        kept-added call ready
-        (omega (arith, k.same_limit, ltb-false h.limit (length h.entries + 1 + live_then h call) apart.0))
+        kept-added call ready (omega (arith, k.same_limit, ltb-false h.limit (length h.entries + 1 + live_then h call) apart.0))
         (ltb-false most (h.first + length h.entries + 1 + live_then h call) apart.1)
 
     -- the end of a handle

@@ -52,8 +52,7 @@ module _ (limit : ℕ) where
     kept-made_of asked base (Some c) is fits = kept-broadcast-opened limit c base key (is_capacity asked c is) fits first
 
     kept-broadcast-made : (asked base : ℕ) → IsKeptMade (hub.made_broadcast (endless limit) key asked base)
-    kept-broadcast-made asked base =
-        cond_case IsKeptMade (nat_lt base (2 ^ 64)) _ _
+    kept-broadcast-made asked base = cond_case IsKeptMade (nat_lt base (2 ^ 64)) _ _
         (λ fits. kept-made_of asked base (capacity_of asked) refl (ltb-true base (2 ^ 64) fits)) (λ _. tt)
 
     kept-made : (making : Making) → IsKeptMade (made (endless limit) key making)

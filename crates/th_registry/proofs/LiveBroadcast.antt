@@ -79,13 +79,11 @@ module _ {T : Type 0} (e : Endless T) (s : IsProper e) (gone : Handle → Type 0
   by_receiver r given h = elim (place_of e.index r.0) as (λ o. LeadsOn (at_index e o given)) [ None ↦ same | Some i ↦ h i ]
 
   sends : (v : T) → LeadsOn (send e v)
-  sends v =
-      cond_case LeadsOn (eqb (length e.index) 0) _ _ (λ _. same)
+  sends v = cond_case LeadsOn (eqb (length e.index) 0) _ _ (λ _. same)
       (λ _. cond_case LeadsOn (eqb (tail_of e) (2 ^ 64 - 1)) _ _ (λ _. same) (λ _. same))
 
   receives : (r i : ℕ) → LeadsOn (receive e r i)
-  receives r i =
-      cond_case LeadsOn (eqb i (tail_of e)) _ _ (λ _. without_new (end_reply e.senders) e (end-made T e.senders) same)
+  receives r i = cond_case LeadsOn (eqb i (tail_of e)) _ _ (λ _. without_new (end_reply e.senders) e (end-made T e.senders) same)
       (λ _. cond_case LeadsOn (ltb i (tail_of e - e.capacity)) _ _
       (λ _. moves (numbers e) gone r (window_of e))
       (λ _. without_new (value_reply (slice_get e.sent (i - e.base))) (with_index e (with_place e.index r (i + 1)))
@@ -127,8 +125,7 @@ module _ {T : Type 0} (e : Endless T) where
 
   known_receiver : (r : RxId) (given : ℕ → BReply T × Endless T) → is_some (place_of e.index r.0) ≡ true → ((i : ℕ) → IsKnown (given i)) →
       IsKnown (as_receiver e r given)
-  known_receiver r given live h =
-      elim (place_of e.index r.0) as (λ o. is_some o ≡ true → IsKnown (at_index e o given))
+  known_receiver r given live h = elim (place_of e.index r.0) as (λ o. is_some o ≡ true → IsKnown (at_index e o given))
       [ None ↦ λ no. absurd (false≢true no) | Some i ↦ λ _. h i ] live
 
   known_receive : (r i : ℕ) → IsKnown (receive e r i)
@@ -140,8 +137,7 @@ module _ {T : Type 0} (e : Endless T) where
   known_subscribe i = cond_case IsKnown (is_full (length e.index) e.next) _ _ (λ _. refl) (λ _. refl)
 
   pub call_known : (call : BCall T) → lives (numbers e) (speaker call) ≡ true → no_handle (step e call).0 ≡ false
-  call_known (Send tx v) h =
-      known_sender tx (Some v) (send e v) h
+  call_known (Send tx v) h = known_sender tx (Some v) (send e v) h
       (cond_case IsKnown (eqb (length e.index) 0) _ _ (λ _. refl)
       (λ _. cond_case IsKnown (eqb (tail_of e) (2 ^ 64 - 1)) _ _ (λ _. refl) (λ _. refl)))
   call_known (TryRecv r) h = known_receiver r (receive e r.0) h (known_receive r.0)

@@ -33,7 +33,7 @@ use Rattle.th_registry.specs.declared.channel.Channel.TheVariants.{Broadcast, Wa
 use Rattle.th_registry.specs.declared.outcome.NoEvent.{NoEvent}
 use Rattle.th_registry.specs.declared.outcome.NoEvent.TheVariants as NoEvents
 use Rattle.th_registry.specs.Calls.{Bytes, tx, rx}
-use Rattle.th_registry.specs.Events.{Event, Binds, Subscribes, Sends, Asks, Receives, Resubscribes, DropsTx, DropsRx, Hub, Own, sender_of, is_hub, Told, broadcast_made_rx, broadcast_made_tx, broadcast_outcome, watch_made_rx, watch_made_tx, watch_outcome, ChannelReply, ended_or, is_broadcast_done, is_watch_done}
+use Rattle.th_registry.specs.Events.{Event, Binds, Subscribes, Sends, Asks, Receives, Resubscribes, DropsTx, DropsRx, Hub, Own, sender_of, is_hub, EventResult, broadcast_made_rx, broadcast_made_tx, broadcast_outcome, watch_made_rx, watch_made_tx, watch_outcome, ChannelReply, ended_or, is_broadcast_done, is_watch_done}
 use Rattle.th_registry.specs.History.{recorded}
 use Rattle.th_registry.specs.Hub.{came, if_live, broadcast_replies, broadcast_event, moved, watch_replies, watch_event, channel_event, cut_channel}
 use Rattle.th_registry.specs.Endless.{EndlessBroadcast, EndlessChannel, EndlessWatch, endless_broadcast, endless_watch, watch_step, IsProperChannel}
@@ -53,18 +53,16 @@ IsWatchCallBy None x = Unit {0}
 IsWatchCallBy (Some call) x = (w.speaker call ≡ x) × ((y : Handle) → w.Spends call y → ⊥)
 
 pub sent-by : (verb : SenderVerb Bytes) (t : TxId) → IsCallBy (broadcast_by_sender verb t) (Sender t)
-sent-by (SenderVerbs.Send v) t = (refl, λ y h. h)
-sent-by (SenderVerbs.Replace v) t = tt
-sent-by (SenderVerbs.Set v) t = tt
-sent-by (SenderVerbs.Differ v) t = tt
-sent-by (SenderVerbs.Quiet v) t = tt
+sent-by verb t = elim verb as (λ verb. IsCallBy (broadcast_by_sender verb t) (Sender t)) [
+  | SenderVerbs.Send v ↦ (refl, λ y h. h)
+  | _ ↦ tt
+]
 
 pub watch-sent-by : (verb : SenderVerb Bytes) (t : TxId) → IsWatchCallBy (watch_by_sender verb t) (Sender t)
-watch-sent-by (SenderVerbs.Send v) t = (refl, λ y h. h)
-watch-sent-by (SenderVerbs.Replace v) t = (refl, λ y h. h)
-watch-sent-by (SenderVerbs.Set v) t = (refl, λ y h. h)
-watch-sent-by (SenderVerbs.Differ v) t = (refl, λ y h. h)
-watch-sent-by (SenderVerbs.Quiet v) t = (refl, λ y h. h)
+watch-sent-by verb t = elim verb as (λ verb. IsWatchCallBy (watch_by_sender verb t) (Sender t)) [
+  | SenderVerbs.Send v ↦ (refl, λ y h. h)
+  | _ ↦ (refl, λ y h. h)
+]
 
 pub asked-by : (question : Question) (t : TxId) → IsCallBy (broadcast_asked question t) (Sender t)
 asked-by Questions.Queued t = (refl, λ y h. h)
@@ -75,96 +73,34 @@ watch-asked-by Questions.Queued t = tt
 watch-asked-by Questions.Readers t = (refl, λ y h. h)
 
 pub received-by : (verb : ReceiverVerb) (r : RxId) → IsCallBy (broadcast_by_receiver verb r) (Receiver r)
-received-by ReceiverVerbs.TryRecv r = (refl, λ y h. h)
-received-by ReceiverVerbs.Recv r = (refl, λ y h. h)
-received-by ReceiverVerbs.Left r = (refl, λ y h. h)
-received-by ReceiverVerbs.Borrow r = tt
-received-by ReceiverVerbs.Take r = tt
-received-by ReceiverVerbs.HasChanged r = tt
-received-by ReceiverVerbs.TryChanged r = tt
-received-by ReceiverVerbs.Changed r = tt
-received-by ReceiverVerbs.MarkChanged r = tt
-received-by ReceiverVerbs.MarkUnchanged r = tt
+received-by verb r = elim verb as (λ verb. IsCallBy (broadcast_by_receiver verb r) (Receiver r)) [
+  | ReceiverVerbs.TryRecv ↦ (refl, λ y h. h)
+  | ReceiverVerbs.Recv ↦ (refl, λ y h. h)
+  | ReceiverVerbs.Left ↦ (refl, λ y h. h)
+  | _ ↦ tt
+]
 
 pub watch-received-by : (verb : ReceiverVerb) (r : RxId) → IsWatchCallBy (watch_by_receiver verb r) (Receiver r)
-watch-received-by ReceiverVerbs.TryRecv r = tt
-watch-received-by ReceiverVerbs.Recv r = tt
-watch-received-by ReceiverVerbs.Left r = tt
-watch-received-by ReceiverVerbs.Borrow r = (refl, λ y h. h)
-watch-received-by ReceiverVerbs.Take r = (refl, λ y h. h)
-watch-received-by ReceiverVerbs.HasChanged r = (refl, λ y h. h)
-watch-received-by ReceiverVerbs.TryChanged r = (refl, λ y h. h)
-watch-received-by ReceiverVerbs.Changed r = (refl, λ y h. h)
-watch-received-by ReceiverVerbs.MarkChanged r = (refl, λ y h. h)
-watch-received-by ReceiverVerbs.MarkUnchanged r = (refl, λ y h. h)
+watch-received-by verb r = elim verb as (λ verb. IsWatchCallBy (watch_by_receiver verb r) (Receiver r))
+    [ ReceiverVerbs.TryRecv ↦ tt | ReceiverVerbs.Recv ↦ tt | ReceiverVerbs.Left ↦ tt | _ ↦ (refl, λ y h. h) ]
 
 -- the handle that was made, as it is told
 
 made-tx : (reply : BReply Bytes) (x : Handle) → new_handle (Ok (broadcast_made_tx reply)) ≡ Some x → b.made_by reply ≡ Some x
-made-tx (BReplies.Sent n) x e = absurd (none-some x e)
-made-tx (BReplies.NoReceivers v) x e = absurd (none-some x e)
-made-tx (BReplies.Exhausted v) x e = absurd (none-some x e)
-made-tx (BReplies.Value v) x e = absurd (none-some x e)
-made-tx BReplies.Empty x e = absurd (none-some x e)
-made-tx BReplies.Closed x e = absurd (none-some x e)
-made-tx (BReplies.Lagged n) x e = absurd (none-some x e)
-made-tx (BReplies.NewRx r) x e = absurd (none-some x e)
-made-tx (BReplies.NewTx t) x e = e
-made-tx (BReplies.Count n) x e = absurd (none-some x e)
-made-tx BReplies.Done x e = absurd (none-some x e)
-made-tx BReplies.TooMany x e = absurd (none-some x e)
-made-tx (BReplies.NoHandle v) x e = absurd (none-some x e)
+made-tx reply x = elim reply as (λ reply. new_handle (Ok (broadcast_made_tx reply)) ≡ Some x → b.made_by reply ≡ Some x)
+    [ BReplies.NewTx t ↦ λ e. e | _ ↦ λ e. absurd (none-some x e) ]
 
 made-rx : (reply : BReply Bytes) (x : Handle) → new_handle (Ok (broadcast_made_rx reply)) ≡ Some x → b.made_by reply ≡ Some x
-made-rx (BReplies.Sent n) x e = absurd (none-some x e)
-made-rx (BReplies.NoReceivers v) x e = absurd (none-some x e)
-made-rx (BReplies.Exhausted v) x e = absurd (none-some x e)
-made-rx (BReplies.Value v) x e = absurd (none-some x e)
-made-rx BReplies.Empty x e = absurd (none-some x e)
-made-rx BReplies.Closed x e = absurd (none-some x e)
-made-rx (BReplies.Lagged n) x e = absurd (none-some x e)
-made-rx (BReplies.NewRx r) x e = e
-made-rx (BReplies.NewTx t) x e = absurd (none-some x e)
-made-rx (BReplies.Count n) x e = absurd (none-some x e)
-made-rx BReplies.Done x e = absurd (none-some x e)
-made-rx BReplies.TooMany x e = absurd (none-some x e)
-made-rx (BReplies.NoHandle v) x e = absurd (none-some x e)
+made-rx reply x = elim reply as (λ reply. new_handle (Ok (broadcast_made_rx reply)) ≡ Some x → b.made_by reply ≡ Some x)
+    [ BReplies.NewRx r ↦ λ e. e | _ ↦ λ e. absurd (none-some x e) ]
 
 watch-made-tx : (reply : WReply Bytes) (x : Handle) → new_handle (Ok (watch_made_tx reply)) ≡ Some x → w.made_by reply ≡ Some x
-watch-made-tx WReplies.Done x e = absurd (none-some x e)
-watch-made-tx (WReplies.NoReceivers v) x e = absurd (none-some x e)
-watch-made-tx (WReplies.Exhausted v) x e = absurd (none-some x e)
-watch-made-tx (WReplies.Was v) x e = absurd (none-some x e)
-watch-made-tx (WReplies.Modified b) x e = absurd (none-some x e)
-watch-made-tx (WReplies.Shown v b) x e = absurd (none-some x e)
-watch-made-tx (WReplies.Changed b) x e = absurd (none-some x e)
-watch-made-tx WReplies.Marked x e = absurd (none-some x e)
-watch-made-tx WReplies.NotYet x e = absurd (none-some x e)
-watch-made-tx WReplies.Closed x e = absurd (none-some x e)
-watch-made-tx (WReplies.Gone b) x e = absurd (none-some x e)
-watch-made-tx (WReplies.NewRx r) x e = absurd (none-some x e)
-watch-made-tx (WReplies.NewTx t) x e = e
-watch-made-tx (WReplies.Count n) x e = absurd (none-some x e)
-watch-made-tx WReplies.TooMany x e = absurd (none-some x e)
-watch-made-tx (WReplies.NoHandle v) x e = absurd (none-some x e)
+watch-made-tx reply x = elim reply as (λ reply. new_handle (Ok (watch_made_tx reply)) ≡ Some x → w.made_by reply ≡ Some x)
+    [ WReplies.NewTx t ↦ λ e. e | _ ↦ λ e. absurd (none-some x e) ]
 
 watch-made-rx : (reply : WReply Bytes) (x : Handle) → new_handle (Ok (watch_made_rx reply)) ≡ Some x → w.made_by reply ≡ Some x
-watch-made-rx WReplies.Done x e = absurd (none-some x e)
-watch-made-rx (WReplies.NoReceivers v) x e = absurd (none-some x e)
-watch-made-rx (WReplies.Exhausted v) x e = absurd (none-some x e)
-watch-made-rx (WReplies.Was v) x e = absurd (none-some x e)
-watch-made-rx (WReplies.Modified b) x e = absurd (none-some x e)
-watch-made-rx (WReplies.Shown v b) x e = absurd (none-some x e)
-watch-made-rx (WReplies.Changed b) x e = absurd (none-some x e)
-watch-made-rx WReplies.Marked x e = absurd (none-some x e)
-watch-made-rx WReplies.NotYet x e = absurd (none-some x e)
-watch-made-rx WReplies.Closed x e = absurd (none-some x e)
-watch-made-rx (WReplies.Gone b) x e = absurd (none-some x e)
-watch-made-rx (WReplies.NewRx r) x e = e
-watch-made-rx (WReplies.NewTx t) x e = absurd (none-some x e)
-watch-made-rx (WReplies.Count n) x e = absurd (none-some x e)
-watch-made-rx WReplies.TooMany x e = absurd (none-some x e)
-watch-made-rx (WReplies.NoHandle v) x e = absurd (none-some x e)
+watch-made-rx reply x = elim reply as (λ reply. new_handle (Ok (watch_made_rx reply)) ≡ Some x → w.made_by reply ≡ Some x)
+    [ WReplies.NewRx r ↦ λ e. e | _ ↦ λ e. absurd (none-some x e) ]
 
 ended-none : (done : Bool) (reply : ChannelReply) (x : Handle) → new_handle (Ok (ended_or done reply)) ≡ Some x → ⊥
 ended-none true reply x e = none-some x e
@@ -198,7 +134,7 @@ moved_on h r a = let mid = recorded h (BCalls.Resubscribe r) a in moved endless_
 
 -- an event of a broadcast channel
 module _ (h : EndlessBroadcast) (s : broadcast.IsProper h.state) where
-  abbrev told : Event → Result (BReply Bytes) NoEvent × EndlessBroadcast → Told
+  abbrev told : Event → Result (BReply Bytes) NoEvent × EndlessBroadcast → EventResult
   told event a = came (broadcast_outcome event) a.0
 
   abbrev LeadsOn : Event → Result (BReply Bytes) NoEvent × EndlessBroadcast → Type 0
@@ -251,8 +187,7 @@ module _ (h : EndlessBroadcast) (s : broadcast.IsProper h.state) where
       (λ x e k. false≢true (sym (ap (lives (b.numbers h.state)) (sym k) ∙ (new.fresh x e).1) ∙ ap is_some there)))
 
   moves-on : (r : RxId) → LeadsOn (Resubscribes r) (broadcast_event endless_broadcast h (Resubscribes r))
-  moves-on r =
-      cond_case (λ (a : Result (BReply Bytes) NoEvent × EndlessBroadcast). LeadsOn (Resubscribes r) (moved endless_broadcast r a))
+  moves-on r = cond_case (λ (a : Result (BReply Bytes) NoEvent × EndlessBroadcast). LeadsOn (Resubscribes r) (moved endless_broadcast r a))
       (endless_broadcast.is_full h (BCalls.Resubscribe r)) _ _
       (λ _. none (Resubscribes r) NoEvents.LogFull) (λ _. joins-on r (place_of h.state.index r.0) refl)
 
@@ -273,7 +208,7 @@ module _ (h : EndlessBroadcast) (s : broadcast.IsProper h.state) where
 
 -- and one of a watch channel
 module _ (h : EndlessWatch) (s : watch.IsProper h.state) where
-  abbrev watch_told : Event → Result (WReply Bytes) NoEvent × EndlessWatch → Told
+  abbrev watch_told : Event → Result (WReply Bytes) NoEvent × EndlessWatch → EventResult
   watch_told event a = came (watch_outcome event) a.0
 
   abbrev WatchLeadsOn : Event → Result (WReply Bytes) NoEvent × EndlessWatch → Type 0

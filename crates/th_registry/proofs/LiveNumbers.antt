@@ -55,8 +55,7 @@ sender-with (x ∷ ks) k q h =
 
 sender-new : (ks : List ℕ) (k : ℕ) → is_sender (with_sender ks k) k ≡ true
 sender-new [] k = rw (is_at_self k) refl
-sender-new (x ∷ ks) k =
-    elim (nat_cmp k x) as
+sender-new (x ∷ ks) k = elim (nat_cmp k x) as
     (λ r. nat_cmp k x ≡ r → is_sender (match_ordering r (k ∷ x ∷ ks) (x ∷ ks) (x ∷ insert_key nat_cmp ks k)) k ≡ true) [
       | Less ↦ λ _. rw (is_at_self k) refl
       | Equal ↦ λ e. rw e refl
@@ -91,12 +90,6 @@ place-with ps r i q h = elim (eqb_tells q r) [
 
 place-without : (ps : Places) (r q : ℕ) → (q ≡ r → ⊥) → is_some (place_of ps q) ≡ true → is_some (place_of (without_place ps r) q) ≡ true
 place-without ps r q ne h = ap is_some (place-without_other ps r q ne) ∙ h
-
-sender-apart : (t : TxId) (k : ℕ) → (Sender t ≡ Sender (tx k) → ⊥) → t.0 ≡ k → ⊥
-sender-apart t k ne e = ne (ap (λ n. Sender (tx n)) e)
-
-receiver-apart : (r : RxId) (k : ℕ) → (Receiver r ≡ Receiver (rx k) → ⊥) → r.0 ≡ k → ⊥
-receiver-apart r k ne e = ne (ap (λ n. Receiver (rx n)) e)
 
 -- with one sender more, and with one receiver more
 abbrev pub with_clone : Numbers → Numbers

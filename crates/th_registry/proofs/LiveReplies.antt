@@ -38,37 +38,12 @@ use Rattle.th_registry.proofs.LiveTopics.{step, hubs_sender}
 -- what comes of a reply
 
 plain-known : (reply : BReply Bytes) → b.no_handle reply ≡ false → lacks_handle (Ok (Replied (Broadcast reply))) ≡ false
-plain-known (BReplies.Sent n) h = refl
-plain-known (BReplies.NoReceivers v) h = refl
-plain-known (BReplies.Exhausted v) h = refl
-plain-known (BReplies.Value v) h = refl
-plain-known BReplies.Empty h = refl
-plain-known BReplies.Closed h = refl
-plain-known (BReplies.Lagged n) h = refl
-plain-known (BReplies.NewRx r) h = refl
-plain-known (BReplies.NewTx t) h = refl
-plain-known (BReplies.Count n) h = refl
-plain-known BReplies.Done h = refl
-plain-known BReplies.TooMany h = refl
-plain-known (BReplies.NoHandle v) h = h
+plain-known reply = elim reply as (λ reply. b.no_handle reply ≡ false → lacks_handle (Ok (Replied (Broadcast reply))) ≡ false)
+    [ BReplies.NoHandle v ↦ λ h. h | _ ↦ λ h. refl ]
 
 watch-plain-known : (reply : WReply Bytes) → w.no_handle reply ≡ false → lacks_handle (Ok (Replied (Watch reply))) ≡ false
-watch-plain-known WReplies.Done h = refl
-watch-plain-known (WReplies.NoReceivers v) h = refl
-watch-plain-known (WReplies.Exhausted v) h = refl
-watch-plain-known (WReplies.Was v) h = refl
-watch-plain-known (WReplies.Modified b) h = refl
-watch-plain-known (WReplies.Shown v b) h = refl
-watch-plain-known (WReplies.Changed b) h = refl
-watch-plain-known WReplies.Marked h = refl
-watch-plain-known WReplies.NotYet h = refl
-watch-plain-known WReplies.Closed h = refl
-watch-plain-known (WReplies.Gone b) h = refl
-watch-plain-known (WReplies.NewRx r) h = refl
-watch-plain-known (WReplies.NewTx t) h = refl
-watch-plain-known (WReplies.Count n) h = refl
-watch-plain-known WReplies.TooMany h = refl
-watch-plain-known (WReplies.NoHandle v) h = h
+watch-plain-known reply = elim reply as (λ reply. w.no_handle reply ≡ false → lacks_handle (Ok (Replied (Watch reply))) ≡ false)
+    [ WReplies.NoHandle v ↦ λ h. h | _ ↦ λ h. refl ]
 
 made-known : {H : Type 0} (number : H → Outcome) (reply : ChannelReply) (made : Option H) →
     ((x : H) → lacks_handle (Ok (number x)) ≡ false) →
@@ -142,8 +117,7 @@ module _ (h : EndlessBroadcast) where
   joined-known : (r : RxId) (o : Option ℕ) → is_some o ≡ true →
       IsServed (Resubscribes r) (moved_on h r (broadcast.at_index h.state o (λ _. broadcast.subscribe h.state)))
   joined-known r None lacks = absurd (false≢true lacks)
-  joined-known r (Some i) there =
-      cond_case (λ (a : BReply Bytes × broadcast.Endless Bytes). IsServed (Resubscribes r) (moved_on h r a))
+  joined-known r (Some i) there = cond_case (λ (a : BReply Bytes × broadcast.Endless Bytes). IsServed (Resubscribes r) (moved_on h r a))
       (is_full (length h.state.index) h.state.next) (BReplies.TooMany, h.state) (
         BReplies.NewRx (rx h.state.next),
         broadcast.numbered (broadcast.with_index h.state
@@ -154,8 +128,7 @@ module _ (h : EndlessBroadcast) where
       IsServed (Resubscribes r) (broadcast_event endless_broadcast h (Resubscribes r))
   moved-known r live =
       cond_case (λ (a : Result (BReply Bytes) NoEvent × EndlessBroadcast). IsServed (Resubscribes r) (moved endless_broadcast r a))
-      (endless_broadcast.is_full h (BCalls.Resubscribe r)) _ _
-      (λ _. refl) (λ _. joined-known r (place_of h.state.index r.0) live)
+      (endless_broadcast.is_full h (BCalls.Resubscribe r)) _ _ (λ _. refl) (λ _. joined-known r (place_of h.state.index r.0) live)
 
   event_known : (event : Event) → ((x : Handle) → AskedBy event x → lives (b.numbers h.state) x ≡ true) →
       IsServed event (broadcast_event endless_broadcast h event)

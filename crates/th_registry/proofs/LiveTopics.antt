@@ -18,7 +18,7 @@ use Rattle.th_registry.specs.declared.opening.Refusal.{Refusal}
 use Rattle.th_registry.specs.declared.opening.Refusal.TheVariants as Refusals
 use Rattle.th_registry.specs.declared.outcome.NoEvent.{NoEvent}
 use Rattle.th_registry.specs.Calls.{Bytes, tx}
-use Rattle.th_registry.specs.Events.{Event, Told}
+use Rattle.th_registry.specs.Events.{Event, EventResult}
 use Rattle.th_registry.specs.History.{ChannelSegment}
 use Rattle.th_registry.specs.Hub.{Query, Find, List, Open, On, Cut, most_topics, find, on_channel, added, channel_event, cut_channel, say}
 use Rattle.th_registry.specs.Hub as hub
@@ -29,7 +29,7 @@ use Rattle.th_registry.proofs.LiveNumbers.{lives, number_of}
 use Rattle.th_registry.proofs.LiveChannel.{numbers, lives-is_live, channel_follows, cut_stands}
 
 -- what an event does to a channel
-abbrev pub step : Event → EndlessChannel → Told × EndlessChannel
+abbrev pub step : Event → EndlessChannel → EventResult × EndlessChannel
 step event c = channel_event endless_broadcast endless_watch c event
 
 -- and what the cutting of its segment does
@@ -98,8 +98,7 @@ new-on ts topic event x (Some c) at proper e =
 stay-cut : (ts : EndlessTopics) (topic n : ℕ) (x : Handle) (o : Option EndlessChannel) → slice_get (values_of ts) topic ≡ o →
     IsLive ts n x → IsLive (on_channel ts topic cut o).1 n x
 stay-cut ts topic n x None at h = h
-stay-cut ts topic n x (Some c) at h =
-    stay-set ts topic n x c (cut c).1 at
+stay-cut ts topic n x (Some c) at h = stay-set ts topic n x c (cut c).1 at
     (λ _ live. sym (lives-is_live (cut c).1 x) ∙ ap (λ ns. lives ns x) (cut_stands c) ∙ lives-is_live c x ∙ live) h
 
 -- an opening

@@ -9,7 +9,7 @@ use Rattle.th_model.specs.declared.watch.Edit.TheVariants.{Set, Differ, Quiet}
 use Rattle.th_model.specs.declared.watch.WCall.{WCall}
 use Rattle.th_model.specs.declared.watch.WCall.TheVariants.{Send, Replace, EditBy, Borrow, Take, HasChanged, TryChanged, Changed, MarkChanged, MarkUnchanged, Subscribe, CloneRx, CloneTx, DropTx, DropRx, IsClosed, Readers}
 use Rattle.th_model.specs.declared.watch.WReply.{WReply}
-use Rattle.th_model.specs.declared.watch.WReply.TheVariants.{Done, NoReceivers, Exhausted, Was, Modified, Shown, Marked, NotYet, Closed, Gone, NewRx, NewTx, Count, TooMany, NoHandle}
+use Rattle.th_model.specs.declared.watch.WReply.TheVariants.{Done, Was, NotYet, Closed, NewRx, NewTx, NoHandle}
 use Rattle.th_model.specs.declared.watch.WReply.TheVariants as reply
 use Rattle.th_model.specs.Handles.{is_sender, is_full}
 use Rattle.th_model.specs.WatchMachine.{reader_of, Endless, version_of, is_unseen, with_version, open_reply, publish, send, edit, changed, subscribe, clone_sender, as_sender, at_mark, as_reader, IsProper, step}
@@ -86,8 +86,7 @@ module _ {T : Type 0} (e : Endless T) (s : IsProper e) (gone : Handle → Type 0
   edits eq (Quiet v) = same
 
   changes : (r m : ℕ) → LeadsOn (changed e r m)
-  changes r m =
-      cond_case LeadsOn (is_unseen e m) _ _ (λ _. moves (numbers e) gone r _)
+  changes r m = cond_case LeadsOn (is_unseen e m) _ _ (λ _. moves (numbers e) gone r _)
       (λ _. without_new (open_reply e.senders NotYet) e (open-made e.senders NotYet refl) same)
 
   subscribes : (mark : ℕ) → LeadsOn (subscribe e mark)
@@ -100,15 +99,13 @@ module _ {T : Type 0} (e : Endless T) (s : IsProper e) (gone : Handle → Type 0
 module _ {T : Type 0} (eq : T → T → Bool) (e : Endless T) (gone : Handle → Type 0) (s : IsProper e) where
   pub call_follows : (call : WCall T) → ((x : Handle) → Spends call x → gone x) →
       Follows (numbers e) gone (made_by (step eq e call).0) (numbers (step eq e call).1)
-  call_follows (Send tx v) ends =
-      by_sender e s gone tx (Some v) (send e v)
+  call_follows (Send tx v) ends = by_sender e s gone tx (Some v) (send e v)
       (cond_case (LeadsOn e s gone) (eqb (length e.marks) 0) _ _ (λ _. stands (numbers e) gone) (λ _. publishes e s gone v Done refl))
   call_follows (Replace tx v) ends = by_sender e s gone tx (Some v) _ (publishes e s gone v (Was e.last) refl)
   call_follows (EditBy tx w) ends = by_sender e s gone tx _ (edit eq e w) (edits e s gone eq w)
   call_follows (Borrow r) ends = by_reader e s gone r _ (λ _. stands (numbers e) gone)
   call_follows (Take r) ends = by_reader e s gone r _ (λ _. moves (numbers e) gone r.0 (version_of e))
-  call_follows (HasChanged r) ends =
-      by_reader e s gone r _
+  call_follows (HasChanged r) ends = by_reader e s gone r _
       (λ m. without_new e s gone (open_reply e.senders (reply.Changed (is_unseen e m))) e
       (open-made e.senders (reply.Changed (is_unseen e m)) refl) (stands (numbers e) gone))
   call_follows (TryChanged r) ends = by_reader e s gone r (changed e r.0) (changes e s gone r.0)
@@ -134,8 +131,7 @@ module _ {T : Type 0} (eq : T → T → Bool) (e : Endless T) where
 
   known_reader : (r : RxId) (given : ℕ → WReply T × Endless T) → is_some (reader_of e.marks r.0) ≡ true → ((m : ℕ) → IsKnown (given m)) →
       IsKnown (as_reader e r given)
-  known_reader r given live h =
-      elim (reader_of e.marks r.0) as (λ o. is_some o ≡ true → IsKnown (at_mark e o given))
+  known_reader r given live h = elim (reader_of e.marks r.0) as (λ o. is_some o ≡ true → IsKnown (at_mark e o given))
       [ None ↦ λ no. absurd (false≢true no) | Some m ↦ λ _. h m ] live
 
   known_publish : (v : T) (r : WReply T) → no_handle r ≡ false → IsKnown (publish e v r)

@@ -37,16 +37,14 @@ module _ {B W : Type 0} where
 
   -- a topic is found exactly where its name is among the keys
   is-found : (ts : Topics B W) (name : Bytes) → is_some (find ts name) ≡ is_some (lookup (pointwise nat_eq name) ts)
-  is-found ts name =
-      found-at ts (position (pointwise nat_eq name) (keys_of ts))
+  is-found ts name = found-at ts (position (pointwise nat_eq name) (keys_of ts))
       (λ n e. there ts n (position-Some (pointwise nat_eq name) (keys_of ts) n [] e).0)
       ∙ some_index (pointwise nat_eq name) ts
 
   -- a name that is not found goes last
   pub insert-new : (ts : Topics B W) (name : Bytes) (c : Channel B W) → is_some (find ts name) ≡ false →
       insert_entry (pointwise nat_eq) ts name c ≡ ts ++ (name, c) ∷ []
-  insert-new ts name c h =
-      insert_entry-absent (pointwise nat_eq) name c ts
+  insert-new ts name c h = insert_entry-absent (pointwise nat_eq) name c ts
       (absent_from_lookup (pointwise nat_eq name) ts (none-of _ (sym (is-found ts name) ∙ h)))
 
 module _ {B W : Type 0} (m : Machines B W) (ts : Topics B W) (name : Bytes) (new : is_some (find ts name) ≡ false) where
@@ -57,14 +55,12 @@ module _ {B W : Type 0} (m : Machines B W) (ts : Topics B W) (name : Bytes) (new
   -- of a making that gives this channel and this number
   pub opens-full : (making : Making) (n : ℕ) (c : Channel B W) → made m (length ts + 1) making ≡ Some (n, c) → most_topics ≤ length ts →
       open_topic m ts name making ≡ (Err Refusals.TooManyTopics, ts)
-  opens-full making n c e full =
-      opens making _ e
+  opens-full making n c e full = opens making _ e
       ∙ ap (λ b. cond b (Err Refusals.TooManyTopics, ts) (Ok n, ts ++ (name, c) ∷ [])) (le-leb most_topics (length ts) full)
 
   pub opens-new : (making : Making) (n : ℕ) (c : Channel B W) → made m (length ts + 1) making ≡ Some (n, c) → length ts < most_topics →
       open_topic m ts name making ≡ (Ok n, ts ++ (name, c) ∷ [])
-  opens-new making n c e room =
-      opens making _ e
+  opens-new making n c e room = opens making _ e
       ∙ ap (λ b. cond b (Err Refusals.TooManyTopics, ts) (Ok n, ts ++ (name, c) ∷ [])) (lt-leb most_topics (length ts) room)
 
   -- want of memory is told only where the topic would be opened
@@ -89,6 +85,5 @@ module _ {B W : Type 0} (m : Machines B W) (key asked base : ℕ) where
 
   pub made-some : (c : ℕ) → base < 2 ^ 64 → capacity_of asked ≡ Some c →
       made m key making ≡ Some (c, Broadcast (m.broadcast_opened c base key))
-  made-some c fits e =
-      ap (λ o. cond (nat_lt base (2 ^ 64)) (option_map (λ c. (c, Broadcast (m.broadcast_opened c base key))) o) None) e
+  made-some c fits e = ap (λ o. cond (nat_lt base (2 ^ 64)) (option_map (λ c. (c, Broadcast (m.broadcast_opened c base key))) o) None) e
       ∙ ap (λ b. cond b (Some (c, Broadcast (m.broadcast_opened c base key))) None) (lt-ltb base (2 ^ 64) fits)

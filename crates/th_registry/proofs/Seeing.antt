@@ -147,8 +147,7 @@ open_if-seen ts name o false = added-seen ts name o
 
 open-seen : (limit : ℕ) (ts : EndlessTopics) (name : Bytes) (making : Making) →
     open_topic (pictures limit) (see_topics ts) name making ≡ see_opened (open_topic (endless limit) ts name making)
-open-seen limit ts name making =
-    ap (λ f. cond (is_some f) (refused Refusals.Exists (see_topics ts))
+open-seen limit ts name making = ap (λ f. cond (is_some f) (refused Refusals.Exists (see_topics ts))
     (added (see_topics ts) name (made (pictures limit) (length (see_topics ts) + 1) making))) (find-seen ts name)
     ∙ ap (λ n. cond (is_some (find ts name)) (refused Refusals.Exists (see_topics ts))
     (added (see_topics ts) name (made (pictures limit) (n + 1) making))) (length-map ts see_topic)
@@ -198,8 +197,7 @@ module _ {C D K R P : Type 0} (see : C → D) (m : ChannelMachine C K R P) (p : 
       replies p waits no_sender (see c) call ≡ after_reply see (replies m waits no_sender c call)
   replies-seen no_sender None = refl
   replies-seen true (Some call) = refl
-  replies-seen false (Some call) =
-      ap (λ s. called (waits call s.0) (p.is_full (see c) call) (see c) s) (seen call)
+  replies-seen false (Some call) = ap (λ s. called (waits call s.0) (p.is_full (see c) call) (see c) s) (seen call)
       ∙ ap (λ f. called (waits call (m.step c call).0) f (see c) ((m.step c call).0, see (m.step c call).1)) (full call)
       ∙ called-seen see c (m.step c call) (waits call (m.step c call).0) (m.is_full c call)
 
@@ -208,8 +206,7 @@ module _ {C K R P : Type 0} (Q : C → Type 0) (m : ChannelMachine C K R P) (wai
   proper-replies : (no_sender : Bool) (call : Option K) → Q (replies m waits no_sender c call).1
   proper-replies no_sender None = before
   proper-replies true (Some call) = before
-  proper-replies false (Some call) =
-      cond_case (λ (s : Replies R C). Q s.1) (waits call (m.step c call).0) _ _ (λ _. before)
+  proper-replies false (Some call) = cond_case (λ (s : Replies R C). Q s.1) (waits call (m.step c call).0) _ _ (λ _. before)
       (λ _. cond_case (λ (s : Replies R C). Q s.1) (m.is_full c call) _ _ (λ _. before) (λ _. after call))
 
   proper-if_live : (live : Bool) (s : Replies R C) → Q s.1 → Q (if_live live c s).1
@@ -267,37 +264,20 @@ module _ (h : EndlessBroadcast) (proper : broadcast.IsProper h.state) where
 
 moved-seen : (r : RxId) (s : Replies (BReply Bytes) EndlessBroadcast) → broadcast.IsProper s.1.state →
     moved seen_broadcast r (after_reply see_broadcast s) ≡ after_reply see_broadcast (moved endless_broadcast r s)
-moved-seen r (Ok (BReplies.NewRx new), h) proper = ap (λ s. (Ok (BReplies.NewRx new), s.1)) (step-seen h proper (BCalls.DropRx r))
-moved-seen r (Ok (BReplies.NewTx t), h) proper = refl
-moved-seen r (Ok (BReplies.Sent n), h) proper = refl
-moved-seen r (Ok (BReplies.NoReceivers v), h) proper = refl
-moved-seen r (Ok (BReplies.Exhausted v), h) proper = refl
-moved-seen r (Ok (BReplies.Value v), h) proper = refl
-moved-seen r (Ok BReplies.Empty, h) proper = refl
-moved-seen r (Ok BReplies.Closed, h) proper = refl
-moved-seen r (Ok (BReplies.Lagged n), h) proper = refl
-moved-seen r (Ok (BReplies.Count n), h) proper = refl
-moved-seen r (Ok BReplies.Done, h) proper = refl
-moved-seen r (Ok BReplies.TooMany, h) proper = refl
-moved-seen r (Ok (BReplies.NoHandle v), h) proper = refl
-moved-seen r (Err why, h) proper = refl
+moved-seen r (said, h) proper =
+    elim said as
+    (λ said. moved seen_broadcast r (after_reply see_broadcast (said, h))
+    ≡ after_reply see_broadcast (moved endless_broadcast r (said, h))) [
+      | Ok (BReplies.NewRx new) ↦ ap (λ s. (Ok (BReplies.NewRx new), s.1)) (step-seen h proper (BCalls.DropRx r))
+      | _ ↦ refl
+    ]
 
 proper-moved : (r : RxId) (s : Replies (BReply Bytes) EndlessBroadcast) → broadcast.IsProper s.1.state →
     broadcast.IsProper (moved endless_broadcast r s).1.state
-proper-moved r (Ok (BReplies.NewRx new), h) proper = broadcast_proper.step_proper h.state (BCalls.DropRx r) proper
-proper-moved r (Ok (BReplies.NewTx t), h) proper = proper
-proper-moved r (Ok (BReplies.Sent n), h) proper = proper
-proper-moved r (Ok (BReplies.NoReceivers v), h) proper = proper
-proper-moved r (Ok (BReplies.Exhausted v), h) proper = proper
-proper-moved r (Ok (BReplies.Value v), h) proper = proper
-proper-moved r (Ok BReplies.Empty, h) proper = proper
-proper-moved r (Ok BReplies.Closed, h) proper = proper
-proper-moved r (Ok (BReplies.Lagged n), h) proper = proper
-proper-moved r (Ok (BReplies.Count n), h) proper = proper
-proper-moved r (Ok BReplies.Done, h) proper = proper
-proper-moved r (Ok BReplies.TooMany, h) proper = proper
-proper-moved r (Ok (BReplies.NoHandle v), h) proper = proper
-proper-moved r (Err why, h) proper = proper
+proper-moved r (said, h) proper = elim said as (λ said. broadcast.IsProper (moved endless_broadcast r (said, h)).1.state) [
+  | Ok (BReplies.NewRx new) ↦ broadcast_proper.step_proper h.state (BCalls.DropRx r) proper
+  | _ ↦ proper
+]
 
 module _ (h : EndlessBroadcast) (proper : broadcast.IsProper h.state) where
   -- the end of a handle
@@ -311,8 +291,7 @@ module _ (h : EndlessBroadcast) (proper : broadcast.IsProper h.state) where
 
   broadcast-seen : (event : Event) → broadcast_event seen_broadcast (see_broadcast h) event
       ≡ after_reply see_broadcast (broadcast_event endless_broadcast h event)
-  broadcast-seen (Resubscribes r) =
-      ap (moved seen_broadcast r) (broadcast_replies-seen h proper false (broadcast_call (Resubscribes r)))
+  broadcast-seen (Resubscribes r) = ap (moved seen_broadcast r) (broadcast_replies-seen h proper false (broadcast_call (Resubscribes r)))
       ∙ moved-seen r (broadcast_replies endless_broadcast h false (broadcast_call (Resubscribes r)))
       (proper-broadcast_replies h proper false (broadcast_call (Resubscribes r)))
   broadcast-seen Binds = broadcast_replies-seen h proper true (broadcast_call Binds)
@@ -333,8 +312,7 @@ module _ (h : EndlessBroadcast) (proper : broadcast.IsProper h.state) where
       (proper-broadcast_replies h proper false call)
 
   proper-broadcast : (event : Event) → broadcast.IsProper (broadcast_event endless_broadcast h event).1.state
-  proper-broadcast (Resubscribes r) =
-      proper-moved r (broadcast_replies endless_broadcast h false (broadcast_call (Resubscribes r)))
+  proper-broadcast (Resubscribes r) = proper-moved r (broadcast_replies endless_broadcast h false (broadcast_call (Resubscribes r)))
       (proper-broadcast_replies h proper false (broadcast_call (Resubscribes r)))
   proper-broadcast Binds = proper-broadcast_replies h proper true (broadcast_call Binds)
   proper-broadcast (Subscribes start by) = proper-broadcast_replies h proper (is_hub by) (broadcast_call (Subscribes start by))
@@ -367,8 +345,7 @@ module _ (h : EndlessWatch) (proper : watch.IsProper h.state) where
   watch_spent-seen : (live seen : Bool) → seen ≡ live → (call : Option (WCall Bytes)) →
       if_live seen (see_watch h) (watch_replies seen_watch (see_watch h) false call)
       ≡ after_reply see_watch (if_live live h (watch_replies endless_watch h false call))
-  watch_spent-seen live seen same call =
-      ap (λ b. if_live b (see_watch h) (watch_replies seen_watch (see_watch h) false call)) same
+  watch_spent-seen live seen same call = ap (λ b. if_live b (see_watch h) (watch_replies seen_watch (see_watch h) false call)) same
       ∙ ap (if_live live (see_watch h)) (watch_replies-seen false call)
       ∙ if_live-seen see_watch live h (watch_replies endless_watch h false call)
 
@@ -442,14 +419,12 @@ module _ {A : Type 0} (done_seen : SeenChannel → Result A NoEvent × SeenChann
       on_channel (see_topics ts) n done_seen (option_map see_channel o)
       ≡ ((on_channel ts n done o).0, see_topics (on_channel ts n done o).1)
   on_channel-seen ts n None proper = refl
-  on_channel-seen ts n (Some c) proper =
-      ap (written (see_topics ts) n) (seen c (proper c refl))
+  on_channel-seen ts n (Some c) proper = ap (written (see_topics ts) n) (seen c (proper c refl))
       ∙ ap (λ rest. ((done c).0, rest)) (set-seen ts n (done c).1)
 
   at_topic-seen : (ts : EndlessTopics) → AreProper ts → (n : ℕ) →
       at_topic (see_topics ts) n done_seen ≡ ((at_topic ts n done).0, see_topics (at_topic ts n done).1)
-  at_topic-seen ts proper n =
-      ap (λ o. on_channel (see_topics ts) n done_seen o) (ap (λ vs. slice_get vs n) (values-seen ts)
+  at_topic-seen ts proper n = ap (λ o. on_channel (see_topics ts) n done_seen o) (ap (λ vs. slice_get vs n) (values-seen ts)
       ∙ slice_get-map see_channel (values_of ts) n)
       ∙ on_channel-seen ts n (slice_get (values_of ts) n) (proper-at ts proper n)
 
@@ -464,8 +439,7 @@ receipted-seen m p h k same (Err why) call = refl
 
 broadcast_receipt-seen : (h : EndlessBroadcast) → broadcast.IsProper h.state → (event : Event) →
     broadcast_receipt seen_broadcast (see_broadcast h) event ≡ broadcast_receipt endless_broadcast h event
-broadcast_receipt-seen h proper event =
-    ap (λ (s : Replies (BReply Bytes) SeenBroadcast). cond (is_end event) None
+broadcast_receipt-seen h proper event = ap (λ (s : Replies (BReply Bytes) SeenBroadcast). cond (is_end event) None
     (receipted seen_broadcast (see_broadcast h) s.0 (broadcast_call event))) (broadcast-seen h proper event)
     ∙ ap (cond (is_end event) None) (receipted-seen endless_broadcast seen_broadcast h (see_broadcast h) (λ _ _. refl)
     (broadcast_event endless_broadcast h event).0 (broadcast_call event))

@@ -147,12 +147,12 @@ watch_outcome (DropsRx r) reply = ended_or (is_watch_done reply) (Watch reply)
 watch_outcome event reply = Replied (Watch reply)
 
 -- what is said of an event: what came of it, or why there was none
-abbrev pub Told : Type 0
-Told = Result Outcome NoEvent
+abbrev pub EventResult : Type 0
+EventResult = Result Outcome NoEvent
 
 -- The table of what may be refused for want of memory: by the event, and by what would be said of it. Each event takes
 -- room in its channel's log, but for the end of a live handle: room for that was made with the handle.
-abbrev pub takes_memory : Event → Told → Bool
+abbrev pub takes_memory : Event → EventResult → Bool
 takes_memory (DropsTx by) told = false
 takes_memory (DropsRx r) told = false
 takes_memory event (Ok outcome) = true

@@ -30,7 +30,7 @@ use Rattle.th_registry.specs.Kinds.{kind_of}
 use Rattle.th_registry.specs.Calls.{Bytes, tx}
 use Rattle.th_registry.specs.History.{BroadcastSegment, WatchSegment, ChannelSegment}
 use Rattle.th_registry.specs.Receipts.{Receipt, BroadcastReceipt, WatchReceipt, ChannelReceipt}
-use Rattle.th_registry.specs.Events.{Event, Resubscribes, DropsTx, DropsRx, Own, Outcome, Told, broadcast_call, broadcast_outcome, watch_call, watch_outcome, is_by_hub, is_end, takes_memory}
+use Rattle.th_registry.specs.Events.{Event, Resubscribes, DropsTx, DropsRx, Own, Outcome, EventResult, broadcast_call, broadcast_outcome, watch_call, watch_outcome, is_by_hub, is_end, takes_memory}
 
 -- the most topics of a hub
 abbrev pub most_topics : ℕ
@@ -67,7 +67,7 @@ pub data Query : Type 0 where
 
 -- what is said of an event, and its receipt, if one is handed out
 abbrev pub Noted : Type 0
-Noted = Told × Option ChannelReceipt
+Noted = EventResult × Option ChannelReceipt
 
 -- what is said to it: the topic of the name; the topics; the number that is told of a new topic; what came of the event;
 -- the topic's segment
@@ -129,7 +129,7 @@ abbrev pub if_live : {C R : Type 0} → Bool → C → Result R NoEvent × C →
 if_live live c s = if live then s else (Err NoEvents.NotLive, c)
 
 -- what came of an event, by the reply to its call
-abbrev pub came : {R : Type 0} → (R → Outcome) → Result R NoEvent → Told
+abbrev pub came : {R : Type 0} → (R → Outcome) → Result R NoEvent → EventResult
 came outcome (Ok reply) = Ok (outcome reply)
 came outcome (Err why) = Err why
 
@@ -233,17 +233,17 @@ module _ {W : Type 0} (m : ChannelMachine W (WCall Bytes) (WReply Bytes) WatchSe
       if is_end event then None else receipted m c (watch_event c event).0 (watch_call event)
 
 module _ {B W : Type 0} where
-  abbrev pub as_broadcast : Event → Result (BReply Bytes) NoEvent × B → Told × Channel B W
+  abbrev pub as_broadcast : Event → Result (BReply Bytes) NoEvent × B → EventResult × Channel B W
   as_broadcast event s = (came (broadcast_outcome event) s.0, Broadcast s.1)
 
-  abbrev pub as_watch : Event → Result (WReply Bytes) NoEvent × W → Told × Channel B W
+  abbrev pub as_watch : Event → Result (WReply Bytes) NoEvent × W → EventResult × Channel B W
   as_watch event s = (came (watch_outcome event) s.0, Watch s.1)
 
 -- a channel of either kind
 module _ {B W : Type 0} (b : ChannelMachine B (BCall Bytes) (BReply Bytes) BroadcastSegment)
     (w : ChannelMachine W (WCall Bytes) (WReply Bytes) WatchSegment) where
   -- what a channel says of an event
-  abbrev pub channel_event : Channel B W → Event → Told × Channel B W
+  abbrev pub channel_event : Channel B W → Event → EventResult × Channel B W
   channel_event (Broadcast c) event = as_broadcast event (broadcast_event b c event)
   channel_event (Watch c) event = as_watch event (watch_event w c event)
 
@@ -281,7 +281,7 @@ module _ {B W : Type 0} (m : Machines B W) where
       else added ts name (made (length ts + 1) making)
 
   -- one event of the hub, or why there was none
-  abbrev pub event : Topics B W → ℕ → Event → Told × Topics B W
+  abbrev pub event : Topics B W → ℕ → Event → EventResult × Topics B W
   event ts n e = at_topic ts n (λ c. channel_event m.broadcast m.watch c e)
 
   abbrev pub receipt_on : Option (Channel B W) → Event → Option ChannelReceipt

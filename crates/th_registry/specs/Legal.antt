@@ -8,7 +8,7 @@ use Rattle.th_model.specs.WatchPicture as watch_picture
 use Rattle.th_log.specs.History.{Machine, IsLegal, most}
 use Rattle.th_log.specs.Machines as machines
 use Rattle.th_registry.specs.declared.channel.Channel.TheVariants.{Broadcast, Watch}
-use Rattle.th_registry.specs.Events.{Event, DropsTx, DropsRx, Ended, Told, sender_of}
+use Rattle.th_registry.specs.Events.{Event, DropsTx, DropsRx, Ended, EventResult, sender_of}
 use Rattle.th_registry.specs.History.{History, ChannelSegment, segment}
 use Rattle.th_registry.specs.Hub.{Query, On, Cut, say}
 use Rattle.th_registry.specs.Endless.{EndlessChannel, EndlessTopics, endless, AreProper}
@@ -67,7 +67,7 @@ IsEndOf (DropsRx r) x = x ≡ Receiver r
 IsEndOf event x = ⊥
 
 -- it is said that the handle is at its end
-abbrev pub is_done : Told → Bool
+abbrev pub is_done : EventResult → Bool
 is_done (Ok Ended) = true
 is_done told = false
 

@@ -10,7 +10,7 @@ use Rattle.th_model.specs.declared.broadcast.BReply.TheVariants as BReplies
 use Rattle.th_model.specs.declared.watch.WReply.TheVariants as WReplies
 use Rattle.th_registry.specs.declared.channel.Channel.TheVariants.{Broadcast, Watch}
 use Rattle.th_registry.specs.declared.outcome.NoEvent.TheVariants as NoEvents
-use Rattle.th_registry.specs.Events.{Event, Subscribes, Sends, Asks, Receives, Resubscribes, DropsTx, DropsRx, Own, NewTx, NewRx, Replied, Told, sender_of}
+use Rattle.th_registry.specs.Events.{Event, Subscribes, Sends, Asks, Receives, Resubscribes, DropsTx, DropsRx, Own, NewTx, NewRx, Replied, EventResult, sender_of}
 use Rattle.th_registry.specs.Hub.{Query, Find, List, Open, On, Cut, Said}
 use Rattle.th_registry.specs.Endless.{EndlessChannel, EndlessTopics}
 
@@ -36,14 +36,14 @@ abbrev pub IsLive : EndlessTopics → ℕ → Handle → Type 0
 IsLive ts n x = is_live_on (slice_get (values_of ts) n) x ≡ true
 
 -- the handle that an event made, by what is said of it
-abbrev pub new_handle : Told → Option Handle
+abbrev pub new_handle : EventResult → Option Handle
 new_handle (Ok (NewTx t)) = Some (Sender t)
 new_handle (Ok (NewRx r)) = Some (Receiver r)
 new_handle told = None
 
 -- What is said of the event ends the handle: the one that it spends, where that was done. A resubscription spends its
 -- receiver once there is a new one.
-abbrev pub Ends : Event → Told → Handle → Type 0
+abbrev pub Ends : Event → EventResult → Handle → Type 0
 Ends (Resubscribes r) (Ok (NewRx new)) x = x ≡ Receiver r
 Ends (DropsTx by) (Ok outcome) x = x ≡ Sender (sender_of by)
 Ends (DropsRx r) (Ok outcome) x = x ≡ Receiver r
@@ -69,7 +69,7 @@ AskedBy (DropsRx r) x = x ≡ Receiver r
 AskedBy event x = ⊥
 
 -- a channel said that there is no such handle, or that the handle to be spent is not live
-abbrev pub lacks_handle : Told → Bool
+abbrev pub lacks_handle : EventResult → Bool
 lacks_handle (Err NoEvents.NotLive) = true
 lacks_handle (Ok (Replied (Broadcast (BReplies.NoHandle v)))) = true
 lacks_handle (Ok (Replied (Watch (WReplies.NoHandle v)))) = true

@@ -5,7 +5,7 @@ use Rattle.th_model.specs.declared.handles.TxId.{TxId}
 use Rattle.th_log.specs.History.{Machine, live_after}
 use Rattle.th_registry.specs.declared.outcome.NoEvent.{NoEvent}
 use Rattle.th_registry.specs.declared.outcome.NoEvent.TheVariants.{Short}
-use Rattle.th_registry.specs.Events.{Event, Told, takes_memory}
+use Rattle.th_registry.specs.Events.{Event, EventResult, takes_memory}
 use Rattle.th_registry.specs.Hub.{Noted, channel_event, channel_receipt, cut_channel, hub_replies, if_room, moved_by}
 use Rattle.th_registry.specs.History.{ChannelSegment, History, is_full, recorded}
 use Rattle.th_registry.specs.Pictures.{SeenChannel, seen_broadcast, seen_by, seen_watch}
@@ -63,7 +63,7 @@ KindEnds m done live last lacks old (Err why) new =
     (why ≡ lacks) × (live ≡ false) × (new ≡ old)
 
 -- of an event, whose receipt is this, if one is handed out
-abbrev pub NotesOrShort : {C : Type 0} → (Told → Bool) → Noted × C → C → Noted → C → Type 0
+abbrev pub NotesOrShort : {C : Type 0} → (EventResult → Bool) → Noted × C → C → Noted → C → Type 0
 NotesOrShort takes s old noted new =
     SaysOrShort (Err Short, None) (λ noted. takes noted.0) s old noted new
 

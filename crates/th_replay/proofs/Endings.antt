@@ -1,5 +1,5 @@
 -- How a replay goes on, and what has come of it when it ends.
-use Rattle.std.proofs.Common.{◌≡◌, ℕ, ◌+◌, ◌<◌, Bool, true, false, List, [], ◌∷◌, ◌++◌, length, take, refl, sym, ap, ◌∙◌, append_assoc, append-nil, arith, inl, inr, Option, Ok, Err, subst, length-append}
+use Rattle.std.proofs.Common.{◌≡◌, ℕ, ◌+◌, ◌<◌, Bool, true, false, List, [], ◌++◌, length, take, refl, sym, ap, ◌∙◌, append_assoc, append-nil, arith, inl, inr, Option, Ok, Err, subst, length-append}
 use Rattle.std.specs.Io.KnownBytes.{Appends, Consumes, IsAtEnd}
 use Rattle.std.specs.List.{concat}
 use Rattle.std.specs.Prelude.{Result}
@@ -20,12 +20,10 @@ use Rattle.th_lines.proofs.AnsweringLemmas.{answers_line, answers_on, breaks_aft
 use Rattle.th_lines.proofs.LineLemmas.{last_line-none, lines_from-some}
 use Rattle.th_lines.proofs.OutputLemmas.{adds_none, flushed_adds, waiting_front}
 use Rattle.th_registry.specs.Pictures.{SeenTopics}
-use Rattle.th_replay.specs.Outcome.{AllAnswered, BrokenOff, Comes, Devices, PastLines, Replayed, writer_failures}
-use Rattle.th_replay.specs.Progress.{Course, IsBroken, Took, beginning, end_by, may_wait, stands}
+use Rattle.th_replay.specs.Outcome.{AllAnswered, BrokenOff, Comes, Devices, PastLines}
+use Rattle.th_replay.specs.Progress.{Progress, IsBroken, Took, beginning, end_by, may_wait, stands}
 use Rattle.th_replay.specs.Schedule.{Hub, answers, seen_start}
 use Rattle.th_replay.specs.Session.{Turns, session_end, session_text}
-use Rattle.th_replay.specs.declared.fault.ReplayFault.{ReplayFault}
-use Rattle.th_replay.specs.declared.fault.ReplayFault.TheVariants.{Read, Write, TooLong, Short}
 use Rattle.th_replay.proofs.SessionLemmas.{session_text-append}
 use Rattle.th_replay.proofs.Turning.{turned_text}
 
@@ -35,7 +33,7 @@ front_of xs ys n e = ap (λ (k : ℕ). take k (xs ++ ys)) e ∙ take-append_seam
 
 module _ {W D : Type 0} (contents : W → Option (List ℕ)) where
   -- one line was answered
-  pub takes_on : (line : Line) (old new : Course × D × Tally W) (text : List ℕ) (r : Result (Unit {0}) WriteFailed) →
+  pub takes_on : (line : Line) (old new : Progress × D × Tally W) (text : List ℕ) (r : Result (Unit {0}) WriteFailed) →
       Turns answers old.0.hub line text new.0.hub
       → AddsOrFails text (stands contents old).1 (stands contents new).1 r → Takes (Took contents) (IsBroken contents) line old r new
   takes_on line old new text (Ok x) t said = λ from lines a. answers_line a line text (stands contents new) t said
@@ -43,13 +41,12 @@ module _ {W D : Type 0} (contents : W → Option (List ℕ)) where
       breaks_after a (breaks_at false (stands contents old) line text (stands contents new) t front)
 
   -- all replies that waited were written
-  pub settles_on : (old new : Course × D × Tally W) (r : Result (Unit {0}) WriteFailed) → new.0.hub ≡ old.0.hub
+  pub settles_on : (old new : Progress × D × Tally W) (r : Result (Unit {0}) WriteFailed) → new.0.hub ≡ old.0.hub
       → Flushes (stands contents old).1 (stands contents new).1 r →
       Settles (Took contents) (IsBroken contents) (λ p. p.0.waiting ≡ []) old r new
   settles_on old new (Ok x) e f = (
     λ from lines a. subst (λ (h : Hub SeenTopics). Answers (Turns answers) (stands contents from) lines (h, (stands contents new).1))
-        (sym e)
-        (answers_on a (stands contents new).1 (flushed_adds f.0 f.1)),
+        (sym e) (answers_on a (stands contents new).1 (flushed_adds f.0 f.1)),
     f.1,
   )
   settles_on old new (Err why) e f = λ from lines a.
@@ -61,7 +58,7 @@ module _ {W D : Type 0} (contents : W → Option (List ℕ)) where
 
   -- A run from its beginning on, its devices before and after it, and where it stands.
   module _ (old new : Devices) (w : Tally W) (d : D) (before : old.contents ≡ contents w.device) where
-    abbrev first : Course × D × Tally W
+    abbrev first : Progress × D × Tally W
     first = (beginning, d, w)
 
     abbrev out : Output
@@ -107,7 +104,7 @@ module _ {W D : Type 0} (contents : W → Option (List ℕ)) where
           text = sym (append_assoc front.shown front.unsaid rest) ∙ ap (λ (l : List ℕ). l ++ rest) front.text ∙ sym text;
         }
 
-    module _ (n : ℕ) (f : Feeding) (now : Course × D × Tally W)
+    module _ (n : ℕ) (f : Feeding) (now : Progress × D × Tally W)
         (u : Underway (Took contents) (IsBroken contents) old.remaining new.remaining first n f now) (after : Output)
         (same : new.contents ≡ after.written) where
       part : lines_from false [] u.input ≡ u.done ++ lines_after false f.came []
@@ -148,10 +145,9 @@ module _ {W D : Type 0} (contents : W → Option (List ℕ)) where
       broken_within : WritesFront now.0.waiting (stands contents now).1 after → BrokenOff answers seen_start old new
       broken_within front =
           broken_off u.input false u.done (lines_after false f.came []) u.stands.texts now.0.hub after u.read (λ e. absurd (false≢true e))
-          part u.stands.turned
-          (wrote_front refl u.stands.said front) same
+          part u.stands.turned (wrote_front refl u.stands.said front) same
 
-    module _ (reads : ℕ) (f : Feeding) (now : Course × D × Tally W) where
+    module _ (reads : ℕ) (f : Feeding) (now : Progress × D × Tally W) where
       abbrev spent : Type 0
       spent = kept_count new.calls ≡ kept_count (old.calls + reads)
 
@@ -169,8 +165,7 @@ module _ {W D : Type 0} (contents : W → Option (List ℕ)) where
           ∙ append_assoc b.done b.later more.0)
           b.turned b.said same
       comes_at_once Full s same e = absurd (false≢true (sym e))
-      comes_at_once Failed s same e =
-          all_answered reads f now s.0 (stands contents now).1 same s.1
+      comes_at_once Failed s same e = all_answered reads f now s.0 (stands contents now).1 same s.1
           (subst (λ (l : List ℕ). WritesAll l (stands contents now).1 (stands contents now).1) (sym s.2)
           (record { wrote = Appends-nil (stands contents now).1.written; same = refl }))
       comes_at_once Spent s same e = absurd (false≢true (sym e))
@@ -195,19 +190,8 @@ module _ {W D : Type 0} (contents : W → Option (List ℕ)) where
           BrokenOff answers seen_start old new
       comes_broken Ended after s front same e =
           broken_off s.input true (lines_of s.input) [] s.stands.texts now.0.hub after s.read (λ _. s.whole)
-          (sym (append-nil (lines_of s.input))) s.stands.turned
-          (wrote_front refl s.stands.said front) same
+          (sym (append-nil (lines_of s.input))) s.stands.turned (wrote_front refl s.stands.said front) same
       comes_broken (Stopped why) after s front same e = absurd (false≢true e)
       comes_broken Full after s front same e = broken_within reads f now s.0 after same front
       comes_broken Failed after s front same e = absurd (false≢true e)
       comes_broken Spent after s front same e = broken_within reads f now s.0 after same front
-
-      -- the writer's failures until then
-      pub failures_at_once : (fed : Fed WriteFailed) → Stands (Took contents) (IsBroken contents) old.remaining new.remaining first
-          (λ p. p.0.waiting ≡ []) spent reads fed f now
-          → now.2.failures ≡ writer_failures w.failures (end_by fed f.taken)
-      failures_at_once Ended s = s.stands.said.same
-      failures_at_once (Stopped why) s = s.stands.said.failed
-      failures_at_once Full s = s.0.stands.said.same
-      failures_at_once Failed s = s.0.stands.said.same
-      failures_at_once Spent s = s.0.stands.said.same

@@ -157,8 +157,7 @@ module _ (hub : Hub EndlessTopics) (l : IsLiving hub) where
       }
 
   place_living : (name : List ℕ) (command : Command) (o : Option ℕ) → IsLiving (by_place endless_step hub name command o).1
-  place_living name command None =
-      cond_case (λ (end : Answer × Hub EndlessTopics). IsLiving end.1) (nat_le 1024 (length hub.actors))
+  place_living name command None = cond_case (λ (end : Answer × Hub EndlessTopics). IsLiving end.1) (nat_le 1024 (length hub.actors))
       (Replied (Refused Codes.TooMany), hub)
       (started endless_step hub name (endless_step hub.topics [] command)) (λ _. l) (λ _. first_living name command)
   place_living name command (Some place) = holding_living place command (slice_get (values_of hub.actors) place) refl
@@ -258,8 +257,7 @@ module _ (hub : Hub EndlessTopics) (l : IsLiving hub) (name : Bytes) (action : A
   unfolding answer_to
   answer-exact bytes actor is may =
       subst (λ (o : Option (Actor × Command)). IsExact (by_step endless_step hub o).0 action (held_by hub.actors actor.0) t.topic.0)
-      (sym is)
-      (place-exact actor.0 (place_of hub.actors actor.0) refl may)
+      (sym is) (place-exact actor.0 (place_of hub.actors actor.0) refl may)
 
 pub not_held_is_exact : NotHeldIsExact
 not_held_is_exact lines marks bytes actor name action t is may e right =

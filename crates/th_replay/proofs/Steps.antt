@@ -2,7 +2,6 @@
 use Rattle.std.proofs.Common.{◌≡◌, ◌⊎◌, inl, inr, ℕ, Bool, true, false, ap, sym, subst, refl, ◌∙◌}
 use Rattle.th_lines.specs.declared.command.Command.{Command}
 use Rattle.th_lines.specs.declared.reply.Reply.{Reply}
-use Rattle.th_lines.specs.declared.reply.Reply.TheVariants as Replies
 use Rattle.th_lines.specs.declared.reply.Reply.TheVariants.{Bye, Refused}
 use Rattle.th_lines.specs.declared.reply.Code.TheVariants as Codes
 use Rattle.th_registry.specs.Pictures.{SeenTopics, pictures}
@@ -18,8 +17,7 @@ use Rattle.th_replay.specs.Schedule.{has_quit, most_entries, picture_asks, pictu
 -- The answer, what the actor holds and the topics afterwards are the hub's; or memory was refused where it is asked for,
 -- and nothing has changed.
 abbrev pub Ends : SeenTopics → Holding → Command → Answer → Holding → SeenTopics → Type 0
-Ends topics held command answer held' topics' =
-    (picture_step topics held command ≡ (answer, held', topics'))
+Ends topics held command answer held' topics' = (picture_step topics held command ≡ (answer, held', topics'))
     ⊎ ((answer ≡ Replied (Refused Codes.NoMemory)) × (held' ≡ held) × (topics' ≡ topics) × (picture_asks topics held command ≡ true))
 
 module _ (had : Kept) (topics : SeenTopics) (command : Command) (answer : Answer) (has : Kept) (topics' : SeenTopics) where
@@ -73,22 +71,7 @@ only_replies_quit (Traced n s) none = refl
 
 -- an answer that is not the one to `QUIT`
 pub no_quit : (answer : Answer) → (answer ≡ Replied Bye → ⊥) → has_quit answer ≡ false
-no_quit (Told n r) other = refl
-no_quit (Traced n s) other = refl
-no_quit (Replied Bye) other = absurd (other refl)
-no_quit (Replied Replies.Done) other = refl
-no_quit (Replied (Replies.Count n)) other = refl
-no_quit (Replied (Replies.Value v)) other = refl
-no_quit (Replied (Replies.Lagged n)) other = refl
-no_quit (Replied Replies.Empty) other = refl
-no_quit (Replied Replies.Closed) other = refl
-no_quit (Replied Replies.Blocked) other = refl
-no_quit (Replied (Replies.Was v)) other = refl
-no_quit (Replied (Replies.New v)) other = refl
-no_quit (Replied (Replies.Same v)) other = refl
-no_quit (Replied Replies.Yes) other = refl
-no_quit (Replied Replies.No) other = refl
-no_quit (Replied Replies.Changed) other = refl
-no_quit (Replied Replies.NotYet) other = refl
-no_quit (Replied (Replies.Topics l)) other = refl
-no_quit (Replied (Replies.Refused c)) other = refl
+no_quit answer = elim answer as (λ answer. (answer ≡ Replied Bye → ⊥) → has_quit answer ≡ false) [
+  | Replied Bye ↦ λ other. absurd (other refl)
+  | _ ↦ λ other. refl
+]

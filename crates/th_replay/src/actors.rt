@@ -1,6 +1,5 @@
 //! The hub of a schedule.
-ghost use Rattle.std.specs.Prelude.{◌≡◌, ◌||◌, List, ℕ, None, slice_get, remove, IfOk};
-ghost use Rattle.std.specs.Map.{values_of};
+ghost use Rattle.std.specs.Prelude.{◌≡◌, ◌||◌, List, ℕ, None, remove, IfOk};
 ghost use Rattle.th_lines.specs.Intake.{line_given};
 ghost use Rattle.th_lines.specs.Output.{AddsOrFails, output};
 ghost use Rattle.th_lines.specs.declared.command.Command.TheVariants.{On};
@@ -9,7 +8,7 @@ ghost use Rattle.th_session.specs.Quiet.{action_of};
 ghost use Rattle.th_session.specs.Script as script;
 ghost use Rattle.th_session.specs.Script.{Replied};
 ghost use Rattle.th_replay.specs.Session.{Turns};
-ghost use Rattle.th_replay.specs.Schedule.{PutsAnswer, answers, asks_by_holding, asks_by_place, by_holding, by_place, has_quit, is_short, picture_asks, picture_step, place_of, seen_start};
+ghost use Rattle.th_replay.specs.Schedule.{PutsAnswer, PutsAt, answers, asks_by_place, by_place, has_quit, is_short, picture_asks, picture_step, place_of, seen_start};
 
 use indexmap::IndexMap;
 use std::alloc::{AllocError, Global};
@@ -153,9 +152,7 @@ impl Hub {
         out: &mut WriteBuffer,
         writer: &mut Counted<W>,
     ) -> Result<(), WriteFailed>
-        ensures { let held = slice_get (values_of self.old.actors) place in
-            PutsAnswer (by_holding picture_step self.old place command.entry held)
-            (asks_by_holding picture_asks self.old command.entry held) self.old self.new
+        ensures { PutsAt place command.entry self.old self.new
             (output W.contents writer.old out.old) (output W.contents writer.new out.new) result }
     {
         match command {
@@ -182,10 +179,7 @@ impl Hub {
         out: &mut WriteBuffer,
         writer: &mut Counted<W>,
     ) -> Result<(), WriteFailed>
-        ensures { let held = slice_get (values_of self.old.actors) place in
-            let command = On name.now (action_of own) in
-            PutsAnswer (by_holding picture_step self.old place command held)
-            (asks_by_holding picture_asks self.old command held) self.old self.new
+        ensures { PutsAt place (On name.now (action_of own)) self.old self.new
             (output W.contents writer.old out.old) (output W.contents writer.new out.new) result }
     {
         let Some((_, session)) = self.actors.get_index(place) else {
@@ -204,9 +198,7 @@ impl Hub {
         out: &mut WriteBuffer,
         writer: &mut Counted<W>,
     ) -> Result<(), WriteFailed>
-        ensures { let held = slice_get (values_of self.old.actors) place in
-            PutsAnswer (by_holding picture_step self.old place command.entry held)
-            (asks_by_holding picture_asks self.old command.entry held) self.old self.new
+        ensures { PutsAt place command.entry self.old self.new
             (output W.contents writer.old out.old) (output W.contents writer.new out.new) result }
     {
         let Some(session) = self.actors.get_index_mut(place) else {

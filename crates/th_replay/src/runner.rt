@@ -26,9 +26,9 @@ pub struct Runner {
 }
 
 impl Model for Runner {
-    ghost use Rattle.th_replay.specs.Progress.{Course};
+    ghost use Rattle.th_replay.specs.Progress.{Progress};
 
-    ghost Value = { Course };
+    ghost Value = { Progress };
 
     ghost view = { λ r. record { hub = r.hub; waiting = r.out } };
 }

@@ -29,11 +29,9 @@ module _ {T : Type 0} where
   less-slot n m s e h = split (nat_eq s.to_come 1) refl
     where
       split : (b : Bool) → nat_eq s.to_come 1 ≡ b → IsSlot m (cond b vacant (record { value = s.value; to_come = s.to_come - 1 }))
-      split true t =
-          (let last : s.to_come ≡ 1 = grind (arith, nat_tests) in
+      split true t = (let last : s.to_come ≡ 1 = grind (arith, nat_tests) in
           record { count = omega (arith, h.count); kept = λ lt. absurd (omega (arith, h.count)); freed = λ _. refl })
-      split false t =
-          (let more : s.to_come ≢ 1 = grind (arith, nat_tests) in
+      split false t = (let more : s.to_come ≢ 1 = grind (arith, nat_tests) in
           record { count = omega (arith, h.count); kept = λ lt. h.kept (omega arith); freed = λ z. absurd (more (omega (arith, h.count))) })
 
   -- the value stays where others have still to read it
@@ -79,25 +77,21 @@ module _ {T : Type 0} where
       (e : at ≡ i % c) where
     -- the slot that code reads at the low bits of a position
     pub slot_is : (item : Slot T) → item ≡ get_or slots at item → item ≡ slot_at slots c i
-    slot_is item h =
-        h ∙ get_or-default slots at item vacant (omega (arith, e, size, mod_below i c some))
+    slot_is item h = h ∙ get_or-default slots at item vacant (omega (arith, e, size, mod_below i c some))
         ∙ ap (λ k. get_or slots k vacant) e
 
     -- the slots after a write there
     pub slots_are : (item new : Slot T) → item ≡ get_or slots at item → new ≡ less_one item
         → set slots at new ≡ set slots (i % c) (less_one (slot_at slots c i))
-    slots_are item new h l =
-        ap (λ k. set slots k new) e ∙ ap (set slots (i % c)) (l ∙ ap less_one (slot_is item h))
+    slots_are item new h l = ap (λ k. set slots k new) e ∙ ap (set slots (i % c)) (l ∙ ap less_one (slot_is item h))
 
     written : (new : Slot T) → slot_at (set slots at new) c i ≡ new
-    written new =
-        ap (λ k. get_or (set slots k new) (i % c) vacant) e
+    written new = ap (λ k. get_or (set slots k new) (i % c) vacant) e
         ∙ get_or-set_same slots (i % c) new vacant (omega (arith, size, mod_below i c some))
 
     not_written : (new : Slot T) (j : ℕ) → j % c ≢ i % c
         → slot_at (set slots at new) c j ≡ slot_at slots c j
-    not_written new j apart =
-        ap (λ k. get_or (set slots k new) (j % c) vacant) e
+    not_written new j apart = ap (λ k. get_or (set slots k new) (j % c) vacant) e
         ∙ get_or-set_other slots (i % c) (j % c) new vacant apart
 
   -- A loop writes the slots of one position after the other: that of i is `new i`. It has come to i.
@@ -108,8 +102,7 @@ module _ {T : Type 0} where
       → slot_at slots c k ≡ slot_at old c k) where
     -- what stands there yet
     pub slot_yet : (item : Slot T) → item ≡ get_or slots at item → item ≡ slot_at old c i
-    slot_yet item h =
-        slot_is c slots size some i at e item h ∙ rest i (omega arith) (omega arith) (λ _. omega arith)
+    slot_yet item h = slot_is c slots size some i at e item h ∙ rest i (omega arith) (omega arith) (λ _. omega arith)
 
     module _ (written_now : Slot T) (is : written_now ≡ new i) where
       pub done_more : (k : ℕ) → first ≤ k → k < i + 1
@@ -132,8 +125,7 @@ module _ {T : Type 0} where
             ∙ rest k a b (λ le. omega (arith, out le))
         | inr after ↦ elim (cases_lt i k) [
           | inl later ↦
-              not_written c slots size some i at e written_now k
-              (λ x. apart_bits i k c later (omega arith) (sym x))
+              not_written c slots size some i at e written_now k (λ x. apart_bits i k c later (omega arith) (sym x))
               ∙ rest k a b (λ le. omega (arith, out le))
           | inr same ↦ absurd (omega (arith, out (omega arith)))
         ]
@@ -146,8 +138,7 @@ module _ {T : Type 0} where
 
     -- each kept position has its value
     pub there : AreThere slots c (low_of n c ps) (n - low_of n c ps)
-    there j le lt =
-        (r.counted j (omega (arith, low_of-ge n c ps)) (omega (arith, low_of-le n c ps))).kept
+    there j le lt = (r.counted j (omega (arith, low_of-ge n c ps)) (omega (arith, low_of-le n c ps))).kept
         (awaited n c ps j le (omega (arith, low_of-le n c ps)))
 
     -- where no value is added, and none is lost that is still kept
@@ -209,8 +200,7 @@ module _ {T : Type 0} where
     module _ (rx i : ℕ) (sorted : IsRising (keys_of ps)) (here : place_of ps rx ≡ Some i) (in_window : n - c ≤ i) (sent : i < n)
         (slots' : List (Slot T)) (e : slots' ≡ set slots (i % c) (less_one (slot_at slots c i))) where
       at_place : slot_at slots' c i ≡ less_one (slot_at slots c i)
-      at_place =
-          ap (λ xs. get_or xs (i % c) vacant) e
+      at_place = ap (λ xs. get_or xs (i % c) vacant) e
           ∙ get_or-set_same slots (i % c) _ vacant (omega (arith, r.size, mod_below i c r.is_capacity.1))
 
       elsewhere : (j : ℕ) → i % c ≢ j % c → slot_at slots' c j ≡ slot_at slots c j
@@ -287,8 +277,7 @@ module _ {T : Type 0} where
 
       pub window_taken : ring_window c n slots' (with_place ps rx (i + 1)) ≡ placed (ring_window c n slots ps) rx (i + 1)
       unfolding placed trimmed
-      window_taken =
-          ap (λ (xs : List T). record
+      window_taken = ap (λ (xs : List T). record
           { capacity = c; tail = n; low = low_of n c (with_place ps rx (i + 1)); kept = xs; places = with_place ps rx (i + 1) })
           (trimmed_values slots' (with_place ps rx (i + 1)) rises value_after)
 
@@ -316,8 +305,7 @@ module _ {T : Type 0} where
 
       pub window_jumped : ring_window c n slots (with_place ps rx (n - c)) ≡ placed (ring_window c n slots ps) rx (n - c)
       unfolding placed trimmed
-      window_jumped =
-          ap (λ (xs : List T). record
+      window_jumped = ap (λ (xs : List T). record
           { capacity = c; tail = n; low = low_of n c (with_place ps rx (n - c)); kept = xs; places = with_place ps rx (n - c) })
           (trimmed_values slots (with_place ps rx (n - c)) (low_of-with n c ps rx (n - c) (omega (arith, low_of-at n c ps rx i here)))
           (λ j le lt. refl))
@@ -396,8 +384,7 @@ module _ {T : Type 0} where
 
     -- a receiver leaves
     module _ (rx i first : ℕ) (here : place_of ps rx ≡ Some i) (from : first ≡ max i (n - c)) (slots' : List (Slot T))
-        (size : length slots' ≡ c)
-        (passed : (j : ℕ) → first ≤ j → j < n → slot_at slots' c j ≡ less_one (slot_at slots c j))
+        (size : length slots' ≡ c) (passed : (j : ℕ) → first ≤ j → j < n → slot_at slots' c j ≡ less_one (slot_at slots c j))
         (others : (j : ℕ) → n ≤ j + c → j < first + c → (first ≤ j → n ≤ j) → slot_at slots' c j ≡ slot_at slots c j) where
       slot_left : (j : ℕ) → n ≤ j + c → j < n → IsSlot (to_come (without_place ps rx) j) (slot_at slots' c j)
       slot_left j a lt = elim (cases_lt j first) [
@@ -439,8 +426,7 @@ module _ {T : Type 0} where
 
       pub window_left : ring_window c n slots' (without_place ps rx) ≡ left (ring_window c n slots ps) rx
       unfolding left trimmed
-      window_left =
-          ap (λ (xs : List T). record
+      window_left = ap (λ (xs : List T). record
           { capacity = c; tail = n; low = low_of n c (without_place ps rx); kept = xs; places = without_place ps rx })
           (trimmed_values slots' (without_place ps rx) (low_of-without n c ps rx) value_left)
 
@@ -452,8 +438,7 @@ module _ {T : Type 0} where
     module _ (v : T) (some : 0 < length ps) (slots' : List (Slot T))
         (e : slots' ≡ set slots (n % c) (record { value = Some v; to_come = length ps })) where
       sent_at : slot_at slots' c n ≡ record { value = Some v; to_come = length ps }
-      sent_at =
-          ap (λ xs. get_or xs (n % c) vacant) e
+      sent_at = ap (λ xs. get_or xs (n % c) vacant) e
           ∙ get_or-set_same slots (n % c) _ vacant (omega (arith, r.size, mod_below n c r.is_capacity.1))
 
       sent_else : (j : ℕ) → j % c ≢ n % c → slot_at slots' c j ≡ slot_at slots c j
@@ -468,8 +453,7 @@ module _ {T : Type 0} where
             (record {
               count = sym (all_to_come n ps r.places_in);
               kept = λ _. refl;
-              freed =
-                  λ z. absurd (omega (arith, all_to_come n ps r.places_in));
+              freed = λ z. absurd (omega (arith, all_to_come n ps r.places_in));
             })))
       ]
 
@@ -479,8 +463,7 @@ module _ {T : Type 0} where
         size = ap length e ∙ length-set slots (n % c) _ ∙ r.size;
         places_in = places-more n (n + 1) ps (omega arith) r.places_in;
         counted = slot_sent;
-        unused =
-            λ j le lt.
+        unused = λ j le lt.
             subst (IsSlot 0) (sym (sent_else j (λ h. apart_bits n j c (omega arith) (omega arith) (sym h)))) (r.unused j (omega arith) lt);
       }
 
@@ -522,15 +505,13 @@ module _ {T : Type 0} where
 
   -- a ring that was filled with the values of a sound window
   module _ (c n low : ℕ) (slots : List (Slot T)) (kept : List T) (ps : Places)
-      (w : IsWindow (record { capacity = c; tail = n; low = low; kept = kept; places = ps }))
-      (size : length slots ≡ c)
+      (w : IsWindow (record { capacity = c; tail = n; low = low; kept = kept; places = ps })) (size : length slots ≡ c)
       (filled : (i : ℕ) → low ≤ i → i < n → slot_at slots c i ≡ filled_slot low kept ps i)
       (others : (i : ℕ) → n ≤ i + c → i < low + c → (low ≤ i → n ≤ i) → slot_at slots c i ≡ vacant) where
     slot_filled : (i : ℕ) → n ≤ i + c → i < n → IsSlot (to_come ps i) (slot_at slots c i)
     slot_filled i a lt = elim (cases_lt i low) [
       | inl before ↦
-          same-slot 0 _ vacant (slot_at slots c i)
-          (sym (nobody-before n c ps i (omega arith) (omega (arith, w.low))))
+          same-slot 0 _ vacant (slot_at slots c i) (sym (nobody-before n c ps i (omega arith) (omega (arith, w.low))))
           (others i a (omega arith) (λ h. absurd (omega arith))) empty_slot
       | inr after ↦
           same-slot (to_come ps i) _ (filled_slot low kept ps i) (slot_at slots c i) refl
@@ -564,15 +545,13 @@ module _ {T : Type 0} where
         let before : low + j < n = omega (arith, w.kept) in
         let at : low + j - low ≡ j = omega arith in
         ap (λ (s : Slot T). s.value) (filled (low + j) (omega arith) before) ∙ ap (slice_get kept) at)
-        in
-        ap (λ l. record { capacity = c; tail = n; low = l; kept = values_from slots c l (n - l); places = ps }) (sym w.low)
+        in ap (λ l. record { capacity = c; tail = n; low = l; kept = values_from slots c l (n - l); places = ps }) (sym w.low)
         ∙ ap (λ (xs : List T). record { capacity = c; tail = n; low = low; kept = xs; places = ps }) values
 
   -- and so one that was filled with what a sound window was taken apart into
   module _ (w : Window T) (sound : IsWindow w) (c n low : ℕ) (kept : List T) (ps : Places)
       (c-is : c ≡ w.capacity) (n-is : n ≡ w.tail) (low-is : low ≡ w.low) (kept-is : kept ≡ w.kept)
-      (ps-is : ps ≡ w.places) (empty slots : List (Slot T)) (e : empty ≡ replicate c vacant)
-      (size : length slots ≡ c)
+      (ps-is : ps ≡ w.places) (empty slots : List (Slot T)) (e : empty ≡ replicate c vacant) (size : length slots ≡ c)
       (filled : (i : ℕ) → low ≤ i → i < n → slot_at slots c i ≡ filled_slot low kept ps i)
       (others : (i : ℕ) → n ≤ i + c → i < low + c → (low ≤ i → n ≤ i)
       → slot_at slots c i ≡ slot_at empty c i) where
@@ -586,15 +565,12 @@ module _ {T : Type 0} where
     }
 
     still-vacant : (i : ℕ) → n ≤ i + c → i < low + c → (low ≤ i → n ≤ i) → slot_at slots c i ≡ vacant
-    still-vacant i a b out =
-        others i a b out ∙ ap (λ l. get_or l (i % c) vacant) e ∙ get_or-replicate c (i % c) vacant
+    still-vacant i a b out = others i a b out ∙ ap (λ l. get_or l (i % c) vacant) e ∙ get_or-replicate c (i % c) vacant
 
     pub ring_of_parts : IsRing c n slots ps
-    ring_of_parts =
-        ring_filled c n low slots kept ps (subst IsWindow (sym same-window) sound) size filled still-vacant
+    ring_of_parts = ring_filled c n low slots kept ps (subst IsWindow (sym same-window) sound) size filled still-vacant
 
     pub window_of_parts : ring_window c n slots ps ≡ w
-    window_of_parts =
-        window_filled c n low slots kept ps (subst IsWindow (sym same-window) sound) size filled
+    window_of_parts = window_filled c n low slots kept ps (subst IsWindow (sym same-window) sound) size filled
         still-vacant
         ∙ same-window

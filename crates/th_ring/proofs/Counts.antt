@@ -64,8 +64,7 @@ somebody n (p ∷ ps) k h = split (nat_le p.1 k) refl (somebody n ps k)
 pub to_come-moved : (ps : Places) (rx i j k : ℕ) → IsRising (keys_of ps) → place_of ps rx ≡ Some i →
     to_come (with_place ps rx j) k + one i k ≡ to_come ps k + one j k
 to_come-moved [] rx i j k r h = absurd (none-some i h)
-to_come-moved (p ∷ ps) rx i j k r h =
-    elim (nat_cmp rx p.0) as
+to_come-moved (p ∷ ps) rx i j k r h = elim (nat_cmp rx p.0) as
     (λ o. o ≡ nat_cmp rx p.0 → cond (is_eq o) (Some p.1) (place_of ps rx) ≡ Some i →
     to_come (match_ordering o ((rx, j) ∷ p ∷ ps) ((p.0, j) ∷ ps) (p ∷ with_place ps rx j)) k + one i k
     ≡ one p.1 k + to_come ps k + one j k) [
@@ -77,8 +76,7 @@ to_come-moved (p ∷ ps) rx i j k r h =
 -- a new receiver at j
 pub to_come-joined : (ps : Places) (rx j k : ℕ) → place_of ps rx ≡ None → to_come (with_place ps rx j) k ≡ to_come ps k + one j k
 to_come-joined [] rx j k h = omega arith
-to_come-joined (p ∷ ps) rx j k h =
-    elim (nat_cmp rx p.0) as
+to_come-joined (p ∷ ps) rx j k h = elim (nat_cmp rx p.0) as
     (λ o. cond (is_eq o) (Some p.1) (place_of ps rx) ≡ None →
     to_come (match_ordering o ((rx, j) ∷ p ∷ ps) ((p.0, j) ∷ ps) (p ∷ with_place ps rx j)) k ≡ one p.1 k + to_come ps k + one j k) [
       | Less ↦ λ e. omega arith
@@ -89,8 +87,7 @@ to_come-joined (p ∷ ps) rx j k h =
 -- a receiver at i leaves
 pub to_come-left : (ps : Places) (rx i k : ℕ) → place_of ps rx ≡ Some i → to_come (without_place ps rx) k + one i k ≡ to_come ps k
 to_come-left [] rx i k h = absurd (none-some i h)
-to_come-left (p ∷ ps) rx i k h =
-    elim (is_at (nat_cmp rx) p.0) as
+to_come-left (p ∷ ps) rx i k h = elim (is_at (nat_cmp rx) p.0) as
     (λ b. cond b (Some p.1) (place_of ps rx) ≡ Some i →
     to_come (cond b ps (p ∷ without_place ps rx)) k + one i k ≡ one p.1 k + to_come ps k) [
       | true ↦ λ e. let same : p.1 ≡ i = same_Some p.1 i e in rw (← same) (omega arith)

@@ -18,8 +18,7 @@ module _ {T : Type 0} where
   pub length-values_from : (slots : List (Slot T)) (c i n : ℕ) → AreThere slots c i n → length (values_from slots c i n) ≡ n
   unfolding values_from
   length-values_from slots c i zero h = refl
-  length-values_from slots c i (suc n) h =
-      length-and_then _ _ (h i (omega arith) (omega arith))
+  length-values_from slots c i (suc n) h = length-and_then _ _ (h i (omega arith) (omega arith))
       ∙ ap suc (length-values_from slots c (i + 1) n (λ j le lt. h j (omega arith) (omega arith)))
 
   -- only the values at these positions matter
@@ -27,8 +26,7 @@ module _ {T : Type 0} where
       values_from a c i n ≡ values_from b c i n
   unfolding values_from
   values-same a b c i zero h = refl
-  values-same a b c i (suc n) h =
-      ap (λ o. and_then o (values_from a c (i + 1) n)) (h i (omega arith) (omega arith))
+  values-same a b c i (suc n) h = ap (λ o. and_then o (values_from a c (i + 1) n)) (h i (omega arith) (omega arith))
       ∙ ap (and_then (slot_at b c i).value) (values-same a b c (i + 1) n (λ j le lt. h j (omega arith) (omega arith)))
 
   drop-and_then : (k : ℕ) (o : Option T) (xs : List T) → IsSome o → drop (suc k) (and_then o xs) ≡ drop k xs
@@ -39,12 +37,10 @@ module _ {T : Type 0} where
   pub values-drop : (slots : List (Slot T)) (c i n k : ℕ) → AreThere slots c i n → k ≤ n →
       drop k (values_from slots c i n) ≡ values_from slots c (i + k) (n - k)
   unfolding values_from
-  values-drop slots c i n zero h le =
-      (let a : i ≡ i + 0 = omega arith in let b : n ≡ n - 0 = omega arith in
+  values-drop slots c i n zero h le = (let a : i ≡ i + 0 = omega arith in let b : n ≡ n - 0 = omega arith in
       ap (λ x. values_from slots c x n) a ∙ ap (values_from slots c (i + 0)) b)
   values-drop slots c i zero (suc k) h le = absurd (omega arith)
-  values-drop slots c i (suc n) (suc k) h le =
-      drop-and_then k _ _ (h i (omega arith) (omega arith))
+  values-drop slots c i (suc n) (suc k) h le = drop-and_then k _ _ (h i (omega arith) (omega arith))
       ∙ values-drop slots c (i + 1) n k (λ j le lt. h j (omega arith) (omega arith)) (omega arith)
       ∙ (let a : i + 1 + k ≡ i + suc k = omega arith in let b : n - k ≡ suc n - suc k = omega arith in
       ap (λ x. values_from slots c x (n - k)) a ∙ ap (values_from slots c (i + suc k)) b)
@@ -81,8 +77,7 @@ module _ {T : Type 0} where
   values-get slots c i zero j h lt = absurd (omega arith)
   values-get slots c i (suc n) zero h lt =
       slice_get-first _ _ (h i (omega arith) (omega arith)) ∙ (let e : i ≡ i + 0 = omega arith in ap (λ x. (slot_at slots c x).value) e)
-  values-get slots c i (suc n) (suc j) h lt =
-      slice_get-and_then _ _ j (h i (omega arith) (omega arith))
+  values-get slots c i (suc n) (suc j) h lt = slice_get-and_then _ _ j (h i (omega arith) (omega arith))
       ∙ values-get slots c (i + 1) n j (λ k le l. h k (omega arith) (omega arith)) (omega arith)
       ∙ (let e : i + 1 + j ≡ i + suc j = omega arith in ap (λ x. (slot_at slots c x).value) e)
 

@@ -149,8 +149,7 @@ module _ {Tx Rx : Type 0} where
   pub sender-ready : (b : Bool) (h ready : List (ℕ × Handles Tx Rx)) (n : ℕ) (t : Tx) → IsReady b h n ready →
       with_sender ready n t ≡ with_sender h n t
   sender-ready false h ready n t e = ap (λ (x : List (ℕ × Handles Tx Rx)). with_sender x n t) e
-  sender-ready true h ready n t (e, w) =
-      ap (λ (x : List (ℕ × Handles Tx Rx)). with_sender x n t) w
+  sender-ready true h ready n t (e, w) = ap (λ (x : List (ℕ × Handles Tx Rx)). with_sender x n t) w
       ∙ ap (λ s. with_handles (with_handles h n nothing) n (record { sender = Some t; receiver = s.receiver }))
       (at-in (with_handles h n nothing) n nothing (lookup-insert h n nothing) ∙ sym (at-out h n e))
       ∙ insert-insert h n nothing _
@@ -158,8 +157,7 @@ module _ {Tx Rx : Type 0} where
   pub receiver-ready : (b : Bool) (h ready : List (ℕ × Handles Tx Rx)) (n : ℕ) (r : Rx) → IsReady b h n ready →
       with_receiver ready n r ≡ with_receiver h n r
   receiver-ready false h ready n r e = ap (λ (x : List (ℕ × Handles Tx Rx)). with_receiver x n r) e
-  receiver-ready true h ready n r (e, w) =
-      ap (λ (x : List (ℕ × Handles Tx Rx)). with_receiver x n r) w
+  receiver-ready true h ready n r (e, w) = ap (λ (x : List (ℕ × Handles Tx Rx)). with_receiver x n r) w
       ∙ ap (λ s. with_handles (with_handles h n nothing) n (record { sender = s.sender; receiver = Some r }))
       (at-in (with_handles h n nothing) n nothing (lookup-insert h n nothing) ∙ sym (at-out h n e))
       ∙ insert-insert h n nothing _
@@ -195,14 +193,12 @@ module _ {Tx Rx N M : Type 0} (tx : Tx → N) (rx : Rx → M) where
 
   pub held-with_sender : (h : List (ℕ × Handles Tx Rx)) (n : ℕ) (t : Tx) →
       held tx rx (with_sender h n t) ≡ with_sender (held tx rx h) n (tx t)
-  held-with_sender h n t =
-      held-with_handles h n (record { sender = Some t; receiver = (handles_at h n).receiver })
+  held-with_sender h n t = held-with_handles h n (record { sender = Some t; receiver = (handles_at h n).receiver })
       ∙ ap (λ (s : Handles N M). with_handles (held tx rx h) n (record { sender = Some (tx t); receiver = s.receiver })) (sym (at-held h n))
 
   pub held-with_receiver : (h : List (ℕ × Handles Tx Rx)) (n : ℕ) (r : Rx) →
       held tx rx (with_receiver h n r) ≡ with_receiver (held tx rx h) n (rx r)
-  held-with_receiver h n r =
-      held-with_handles h n (record { sender = (handles_at h n).sender; receiver = Some r })
+  held-with_receiver h n r = held-with_handles h n (record { sender = (handles_at h n).sender; receiver = Some r })
       ∙ ap (λ (s : Handles N M). with_handles (held tx rx h) n (record { sender = s.sender; receiver = Some (rx r) })) (sym (at-held h n))
 
   -- handles that are written with handles of the same numbers hold the same
@@ -217,8 +213,7 @@ module _ {Tx Rx N M : Type 0} (tx : Tx → N) (rx : Rx → M) where
   -- the same is held, so handles that were there are there
   pub there-still : (mid after : List (ℕ × Handles Tx Rx)) (n : ℕ) → held tx rx after ≡ held tx rx mid → IsSome (handles_of mid n) →
       IsSome (handles_of after n)
-  there-still mid after n e there =
-      sym (is-seen (handles_of after n)) ∙ ap is_some (sym (handles-held after n))
+  there-still mid after n e there = sym (is-seen (handles_of after n)) ∙ ap is_some (sym (handles-held after n))
       ∙ ap (λ (h : List (ℕ × Handles N M)). is_some (handles_of h n)) e ∙ ap is_some (handles-held mid n) ∙ is-seen (handles_of mid n)
       ∙ there
 
@@ -260,15 +255,13 @@ module _ {Tx Rx N M : Type 0} (tx : Tx → N) (rx : Rx → M) where
   -- an empty one stays as it is
   pub sender-still-none : (s : Handles Tx Rx) (o : Option Tx) → option_map tx o ≡ option_map tx s.sender → s.sender ≡ None →
       record { sender = o; receiver = s.receiver } ≡ s
-  sender-still-none s o e none =
-      ap (λ x. with_numbers x s.receiver) (none-seen o (e ∙ ap (option_map tx) none) ∙ sym none)
+  sender-still-none s o e none = ap (λ x. with_numbers x s.receiver) (none-seen o (e ∙ ap (option_map tx) none) ∙ sym none)
 
   -- handles from which a handle is gone
   pub sender-gone : (h h' : List (ℕ × Handles Tx Rx)) (n : ℕ) (s t : Handles Tx Rx) → IsStrictlySortedBy nat_cmp (keys_of h) →
       handles_of h n ≡ Some s → h' ≡ set_value (is_at (nat_cmp n)) h t → numbers tx rx t ≡ with_numbers None (option_map rx s.receiver) →
       held tx rx h' ≡ without_sender (held tx rx h) n
-  sender-gone h h' n s t r e w gone =
-      ap (held tx rx) (w ∙ set-insert h n s t r e)
+  sender-gone h h' n s t r e w gone = ap (held tx rx) (w ∙ set-insert h n s t r e)
       ∙ held-with_handles h n t
       ∙ ap (with_handles (held tx rx h) n) (gone ∙ ap (λ (x : Handles N M). with_numbers None x.receiver)
       (sym (at-held h n ∙ ap (numbers tx rx) (at-in h n s e))))
@@ -276,8 +269,7 @@ module _ {Tx Rx N M : Type 0} (tx : Tx → N) (rx : Rx → M) where
   pub receiver-gone : (h h' : List (ℕ × Handles Tx Rx)) (n : ℕ) (s t : Handles Tx Rx) → IsStrictlySortedBy nat_cmp (keys_of h) →
       handles_of h n ≡ Some s → h' ≡ set_value (is_at (nat_cmp n)) h t → numbers tx rx t ≡ with_numbers (option_map tx s.sender) None →
       held tx rx h' ≡ without_receiver (held tx rx h) n
-  receiver-gone h h' n s t r e w gone =
-      ap (held tx rx) (w ∙ set-insert h n s t r e)
+  receiver-gone h h' n s t r e w gone = ap (held tx rx) (w ∙ set-insert h n s t r e)
       ∙ held-with_handles h n t
       ∙ ap (with_handles (held tx rx h) n) (gone ∙ ap (λ (x : Handles N M). with_numbers x.sender None)
       (sym (at-held h n ∙ ap (numbers tx rx) (at-in h n s e))))

@@ -14,7 +14,7 @@ use Rattle.th_lines.specs.declared.reply.Reply.TheVariants.{Refused}
 use Rattle.th_registry.specs.declared.opening.Found.{Found}
 use Rattle.th_registry.specs.declared.channel.Channel.TheVariants.{Broadcast, Watch}
 use Rattle.th_registry.specs.declared.outcome.NoEvent.TheVariants as NoEvents
-use Rattle.th_registry.specs.Events.{Event, Binds, Subscribes, Sends, Asks, Receives, Resubscribes, DropsTx, DropsRx, Hub, Own, any_sender, Told, NewTx, NewRx}
+use Rattle.th_registry.specs.Events.{Event, Binds, Subscribes, Sends, Asks, Receives, Resubscribes, DropsTx, DropsRx, Hub, Own, any_sender, EventResult}
 use Rattle.th_registry.specs.Events as events
 use Rattle.th_registry.specs.Hub.{say, On}
 use Rattle.th_registry.specs.Endless.{EndlessTopics, endless}
@@ -35,50 +35,16 @@ abbrev is_not_held : Option Reply → Bool
 is_not_held (Some (Refused Codes.NotHeld)) = true
 is_not_held reply = false
 
-told-not-held : (told : Told) → is_not_held (Some (replied told)) ≡ lacks_handle told
-told-not-held (Ok (NewTx t)) = refl
-told-not-held (Ok (NewRx r)) = refl
-told-not-held (Ok events.Ended) = refl
-told-not-held (Ok (events.Replied (Broadcast (BReplies.Sent n)))) = refl
-told-not-held (Ok (events.Replied (Broadcast (BReplies.NoReceivers v)))) = refl
-told-not-held (Ok (events.Replied (Broadcast (BReplies.Exhausted v)))) = refl
-told-not-held (Ok (events.Replied (Broadcast (BReplies.Value v)))) = refl
-told-not-held (Ok (events.Replied (Broadcast BReplies.Empty))) = refl
-told-not-held (Ok (events.Replied (Broadcast BReplies.Closed))) = refl
-told-not-held (Ok (events.Replied (Broadcast (BReplies.Lagged n)))) = refl
-told-not-held (Ok (events.Replied (Broadcast (BReplies.NewRx r)))) = refl
-told-not-held (Ok (events.Replied (Broadcast (BReplies.NewTx t)))) = refl
-told-not-held (Ok (events.Replied (Broadcast (BReplies.Count n)))) = refl
-told-not-held (Ok (events.Replied (Broadcast BReplies.Done))) = refl
-told-not-held (Ok (events.Replied (Broadcast BReplies.TooMany))) = refl
-told-not-held (Ok (events.Replied (Broadcast (BReplies.NoHandle v)))) = refl
-told-not-held (Ok (events.Replied (Watch WReplies.Done))) = refl
-told-not-held (Ok (events.Replied (Watch (WReplies.NoReceivers v)))) = refl
-told-not-held (Ok (events.Replied (Watch (WReplies.Exhausted v)))) = refl
-told-not-held (Ok (events.Replied (Watch (WReplies.Was v)))) = refl
-told-not-held (Ok (events.Replied (Watch (WReplies.Modified true)))) = refl
-told-not-held (Ok (events.Replied (Watch (WReplies.Modified false)))) = refl
-told-not-held (Ok (events.Replied (Watch (WReplies.Shown v true)))) = refl
-told-not-held (Ok (events.Replied (Watch (WReplies.Shown v false)))) = refl
-told-not-held (Ok (events.Replied (Watch (WReplies.Changed true)))) = refl
-told-not-held (Ok (events.Replied (Watch (WReplies.Changed false)))) = refl
-told-not-held (Ok (events.Replied (Watch WReplies.Marked))) = refl
-told-not-held (Ok (events.Replied (Watch WReplies.NotYet))) = refl
-told-not-held (Ok (events.Replied (Watch WReplies.Closed))) = refl
-told-not-held (Ok (events.Replied (Watch (WReplies.Gone true)))) = refl
-told-not-held (Ok (events.Replied (Watch (WReplies.Gone false)))) = refl
-told-not-held (Ok (events.Replied (Watch (WReplies.NewRx r)))) = refl
-told-not-held (Ok (events.Replied (Watch (WReplies.NewTx t)))) = refl
-told-not-held (Ok (events.Replied (Watch (WReplies.Count n)))) = refl
-told-not-held (Ok (events.Replied (Watch WReplies.TooMany))) = refl
-told-not-held (Ok (events.Replied (Watch (WReplies.NoHandle v)))) = refl
-told-not-held (Err NoEvents.NoTopic) = refl
-told-not-held (Err NoEvents.WrongKind) = refl
-told-not-held (Err NoEvents.NoSender) = refl
-told-not-held (Err NoEvents.NotLive) = refl
-told-not-held (Err NoEvents.Blocked) = refl
-told-not-held (Err NoEvents.LogFull) = refl
-told-not-held (Err NoEvents.Short) = refl
+told-not-held : (told : EventResult) → is_not_held (Some (replied told)) ≡ lacks_handle told
+told-not-held told = elim told as (λ told. is_not_held (Some (replied told)) ≡ lacks_handle told) [
+  | Ok (events.Replied (Broadcast BReplies.Empty)) ↦ refl
+  | Ok (events.Replied (Watch (WReplies.Modified true))) ↦ refl
+  | Ok (events.Replied (Watch (WReplies.Shown v true))) ↦ refl
+  | Ok (events.Replied (Watch (WReplies.Changed true))) ↦ refl
+  | Ok (events.Replied (Watch (WReplies.Gone true))) ↦ refl
+  | Err NoEvents.NoTopic ↦ refl
+  | _ ↦ refl
+]
 
 -- which event it is
 
@@ -115,8 +81,7 @@ is-same s event e h is = subst (IsOfHeld s) (let same : event ≡ e = cc in same
 judged-held : (action : Action) (s : Handles TxId RxId) (e : Event) → judged action s ≡ Ok e → IsOfHeld s e
 judged-held Actions.Bind s e is = unless-held s s.sender Binds e (λ x k. absurd k) is
 judged-held Actions.Unbind s e is = own-held (λ t. Sender t) s s.sender (λ t. DropsTx (Own t)) e (λ t x k. k) (λ t h. h) is
-judged-held (Actions.Subscribe start) s e is =
-    unless-held s s.receiver (Subscribes start (any_sender s.sender)) e
+judged-held (Actions.Subscribe start) s e is = unless-held s s.receiver (Subscribes start (any_sender s.sender)) e
     (by-any s s.sender (λ o. Subscribes start (any_sender o)) (λ x k. k) (λ t x k. k) (λ t h. h)) is
 judged-held Actions.Unsubscribe s e is = own-held (λ r. Receiver r) s s.receiver (λ r. DropsRx r) e (λ r x k. k) (λ r h. h) is
 judged-held Actions.Resubscribe s e is = own-held (λ r. Receiver r) s s.receiver (λ r. Resubscribes r) e (λ r x k. k) (λ r h. h) is

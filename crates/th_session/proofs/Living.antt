@@ -23,9 +23,9 @@ use Rattle.th_lines.specs.declared.reply.Code.TheVariants as Codes
 use Rattle.th_lines.specs.declared.reply.Reply.TheVariants.{Refused}
 use Rattle.th_registry.specs.declared.opening.Found.{Found}
 use Rattle.th_registry.specs.declared.outcome.NoEvent.{NoEvent}
-use Rattle.th_registry.specs.Events.{Event, Binds, Subscribes, Sends, Asks, Receives, Resubscribes, DropsTx, DropsRx, Hub, Own, By, any_sender, Told, NewTx, NewRx}
+use Rattle.th_registry.specs.Events.{Event, Binds, Subscribes, Sends, Asks, Receives, Resubscribes, DropsTx, DropsRx, Hub, Own, By, any_sender, EventResult, NewTx, NewRx}
 use Rattle.th_registry.specs.Events as events
-use Rattle.th_registry.specs.Hub.{Query, Find, Open, On, Cut, Said, find, say}
+use Rattle.th_registry.specs.Hub.{Query, Open, On, Cut, find, say}
 use Rattle.th_registry.specs.History.{ChannelSegment}
 use Rattle.th_registry.specs.Hub as hub
 use Rattle.th_registry.specs.Endless.{EndlessTopics, endless, AreProper}
@@ -128,8 +128,7 @@ asked limit ts h q s l none = record {
   lives = record {
     rising = l.rising;
     live = λ n x has. handles_stay_live limit ts q n x s.proper (none n x) (l.live n x has);
-    own =
-        l.own;
+    own = l.own;
   };
   others = λ n x o. record { live = handles_stay_live limit ts q n x s.proper (none n x) o.live; own = o.own; apart = o.apart };
 }
@@ -138,7 +137,7 @@ asked limit ts h q s l none = record {
 
 -- How what is held on topic n has changed by what was said of the event: nothing is held but what was held and has not
 -- ended, and what was made; and what has ended was held, or was the hub's sender.
-pub record Changes (h : Holding) (n : ℕ) (event : Event) (told : Told) (h' : Holding) : Type 0 where
+pub record Changes (h : Holding) (n : ℕ) (event : Event) (told : EventResult) (h' : Holding) : Type 0 where
   pub rising : IsRising (keys_of h) → IsRising (keys_of h')
   pub elsewhere : (m : ℕ) → (m ≡ n → ⊥) → handles_at h' m ≡ handles_at h m
   pub held : (x : Handle) → Has (handles_at h' n) x → (Has (handles_at h n) x × ((x ≡ hubs_sender → ⊥) → Ends event told x → ⊥))
@@ -147,7 +146,7 @@ pub record Changes (h : Holding) (n : ℕ) (event : Event) (told : Told) (h' : H
 
 module _ (limit : ℕ) (ts : EndlessTopics) (h : Holding) (n : ℕ) (event : Event) (h' : Holding) (s : AreSound ts) (l : Lives ts h)
     (c : Changes h n event (say (endless limit) ts (On n event)).0.0 h') where
-  abbrev answer : Told
+  abbrev answer : EventResult
   answer = (say (endless limit) ts (On n event)).0.0
 
   abbrev later : EndlessTopics
@@ -205,18 +204,8 @@ module _ (limit : ℕ) (ts : EndlessTopics) (h : Holding) (n : ℕ) (event : Eve
 abbrev always : Event → Result Event Code
 always event = Ok event
 
-ends-err : (event : Event) (why : NoEvent) (x : Handle) → Ends event (Err why) x → ⊥
-ends-err Binds why x e = e
-ends-err (Subscribes start by) why x e = e
-ends-err (Sends t verb) why x e = e
-ends-err (Asks by question) why x e = e
-ends-err (Receives r verb) why x e = e
-ends-err (Resubscribes r) why x e = e
-ends-err (DropsTx by) why x e = e
-ends-err (DropsRx r) why x e = e
-
 -- the same is held, and nothing held has ended
-same-held : (h : Holding) (n : ℕ) (event : Event) (told : Told) → ((x : Handle) → Ends event told x → x ≡ hubs_sender) →
+same-held : (h : Holding) (n : ℕ) (event : Event) (told : EventResult) → ((x : Handle) → Ends event told x → x ≡ hubs_sender) →
     Changes h n event told h
 same-held h n event told ends = record {
   rising = λ r. r;
@@ -226,7 +215,7 @@ same-held h n event told ends = record {
 }
 
 -- these handles are held
-module _ (h : Holding) (n : ℕ) (event : Event) (told : Told) (s : Handles TxId RxId) where
+module _ (h : Holding) (n : ℕ) (event : Event) (told : EventResult) (s : Handles TxId RxId) where
   new-handles : ((x : Handle) → Has s x → (Has (handles_at h n) x × ((x ≡ hubs_sender → ⊥) → Ends event told x → ⊥))
       ⊎ (new_handle told ≡ Some x)) →
       ((x : Handle) → Ends event told x → Has (handles_at h n) x ⊎ (x ≡ hubs_sender)) → Changes h n event told (with_handles h n s)
@@ -238,7 +227,7 @@ module _ (h : Holding) (n : ℕ) (event : Event) (told : Told) (s : Handles TxId
   }
 
 module _ (h : Holding) (n : ℕ) where
-  bind-changes : (told : Told) → Changes h n Binds told (kept Actions.Bind told n h)
+  bind-changes : (told : EventResult) → Changes h n Binds told (kept Actions.Bind told n h)
   bind-changes (Ok (NewTx t)) = new-handles h n Binds (Ok (NewTx t)) (record { sender = Some t; receiver = (handles_at h n).receiver }) held
       (λ x e. absurd e)
     where
@@ -251,7 +240,7 @@ module _ (h : Holding) (n : ℕ) where
   bind-changes (Ok (events.Replied reply)) = same-held h n Binds (Ok (events.Replied reply)) (λ x e. absurd e)
   bind-changes (Err why) = same-held h n Binds (Err why) (λ x e. absurd e)
 
-  unbind-changes : (told : Told) (t : TxId) → (handles_at h n).sender ≡ Some t →
+  unbind-changes : (told : EventResult) (t : TxId) → (handles_at h n).sender ≡ Some t →
       Changes h n (DropsTx (Own t)) told (kept Actions.Unbind told n h)
   unbind-changes (Ok outcome) t has = new-handles h n (DropsTx (Own t)) (Ok outcome)
       (record { sender = None; receiver = (handles_at h n).receiver }) held (λ x e. inl (subst (Has (handles_at h n)) (sym e) has))
@@ -263,7 +252,7 @@ module _ (h : Holding) (n : ℕ) where
       held (Receiver q) e = inl (e, λ own k. let no : ⊥ = cc in no)
   unbind-changes (Err why) t has = same-held h n (DropsTx (Own t)) (Err why) (λ x e. absurd e)
 
-  subscribe-changes : (told : Told) (start : Start) (by : By) →
+  subscribe-changes : (told : EventResult) (start : Start) (by : By) →
       Changes h n (Subscribes start by) told (kept (Actions.Subscribe start) told n h)
   subscribe-changes (Ok (NewRx r)) start by = new-handles h n (Subscribes start by) (Ok (NewRx r))
       (record { sender = (handles_at h n).sender; receiver = Some r }) held (λ x e. absurd e)
@@ -278,7 +267,7 @@ module _ (h : Holding) (n : ℕ) where
   subscribe-changes (Ok (events.Replied reply)) start by = same-held h n (Subscribes start by) (Ok (events.Replied reply)) (λ x e. absurd e)
   subscribe-changes (Err why) start by = same-held h n (Subscribes start by) (Err why) (λ x e. absurd e)
 
-  unsubscribe-changes : (told : Told) (r : RxId) → (handles_at h n).receiver ≡ Some r →
+  unsubscribe-changes : (told : EventResult) (r : RxId) → (handles_at h n).receiver ≡ Some r →
       Changes h n (DropsRx r) told (kept Actions.Unsubscribe told n h)
   unsubscribe-changes (Ok outcome) r has = new-handles h n (DropsRx r) (Ok outcome)
       (record { sender = (handles_at h n).sender; receiver = None }) held (λ x e. inl (subst (Has (handles_at h n)) (sym e) has))
@@ -289,7 +278,7 @@ module _ (h : Holding) (n : ℕ) where
       held (Receiver q) e = absurd (none-some q e)
   unsubscribe-changes (Err why) r has = same-held h n (DropsRx r) (Err why) (λ x e. absurd e)
 
-  resubscribe-changes : (told : Told) (r : RxId) → (handles_at h n).receiver ≡ Some r →
+  resubscribe-changes : (told : EventResult) (r : RxId) → (handles_at h n).receiver ≡ Some r →
       Changes h n (Resubscribes r) told (kept Actions.Resubscribe told n h)
   resubscribe-changes (Ok (NewRx new)) r has = new-handles h n (Resubscribes r) (Ok (NewRx new))
       (record { sender = (handles_at h n).sender; receiver = Some new }) held (λ x e. inl (subst (Has (handles_at h n)) (sym e) has))
@@ -304,11 +293,11 @@ module _ (h : Holding) (n : ℕ) where
   resubscribe-changes (Ok (events.Replied reply)) r has = same-held h n (Resubscribes r) (Ok (events.Replied reply)) (λ x e. absurd e)
   resubscribe-changes (Err why) r has = same-held h n (Resubscribes r) (Err why) (λ x e. absurd e)
 
-  end-changes : (told : Told) → Changes h n (DropsTx Hub) told (kept Actions.End told n h)
+  end-changes : (told : EventResult) → Changes h n (DropsTx Hub) told (kept Actions.End told n h)
   end-changes (Ok outcome) = same-held h n (DropsTx Hub) (Ok outcome) (λ x e. e)
   end-changes (Err why) = same-held h n (DropsTx Hub) (Err why) (λ x e. absurd e)
 
-  module _ (told : Told) (event : Event) (h' : Holding) where
+  module _ (told : EventResult) (event : Event) (h' : Holding) where
     own-changes : {H : Type 0} (o : Option H) (f : H → Event) → ((handle : H) → o ≡ Some handle → Changes h n (f handle) told h') →
         own o f ≡ Ok event → Changes h n event told h'
     own-changes None f c is = absurd (let no : ⊥ = cc in no)
@@ -322,7 +311,7 @@ module _ (h : Holding) (n : ℕ) where
     always-changes : (e : Event) → Changes h n e told h' → always e ≡ Ok event → Changes h n event told h'
     always-changes e c is = subst (λ e. Changes h n e told h') (let same : e ≡ event = cc in same) c
 
-  action-changes : (action : Action) (event : Event) (told : Told) → judged action (handles_at h n) ≡ Ok event →
+  action-changes : (action : Action) (event : Event) (told : EventResult) → judged action (handles_at h n) ≡ Ok event →
       Changes h n event told (kept action told n h)
   action-changes Actions.Bind event told is = unless-changes told event (kept Actions.Bind told n h) (handles_at h n).sender Binds
       (bind-changes told) is
@@ -357,7 +346,7 @@ module _ (limit : ℕ) (ts : EndlessTopics) (h : Holding) (s : AreSound ts) (l :
       RunKeeps limit ts h (by_event action n h j)
   event-run action n (Err code) is = nothing-changed ts h s l
   event-run action n (Ok event) is =
-      let told : Told = (say (endless limit) ts (On n event)).0.0 in
+      let told : EventResult = (say (endless limit) ts (On n event)).0.0 in
       subst (λ (end : Answer × Holding × EndlessTopics). Keeps h ts end.1 end.2)
       (sym (run-in-room (endless limit) ts action h (asking action h n event)))
       (event-keeps limit ts h n event (kept action told n h) s l (action-changes h n action event told is))
@@ -368,8 +357,7 @@ module _ (limit : ℕ) (ts : EndlessTopics) (h : Holding) (s : AreSound ts) (l :
 
   topic-run : (action : Action) (found : Option Found) → RunKeeps limit ts h (at_topic action h found)
   topic-run action None = nothing-changed ts h s l
-  topic-run action (Some t) =
-      if-run (is_for t.kind action) (acting action t.topic.0 h) (Say (Refused Codes.WrongKind) h)
+  topic-run action (Some t) = if-run (is_for t.kind action) (acting action t.topic.0 h) (Say (Refused Codes.WrongKind) h)
       (event-run action t.topic.0 (judged action (handles_at h t.topic.0)) refl) (nothing-changed ts h s l)
 
   shown-run : (n : ℕ) (said : Result ChannelSegment NoEvent) (after : EndlessTopics) → Keeps h ts h after →
@@ -379,8 +367,7 @@ module _ (limit : ℕ) (ts : EndlessTopics) (h : Holding) (s : AreSound ts) (l :
 
   trace-run : (found : Option Found) → RunKeeps limit ts h (traced h found)
   trace-run None = nothing-changed ts h s l
-  trace-run (Some t) =
-      shown-run t.topic.0 (say (endless limit) ts (Cut t.topic.0)).0 (say (endless limit) ts (Cut t.topic.0)).1
+  trace-run (Some t) = shown-run t.topic.0 (say (endless limit) ts (Cut t.topic.0)).0 (say (endless limit) ts (Cut t.topic.0)).1
       (asked limit ts h (Cut t.topic.0) s l (λ n x e. e))
 
 -- spendings: what is none of these handles stays live
@@ -389,17 +376,17 @@ Leaves limit Q script = (ts : EndlessTopics) → AreSound ts →
     AreSound (run (endless limit) ts script).2 × ((m : ℕ) (x : Handle) → Q m x → IsLive ts m x →
     IsLive (run (endless limit) ts script).2 m x) × ((run (endless limit) ts script).1 ≡ [])
 
-ends-sender : (t : TxId) (told : Told) (x : Handle) → Ends (DropsTx (Own t)) told x → x ≡ Sender t
+ends-sender : (t : TxId) (told : EventResult) (x : Handle) → Ends (DropsTx (Own t)) told x → x ≡ Sender t
 ends-sender t (Ok outcome) x e = e
 ends-sender t (Err why) x e = absurd e
 
-ends-receiver : (r : RxId) (told : Told) (x : Handle) → Ends (DropsRx r) told x → x ≡ Receiver r
+ends-receiver : (r : RxId) (told : EventResult) (x : Handle) → Ends (DropsRx r) told x → x ≡ Receiver r
 ends-receiver r (Ok outcome) x e = e
 ends-receiver r (Err why) x e = absurd e
 
 module _ (limit : ℕ) (Q : ℕ → Handle → Type 0) (n : ℕ) (next : Script) (rest : Leaves limit Q next) where
   -- topic n's handle x is spent first
-  spend-one : (event : Event) (x : Handle) → ((told : Told) (y : Handle) → Ends event told y → y ≡ x) → (Q n x → ⊥) →
+  spend-one : (event : Event) (x : Handle) → ((told : EventResult) (y : Handle) → Ends event told y → y ≡ x) → (Q n x → ⊥) →
       Leaves limit Q (Ask (On n event) (λ said. next))
   spend-one event x ends not ts s =
       let mid : EndlessTopics = (say (endless limit) ts (On n event)).1 in
@@ -453,8 +440,7 @@ pub lives-nothing : (ts : EndlessTopics) (h : Holding) → h ≡ [] → Lives ts
 lives-nothing ts h e = subst (Lives ts) (sym e) (record {
   rising = tt;
   live = λ n x has. absurd (has-nothing x has);
-  own =
-      λ n x has. absurd (has-nothing x has);
+  own = λ n x has. absurd (has-nothing x has);
 })
 
 quit-run : (limit : ℕ) (ts : EndlessTopics) (h : Holding) → AreSound ts → Lives ts h → RunKeeps limit ts h (spend_all h)

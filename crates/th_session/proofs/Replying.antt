@@ -25,38 +25,15 @@ AreTold sender receiver end reply = (replied (Ok sender) ≡ reply) × (replied 
 
 made : (r : BReply Bytes) →
     AreTold (broadcast_made_tx r) (broadcast_made_rx r) (ended_or (is_broadcast_done r) (Broadcast r)) (replied_broadcast r)
-made (BReplies.Sent n) = (refl, refl, refl)
-made (BReplies.NoReceivers v) = (refl, refl, refl)
-made (BReplies.Exhausted v) = (refl, refl, refl)
-made (BReplies.Value v) = (refl, refl, refl)
-made BReplies.Empty = (refl, refl, refl)
-made BReplies.Closed = (refl, refl, refl)
-made (BReplies.Lagged n) = (refl, refl, refl)
-made (BReplies.NewRx r) = (refl, refl, refl)
-made (BReplies.NewTx t) = (refl, refl, refl)
-made (BReplies.Count n) = (refl, refl, refl)
-made BReplies.Done = (refl, refl, refl)
-made BReplies.TooMany = (refl, refl, refl)
-made (BReplies.NoHandle v) = (refl, refl, refl)
+made r =
+    elim r as
+    (λ r. AreTold (broadcast_made_tx r) (broadcast_made_rx r) (ended_or (is_broadcast_done r) (Broadcast r)) (replied_broadcast r))
+    [ BReplies.Empty ↦ (refl, refl, refl) | _ ↦ (refl, refl, refl) ]
 
 watch-made : (r : WReply Bytes) →
     AreTold (watch_made_tx r) (watch_made_rx r) (ended_or (is_watch_done r) (Watch r)) (replied_watch r)
-watch-made WReplies.Done = (refl, refl, refl)
-watch-made (WReplies.NoReceivers v) = (refl, refl, refl)
-watch-made (WReplies.Exhausted v) = (refl, refl, refl)
-watch-made (WReplies.Was v) = (refl, refl, refl)
-watch-made (WReplies.Modified b) = (refl, refl, refl)
-watch-made (WReplies.Shown v b) = (refl, refl, refl)
-watch-made (WReplies.Changed b) = (refl, refl, refl)
-watch-made WReplies.Marked = (refl, refl, refl)
-watch-made WReplies.NotYet = (refl, refl, refl)
-watch-made WReplies.Closed = (refl, refl, refl)
-watch-made (WReplies.Gone b) = (refl, refl, refl)
-watch-made (WReplies.NewRx r) = (refl, refl, refl)
-watch-made (WReplies.NewTx t) = (refl, refl, refl)
-watch-made (WReplies.Count n) = (refl, refl, refl)
-watch-made WReplies.TooMany = (refl, refl, refl)
-watch-made (WReplies.NoHandle v) = (refl, refl, refl)
+watch-made r = elim r as (λ r. AreTold (watch_made_tx r) (watch_made_rx r) (ended_or (is_watch_done r) (Watch r)) (replied_watch r))
+    [ WReplies.Done ↦ (refl, refl, refl) | _ ↦ (refl, refl, refl) ]
 
 broadcast-outcome : (event : Event) (reply : BReply Bytes) → replied (Ok (broadcast_outcome event reply)) ≡ replied_broadcast reply
 broadcast-outcome Binds reply = (made reply).0

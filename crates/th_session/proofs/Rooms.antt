@@ -1,7 +1,7 @@
 -- Room in a script: where there is some the script is carried out as without it.
 use Rattle.std.proofs.Common.{◌≡◌, ℕ, inl, inr, Result, Ok, refl, sym, subst}
 use Rattle.th_lines.specs.declared.command.Action.{Action}
-use Rattle.th_lines.specs.declared.command.Action.TheVariants.{Bind, Unbind, Subscribe, Unsubscribe, Resubscribe, BySender, Ask, ByReceiver, End}
+use Rattle.th_lines.specs.declared.command.Action.TheVariants.{Bind, Unbind, Unsubscribe, End}
 use Rattle.th_lines.specs.declared.reply.Code.{Code}
 use Rattle.th_lines.specs.declared.reply.Code.TheVariants as Codes
 use Rattle.th_lines.specs.declared.reply.Reply.TheVariants.{Refused}
@@ -13,29 +13,14 @@ use Rattle.th_session.specs.Script.{Answer, Plays, Replied, Room, Script, by_eve
 -- the hub has room
 pub run-in-room : {B W : Type 0} (m : Machines B W) (ts : Topics B W) (action : Action) (h : Holding) (s : Script) →
     run m ts (with_room action h s) ≡ run m ts s
-run-in-room m ts Bind h s = refl
-run-in-room m ts Unbind h s = refl
-run-in-room m ts (Subscribe start) h s = refl
-run-in-room m ts Unsubscribe h s = refl
-run-in-room m ts Resubscribe h s = refl
-run-in-room m ts (BySender verb) h s = refl
-run-in-room m ts (Ask question) h s = refl
-run-in-room m ts (ByReceiver verb) h s = refl
-run-in-room m ts End h s = refl
+run-in-room m ts action h s = elim action as (λ action. run m ts (with_room action h s) ≡ run m ts s) [ Bind ↦ refl | _ ↦ refl ]
 
 module _ {D : Type 0} (says : D → (q : Query) → Said q → D → Type 0) where
   -- where there was room, what was done is the script
   pub plays-in-room : (action : Action) (h : Holding) (s : Script) (old : D) (answer : Answer) (after : Holding) (new : D) →
       Plays says s old answer after new → Plays says (with_room action h s) old answer after new
-  plays-in-room Bind h s old answer after new p = inl p
-  plays-in-room Unbind h s old answer after new p = p
-  plays-in-room (Subscribe start) h s old answer after new p = inl p
-  plays-in-room Unsubscribe h s old answer after new p = p
-  plays-in-room Resubscribe h s old answer after new p = inl p
-  plays-in-room (BySender verb) h s old answer after new p = inl p
-  plays-in-room (Ask question) h s old answer after new p = inl p
-  plays-in-room (ByReceiver verb) h s old answer after new p = inl p
-  plays-in-room End h s old answer after new p = p
+  plays-in-room action h s old answer after new p = elim action as (λ action. Plays says (with_room action h s) old answer after new)
+      [ Unbind ↦ p | Unsubscribe ↦ p | End ↦ p | _ ↦ inl p ]
 
 -- there was no room, and what is held is as before
 module _ {D : Type 0} (says : D → (q : Query) → Said q → D → Type 0) (topic : ℕ) (h after : Holding) (old : D)

@@ -28,7 +28,7 @@ use Rattle.th_session.specs.declared.session.Answer as session
 use Rattle.th_session.specs.declared.session.Answer.TheVariants as answers
 use Rattle.th_session.specs.Answer.{said}
 use Rattle.th_session.specs.Kept.{IsKept, Kept, Tells, kept_by, told}
-use Rattle.th_session.specs.Run.{Course, Halts, HasQuit, IsAnswered, IsOver, Ran, Served, Serves, Took, fault_by, beginning, is_whole, line_turn, nothing_had, stands}
+use Rattle.th_session.specs.Run.{Progress, Halts, HasQuit, IsAnswered, IsOver, Ran, Served, Serves, Took, fault_by, beginning, is_whole, line_turn, nothing_had, stands}
 use Rattle.th_session.specs.Script.{Answer}
 use Rattle.th_session.proofs.Kept.{as-before, keeps_as, told_reply}
 
@@ -64,10 +64,8 @@ module _ {D : Type 0} (keeping : Keeping) (says : D → (q : Query) → Said q �
       -- the writer failed before it was carried out
       pub in_time_broken : new ≡ (s, e) → WritesFront (entered.waiting ++ []) entered after →
           Halts keeping says ((s, d), before) (line ∷ []) (Some Write) (new, after)
-      in_time_broken at f =
-          subst (λ (x : Kept × D). Halts keeping says ((s, d), before) (line ∷ []) (Some Write) (x, after))
-          (sym (at ∙ ap (λ (x : D). (s, x)) same))
-          (halts_here ((s, d), before) (line ∷ []) Write after (front_after [] p f))
+      in_time_broken at f = subst (λ (x : Kept × D). Halts keeping says ((s, d), before) (line ∷ []) (Some Write) (x, after))
+          (sym (at ∙ ap (λ (x : D). (s, x)) same)) (halts_here ((s, d), before) (line ∷ []) Write after (front_after [] p f))
 
       -- it was carried out
       module _ (mid : Output) (tells : session.Answer) (t : Tells tells (λ answer. IsAnswered says line (s, e) answer new))
@@ -103,7 +101,7 @@ module _ {D : Type 0} (keeping : Keeping) (says : D → (q : Query) → Said q �
 
 module _ {W D : Type 0} (says : D → (q : Query) → Said q → D → Type 0) (contents : W → Option (List ℕ)) where
   -- a run takes a line
-  pub takes_on : (line : Line) (old new : Course × D × Tally W) (r : Result (Unit {0}) (Option SessionFault)) →
+  pub takes_on : (line : Line) (old new : Progress × D × Tally W) (r : Result (Unit {0}) (Option SessionFault)) →
       new.0.keeping ≡ old.0.keeping
       → Serves old.0.keeping says line (stands contents old) (stands contents new) r →
       Takes (Took says contents) (IsOver says contents) line old r new
@@ -117,22 +115,21 @@ module _ {W D : Type 0} (says : D → (q : Query) → Said q → D → Type 0) (
       (b, λ h. quits_after t.1.texts s'.0.texts (s'.1 h))
 
   -- it settles
-  pub settles_on : (old new : Course × D × Tally W) → new.0.keeping ≡ old.0.keeping → new.0.kept ≡ old.0.kept → new.1 ≡ old.1
+  pub settles_on : (old new : Progress × D × Tally W) → new.0.keeping ≡ old.0.keeping → new.0.kept ≡ old.0.kept → new.1 ≡ old.1
       → WritesAll old.0.waiting (stands contents old).1 (stands contents new).1 × (new.0.waiting ≡ [])
       → Settles (Took says contents) (IsOver says contents) {A = Unit {0}} (λ p. Unit {0}) old (Ok tt) new
   settles_on old new same actor desk f = (
     λ from lines t. (
       same ∙ t.0,
       subst (λ (x : Kept × D). Answers (line_turn from.0.keeping says) (stands contents from) lines (x, (stands contents new).1))
-          (λ i. (sym actor i, sym desk i))
-          (answers_on t.1 (stands contents new).1 (flushed_adds f.0 f.1)),
+          (λ i. (sym actor i, sym desk i)) (answers_on t.1 (stands contents new).1 (flushed_adds f.0 f.1)),
     ),
     tt,
   )
 
-  pub settles_broken : (old new : Course × D × Tally W) → new.0.kept ≡ old.0.kept → new.1 ≡ old.1
+  pub settles_broken : (old new : Progress × D × Tally W) → new.0.kept ≡ old.0.kept → new.1 ≡ old.1
       → WritesFront old.0.waiting (stands contents old).1 (stands contents new).1
-      → (from : Course × D × Tally W) (lines : List Line) → Took says contents from lines old →
+      → (from : Progress × D × Tally W) (lines : List Line) → Took says contents from lines old →
       IsOver says contents from lines (Some Write) new
   settles_broken old new actor desk f from lines t =
       let out = (stands contents new).1 in
@@ -161,14 +158,14 @@ pub record Ends {D : Type 0} (turn : Kept × D → Line → List ℕ → Kept ×
 module _ {W D : Type 0} (keeping : Keeping) (says : D → (q : Query) → Said q → D → Type 0) (contents : W → Option (List ℕ))
     (r r' : Option (List ℕ)) (d : D)
     (w : Tally W) where
-  abbrev start : Course × D × Tally W
+  abbrev start : Progress × D × Tally W
   start = (beginning keeping, d, w)
 
   abbrev before : Output
   before = output contents w []
 
   -- lines may come still
-  ends_within : (reads : ℕ) (f : Feeding) (now : Course × D × Tally W) (e : SessionFault) → is_whole (Some e) ≡ true
+  ends_within : (reads : ℕ) (f : Feeding) (now : Progress × D × Tally W) (e : SessionFault) → is_whole (Some e) ≡ true
       → Underway (Took says contents) (IsOver says contents) r r' start reads f now
       → Ends (line_turn keeping says) r r' d before (Some e) (stands contents now).0 (stands contents now).1
   ends_within reads f now e whole u = record {
@@ -186,7 +183,7 @@ module _ {W D : Type 0} (keeping : Keeping) (says : D → (q : Query) → Said q
   }
 
   -- by why no further line is fed
-  pub ends_by : (spent : Type 0) (reads : ℕ) (fed : Fed (Option SessionFault)) (f : Feeding) (now : Course × D × Tally W)
+  pub ends_by : (spent : Type 0) (reads : ℕ) (fed : Fed (Option SessionFault)) (f : Feeding) (now : Progress × D × Tally W)
       → Stands (Took says contents) (IsOver says contents) r r' start (λ p. Unit {0}) spent reads fed f now
       → Ends (line_turn keeping says) r r' d before (fault_by fed) (stands contents now).0 (stands contents now).1
   ends_by spent reads why.Ended f now q = record {

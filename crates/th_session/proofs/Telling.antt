@@ -42,15 +42,8 @@ module _ {D : Type 0} (says : D → (q : Query) → Said q → D → Type 0) (an
   room-no h s f old (inr w) = ap is_trace w.0
 
   with_room-no : (action : Action) (h : Holding) (s : Script) → IsNoTrace s → IsNoTrace (with_room action h s)
-  with_room-no Actions.Bind h s f = room-no h s f
-  with_room-no Actions.Unbind h s f = f
-  with_room-no (Actions.Subscribe start) h s f = room-no h s f
-  with_room-no Actions.Unsubscribe h s f = f
-  with_room-no Actions.Resubscribe h s f = room-no h s f
-  with_room-no (Actions.BySender verb) h s f = room-no h s f
-  with_room-no (Actions.Ask question) h s f = room-no h s f
-  with_room-no (Actions.ByReceiver verb) h s f = room-no h s f
-  with_room-no Actions.End h s f = f
+  with_room-no action h s f = elim action as (λ action. IsNoTrace (with_room action h s))
+      [ Actions.Unbind ↦ f | Actions.Unsubscribe ↦ f | Actions.End ↦ f | _ ↦ room-no h s f ]
 
   event-no : (action : Action) (n : ℕ) (h : Holding) (judgement : Result Event Code) → IsNoTrace (by_event action n h judgement)
   event-no action n h (Err code) old p = ap is_trace p.0
@@ -64,8 +57,7 @@ module _ {D : Type 0} (says : D → (q : Query) → Said q → D → Type 0) (an
 
   topic-no : (action : Action) (h : Holding) (found : Option Found) → IsNoTrace (at_topic action h found)
   topic-no action h None old p = ap is_trace p.0
-  topic-no action h (Some t) old p =
-      if-no (is_for t.kind action) (acting action t.topic.0 h) (Say (Refused Codes.WrongKind) h)
+  topic-no action h (Some t) old p = if-no (is_for t.kind action) (acting action t.topic.0 h) (Say (Refused Codes.WrongKind) h)
       (event-no action t.topic.0 h (judged action (handles_at h t.topic.0))) (λ old p. ap is_trace p.0) old p
 
   -- so the segments that are kept stay the same

@@ -19,7 +19,7 @@ use Rattle.th_registry.specs.declared.opening.Found.{Found}
 use Rattle.th_registry.specs.declared.outcome.NoEvent.{NoEvent}
 use Rattle.th_registry.specs.declared.outcome.NoEvent.TheVariants as NoEvents
 use Rattle.th_registry.specs.Calls.{Bytes, receives, sends}
-use Rattle.th_registry.specs.Events.{Event, Receives, Sends, Told}
+use Rattle.th_registry.specs.Events.{Event, Receives, Sends, EventResult}
 use Rattle.th_registry.specs.Hub.{Find, found_at, found_in}
 use Rattle.th_registry.specs.Keeping.{IsLeft}
 use Rattle.th_registry.specs.Kinds.{kind_of}
@@ -44,14 +44,8 @@ use Rattle.th_session.proofs.Runs.{desk_steps}
 
 -- what is answered to an event is not the answer to `QUIT`
 no-bye : (n : ℕ) (told : Result ChannelReceipt NoEvent) → answered n (replied told) ≡ Replied Bye → ⊥
-no-bye n (Ok receipt) e = let bad : ⊥ = cc in bad
-no-bye n (Err NoEvents.NoTopic) e = let bad : ⊥ = cc in bad
-no-bye n (Err NoEvents.WrongKind) e = let bad : ⊥ = cc in bad
-no-bye n (Err NoEvents.NoSender) e = let bad : ⊥ = cc in bad
-no-bye n (Err NoEvents.NotLive) e = let bad : ⊥ = cc in bad
-no-bye n (Err NoEvents.Blocked) e = let bad : ⊥ = cc in bad
-no-bye n (Err NoEvents.LogFull) e = let bad : ⊥ = cc in bad
-no-bye n (Err NoEvents.Short) e = let bad : ⊥ = cc in bad
+no-bye n told = elim told as (λ told. answered n (replied told) ≡ Replied Bye → ⊥)
+    [ Err NoEvents.NoTopic ↦ λ e. (let bad : ⊥ = cc in bad) | _ ↦ λ e. (let bad : ⊥ = cc in bad) ]
 
 -- nor is a refusal
 refused-no-bye : (code : Code) → Replied (Refused code) ≡ Replied Bye → ⊥
@@ -106,8 +100,7 @@ module _ {C : Type 0} (call_of : Event → Option C) (kind : Kind) (s : Handles 
   pub own-refused : (it : Own) (code : Code) → called it ≡ Err code →
       ((is_for kind (action_of it) ≡ false) × (code ≡ Codes.WrongKind))
       ⊎ ((is_for kind (action_of it) ≡ true) × (judged (action_of it) s ≡ Err code))
-  own-refused (Sender verb) code e =
-      refused-by (λ (t : TxId). call_of (Sends t verb)) (λ t. Sends t verb) (sends kind verb) s.sender code e
+  own-refused (Sender verb) code e = refused-by (λ (t : TxId). call_of (Sends t verb)) (λ t. Sends t verb) (sends kind verb) s.sender code e
   own-refused (Receiver verb) code e =
       refused-by (λ (r : RxId). call_of (Receives r verb)) (λ r. Receives r verb) (receives kind verb) s.receiver code e
 
@@ -121,7 +114,7 @@ module _ {C : Type 0} (call_of : Event → Option C) (kind : Kind) (s : Handles 
       (by.0, Receives by.1 verb, tt, by.2, by.3)
 
 -- what is held stays as it is
-kept-own : (it : Own) (told : Told) (n : ℕ) (h : Holding) → h ≡ kept (action_of it) told n h
+kept-own : (it : Own) (told : EventResult) (n : ℕ) (h : Holding) → h ≡ kept (action_of it) told n h
 kept-own (Sender verb) told n h = refl
 kept-own (Receiver verb) told n h = refl
 
@@ -146,14 +139,12 @@ module _ (limit : ℕ) (had : Kept) (name : Bytes) (it : Own) (ts : SeenTopics) 
 
   quietly : (found : Option Found) (answer : Answer) (new : SeenTopics) → DeskSays (desk ts) (Find name) found (desk ts) →
       Plays DeskSays (at_topic action had.handles found) (desk ts) answer had.handles (desk new) → Stepped answer new
-  quietly found answer new says plays =
-      (desk_steps had (On name action) (desk ts) answer (having had answer had.handles) (desk new)
+  quietly found answer new says plays = (desk_steps had (On name action) (desk ts) answer (having had answer had.handles) (desk new)
       ((found, desk ts, says, plays), (refl, refl))).1
 
   -- no topic of this name
   pub lacks : {A F : Type 0} (result : Result A F) (before after : Output) → position (pointwise nat_eq name) (keys_of ts) ≡ None →
-      AddsOrFails (spell (Refused Codes.NoTopic)) before after result →
-      PutsQuietly limit had ts (On name action) ts before after result
+      AddsOrFails (spell (Refused Codes.NoTopic)) before after result → PutsQuietly limit had ts (On name action) ts before after result
   lacks result before after none text =
       let answer = Replied (Refused Codes.NoTopic) in
       let says : DeskSays (desk ts) (Find name) None (desk ts) = (refl, finds limit ts name None (ap (found_at ts) none)) in
@@ -185,14 +176,12 @@ module _ (limit : ℕ) (had : Kept) (name : Bytes) (it : Own) (ts : SeenTopics) 
         (Say (Refused Codes.WrongKind) had.handles)) (desk ts) answer had.handles (desk ts) in
         let step = quietly (Some found) answer ts says-found (subst P (sym wrong.0) (refl, refl, refl)) in
         subst (λ (code : Code). Stepped (Replied (Refused code)) ts) (sym wrong.1) step
-    refusing code (inr lacks) =
-        fitting (Replied (Refused code)) ts lacks.0
+    refusing code (inr lacks) = fitting (Replied (Refused code)) ts lacks.0
         (plays-not DeskSays action n had.handles had.handles (desk ts) lacks.1 refl)
 
     -- a refusal
     pub refuses : {C A F : Type 0} (result : Result A F) (call_of : Event → Option C) (code : Code) (before after : Output) →
-        called call_of (kind_of channel) (handles_at had.handles n) it ≡ Err code →
-        AddsOrFails (spell (Refused code)) before after result →
+        called call_of (kind_of channel) (handles_at had.handles n) it ≡ Err code → AddsOrFails (spell (Refused code)) before after result →
         PutsQuietly limit had ts (On name action) (set_value_at ts n channel) before after result
     refuses result call_of code before after none text =
         let why = own-refused call_of (kind_of channel) (handles_at had.handles n) it code none in
@@ -206,8 +195,7 @@ module _ (limit : ℕ) (had : Kept) (name : Bytes) (it : Own) (ts : SeenTopics) 
     -- an event, and what came of it
     pub tells : {A F : Type 0} (result : Result A F) (event : Event) (came : Result ChannelReceipt NoEvent) (new : SeenChannel)
         (before after : Output) → is_for (kind_of channel) action ≡ true → judged action (handles_at had.handles n) ≡ Ok event →
-        ChannelTells channel event (replied came) new →
-        AddsOrFails (said (answered n (replied came))) before after result →
+        ChannelTells channel event (replied came) new → AddsOrFails (said (answered n (replied came))) before after result →
         PutsQuietly limit had ts (On name action) (set_value_at ts n new) before after result
     tells result event came new before after fits judgement told text =
         let answer = answered n (replied came) in

@@ -26,17 +26,17 @@ abbrev pub nothing_had : Kept
 nothing_had = record { handles = []; receipts = []; segments = [] }
 
 -- How far a run has got: what its actor has, the replies that wait, and what it keeps of them.
-pub record Course : Type 0 where
+pub record Progress : Type 0 where
   pub kept : Kept
   pub waiting : List ℕ
   pub keeping : Keeping
 
 -- before anything was read
-abbrev pub beginning : Keeping → Course
+abbrev pub beginning : Keeping → Progress
 beginning keeping = record { kept = nothing_had; waiting = []; keeping = keeping }
 
 -- what a run and its desk have, and where the replies stand
-abbrev pub stands : {W D : Type 0} → (W → Option (List ℕ)) → Course × D × Tally W →
+abbrev pub stands : {W D : Type 0} → (W → Option (List ℕ)) → Progress × D × Tally W →
     (Kept × D) × Output
 stands contents p = ((p.0.kept, p.1), output contents p.2 p.0.waiting)
 
@@ -127,13 +127,13 @@ module _ {D : Type 0} (keeping : Keeping) (says : D → (q : Query) → Said q �
 
 -- a run took these lines
 abbrev pub Took : {W D : Type 0} → (D → (q : Query) → Said q → D → Type 0) → (W → Option (List ℕ)) →
-    Course × D × Tally W → List Line → Course × D × Tally W → Type 0
+    Progress × D × Tally W → List Line → Progress × D × Tally W → Type 0
 Took says contents old lines new = (new.0.keeping ≡ old.0.keeping)
     × Answers (line_turn old.0.keeping says) (stands contents old) lines (stands contents new)
 
 -- or it is to end
 abbrev pub IsOver : {W D : Type 0} → (D → (q : Query) → Said q → D → Type 0) →
     (W → Option (List ℕ)) →
-    Course × D × Tally W → List Line → Option SessionFault → Course × D × Tally W → Type 0
+    Progress × D × Tally W → List Line → Option SessionFault → Progress × D × Tally W → Type 0
 IsOver says contents old lines fault new =
     Halts old.0.keeping says (stands contents old) lines fault (stands contents new)

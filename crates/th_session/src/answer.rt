@@ -4,8 +4,8 @@ ghost use Rattle.th_lines.specs.Output.{output};
 ghost use Rattle.th_session.specs.Answer.{Answers, Puts, PutsTold, refused};
 ghost use Rattle.th_session.specs.Kept.{Tells, told};
 
+use crate::as_reply::append_told;
 use crate::session::{Answer, Session};
-use crate::told::append_told;
 use crate::trace::append_trace;
 use std::alloc::Global;
 use std::io::Write;

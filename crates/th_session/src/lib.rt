@@ -20,6 +20,7 @@
 
 mod action;
 pub mod answer;
+mod as_reply;
 mod fault;
 mod gate;
 pub mod handles;
@@ -33,7 +34,6 @@ mod run;
 mod sends_ahead;
 pub mod session;
 mod table;
-mod told;
 mod trace;
 
 pub use fault::SessionFault;

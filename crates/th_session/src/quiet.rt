@@ -9,9 +9,9 @@ ghost use Rattle.th_registry.specs.Pictures.{SeenTopics};
 ghost use Rattle.th_session.specs.Held.{handles_at};
 ghost use Rattle.th_session.specs.Quiet.{PutsQuietly, PutsReply, Stands, action_of, own_call};
 
+use crate::as_reply::AsReply;
 use crate::session::Session;
 use crate::table::replied_none;
-use crate::told::Told;
 use std::io::Write;
 use th_lines::{Code, Counted, Reply, WriteBuffer, WriteFailed};
 use th_model::{Kind, NameRef, ReceiverVerb, SenderVerb, Value};
@@ -63,7 +63,7 @@ fn own_call<K: th_log::Kind<Value = Value>>(
 
 // One call of a channel, and what came of it.
 #[inline(always)]
-fn put_reply<R: Told, K: th_log::Kind<Reply = R>, W: Write>(
+fn put_reply<R: AsReply, K: th_log::Kind<Reply = R>, W: Write>(
     channel: &mut Recorded<K>,
     call: Option<K::Call>,
     out: &mut WriteBuffer,

@@ -33,9 +33,9 @@ struct Run<'a, D: Desk, C, G> {
 }
 
 impl<'a, D: Desk, C, G> Model for Run<'a, D, C, G> {
-    ghost use Rattle.th_session.specs.Run.{Course};
+    ghost use Rattle.th_session.specs.Run.{Progress};
 
-    ghost Value = { Course };
+    ghost Value = { Progress };
 
     ghost view = { λ r. record {
       kept = r.session;

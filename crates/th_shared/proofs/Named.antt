@@ -21,10 +21,6 @@ module _ (q : List ℕ) (topics : List (List ℕ × Found)) (i : ℕ) (d : List 
   pub passed : pointwise nat_eq q (get_or topics i d).0 ≡ false → named q (drop i topics) ≡ named q (drop (i + 1) topics)
   passed other = at_front ∙ ap (λ (b : Bool). cond b (Some (get_or topics i d).1) (named q (drop (i + 1) topics))) other
 
-  -- and where it has the name, it is the one
-  pub hit : pointwise nat_eq q (get_or topics i d).0 ≡ true → named q (drop i topics) ≡ Some (get_or topics i d).1
-  hit same = at_front ∙ ap (λ (b : Bool). cond b (Some (get_or topics i d).1) (named q (drop (i + 1) topics))) same
-
 -- one more topic behind the others is found where none of them has the name, and it has
 abbrev IsBehind : (q name : List ℕ) → Found → List (List ℕ × Found) → Option Found → Type 0
 IsBehind q name found topics other = (option_or (named q (topics ++ (name, found) ∷ [])) other ≡ option_or (named q topics) other)

@@ -7,7 +7,7 @@ use Rattle.th_model.specs.declared.making.Making.{Making}
 use Rattle.th_registry.specs.declared.channel.Channel.TheVariants.{Broadcast, Watch}
 use Rattle.th_registry.specs.declared.opening.Refusal.{Refusal}
 use Rattle.th_registry.specs.declared.opening.Refusal.TheVariants as Refusals
-use Rattle.th_registry.specs.Events.{Event, Outcome, Told, broadcast_call, broadcast_outcome, is_end, watch_call, watch_outcome}
+use Rattle.th_registry.specs.Events.{Event, Outcome, EventResult, broadcast_call, broadcast_outcome, is_end, watch_call, watch_outcome}
 use Rattle.th_registry.specs.Hub.{Query, Said, Find, Open, On, Cut, made}
 use Rattle.th_registry.specs.Legal.{IsLegalSegment}
 use Rattle.th_registry.specs.Pictures.{pictures}
@@ -24,7 +24,7 @@ IsEvent n e outcome (Broadcast r) =
 IsEvent n e outcome (Watch r) = IsOf n (watch_call e) r × (outcome ≡ watch_outcome e r.reply)
 
 -- what is said of an event: it was made, and its receipt is handed out, but for the end of a handle; or it was not
-abbrev pub Notes : ℕ → Event → Told → Option ChannelReceipt → Type 0
+abbrev pub Notes : ℕ → Event → EventResult → Option ChannelReceipt → Type 0
 Notes n e (Ok outcome) (Some receipt) = IsEvent n e outcome receipt × (is_end e ≡ false)
 Notes n e (Ok outcome) None =
     (receipt : ChannelReceipt) × IsEvent n e outcome receipt × (is_end e ≡ true)

@@ -33,8 +33,7 @@ all-above n (p ∷ ps) h =
     ] refl
 
 not-above : (n : ℕ) (p : ℕ × ℕ) (ps : Places) → p.0 ≤ n → filter (λ q. nat_lt n q.0) (p ∷ ps) ≡ filter (λ q. nat_lt n q.0) ps
-not-above n p ps le =
-    elim (nat_lt n p.0) as
+not-above n p ps le = elim (nat_lt n p.0) as
     (λ b. nat_lt n p.0 ≡ b → cond b (p ∷ filter (λ q. nat_lt n q.0) ps) (filter (λ q. nat_lt n q.0) ps) ≡ filter (λ q. nat_lt n q.0) ps) [
       | true ↦ λ e. absurd (omega (arith, ltb-true n p.0 e, le))
       | false ↦ λ e. refl

@@ -90,8 +90,7 @@ module _ (version : Version) (c low tail next : ℕ) where
   keeps : (done todo : List Bytes) (rest : List Bytes) → AllByRecursion IsValue todo → length done + length todo ≤ tail - low →
       leads (at done [] []) (map kept_line todo ++ rest) ≡ leads (at (done ++ todo) [] []) rest
   keeps done [] rest h few = ap (λ (l : List Bytes). leads (at l [] []) rest) (sym (append-nil done))
-  keeps done (v ∷ vs) rest h few =
-      ap (λ (o : Option Next). goes_on o (map kept_line vs ++ rest) (λ n. leads n (map kept_line vs ++ rest)))
+  keeps done (v ∷ vs) rest h few = ap (λ (o : Option Next). goes_on o (map kept_line vs ++ rest) (λ n. leads n (map kept_line vs ++ rest)))
       (keep-step done v h.0 (omega arith))
       ∙ keeps (done ++ v ∷ []) vs rest h.1 (omega (arith, length-append done (v ∷ [])))
       ∙ ap (λ (l : List Bytes). leads (at l [] []) rest) (append_assoc done (v ∷ []) vs)

@@ -94,14 +94,12 @@ module _ (call : BCall Bytes) where
       & number_last-finds SpellsReply (codes "new-rx") (λ n. NewRx (rx n)) (λ n h. ((tt, h), refl))
       & number_last-finds SpellsReply (codes "new-tx") (λ n. NewTx (tx n)) (λ n h. ((tt, h), refl))
       & number_last-finds SpellsReply (codes "count") Count (λ n h. ((tt, h), refl))
-      & ended-finds SpellsReply (codes "done") Done ((tt, tt), refl)
-      & ended-finds SpellsReply (codes "closed") Closed ((tt, tt), refl)
+      & ended-finds SpellsReply (codes "done") Done ((tt, tt), refl) & ended-finds SpellsReply (codes "closed") Closed ((tt, tt), refl)
       & ended-finds SpellsReply (codes "too-many") TooMany ((tt, tt), refl)
       & value_last-finds SpellsReply (codes "value") Value (λ v h. ((tt, h), refl))
       & number_last-finds SpellsReply (codes "sent") Sent (λ n h. ((tt, h), refl))
       & number_last-finds SpellsReply (codes "lagged") Lagged (λ n h. ((tt, h), refl))
-      & ended-finds SpellsReply (codes "empty") Empty ((tt, tt), refl)
-      & tt
+      & ended-finds SpellsReply (codes "empty") Empty ((tt, tt), refl) & tt
       )
 
   reply-again : (reply : BReply Bytes) → IsReplyTo call reply

@@ -39,9 +39,6 @@ no_digits bytes n low h = never (λ e. none-some n (sym h ∙ ap number_of e ∙
 
 -- a letter and a space, and what is read behind them
 module _ {A : Type 0} (read : List ℕ → Option A) (line : List ℕ) where
-  pub behind-there : (rest : List ℕ) → line ≡ codes "C " ++ rest → behind (codes "C") read line ≡ read rest
-  behind-there rest e = ap (λ (l : List ℕ). behind (codes "C") read l) e
-
   pub behind-missing : ((rest : List ℕ) → line ≢ codes "C " ++ rest) → behind (codes "C") read line ≡ None
   behind-missing other = at (behind (codes "C") read line) refl
     where

@@ -100,9 +100,9 @@ receiver-live next senders ids rx h t free = record {
 pub entry-last : {X : Type 0} (ps : List (ℕ × X)) (k : ℕ) (x : X) → AllByRecursion (λ j. j < k) (keys_of ps) →
     insert_entry nat_cmp ps k x ≡ ps ++ (k, x) ∷ []
 entry-last {X} [] k x h = refl
-entry-last {X} (p ∷ ps) k x h =
-    elim (nat_cmp k p.0) as
-    (λ r. r ≡ nat_cmp k p.0 → match_ordering r ((k, x) ∷ p ∷ ps) ((p.0, x) ∷ ps) (p ∷ insert_entry nat_cmp ps k x) ≡ p ∷ ps ++ (k, x) ∷ []) [
+entry-last {X} (p ∷ ps) k x h = elim (nat_cmp k p.0) as
+    (λ r. r ≡ nat_cmp k p.0
+    → match_ordering r ((k, x) ∷ p ∷ ps) ((p.0, x) ∷ ps) (p ∷ insert_entry nat_cmp ps k x) ≡ p ∷ ps ++ (k, x) ∷ []) [
       | Less ↦ λ e. absurd (omega (arith, ranked k p.0 Less e, h.0))
       | Equal ↦ λ e. absurd (omega (arith, ranked k p.0 Equal e, h.0))
       | Greater ↦ λ e. ap (λ (l : List (ℕ × X)). p ∷ l) (entry-last ps k x h.1)

@@ -16,8 +16,7 @@ text-append xs ys = ap concat (map-append ended xs ys) ∙ concat-append (map en
 
 entries-text : (es : List (List Bytes × List Bytes)) → concat (map entry_piece es) ≡ text (entry_lines es)
 entries-text [] = refl
-entries-text (e ∷ es) =
-    ap (λ (rest : List ℕ). entry_piece e ++ rest) (entries-text es)
+entries-text (e ∷ es) = ap (λ (rest : List ℕ). entry_piece e ++ rest) (entries-text es)
     ∙ sym (text-append (entry_lines (e ∷ [])) (entry_lines es))
 
 pub trace-text : (t : PictureFields) (es : List (List Bytes × List Bytes)) → concat (trace_pieces t es) ≡ text (trace_lines t es)

@@ -108,10 +108,6 @@ answer-finds P word read ok rest a h =
     let m = mapped read (field_then yes_or_no rest) a h in
     subst (λ (r : Rest). P (joined word r) a) (sym (answer-found rest m.0 m.1)) (subst (P (word ++ 32 ∷ answer_word m.0)) m.2 (ok m.0))
 
-answer-again : (read : Bool → WReply Bytes) (b : Bool) → answer_last read (Some (answer_word b)) ≡ Some (read b)
-answer-again read true = refl
-answer-again read false = refl
-
 module _ (call : WCall Bytes) where
   abbrev SpellsReply : List ℕ → WReply Bytes → Type 0
   SpellsReply bytes reply = IsReplyTo call reply × (bytes ≡ line (reply_fields reply))
@@ -125,8 +121,7 @@ module _ (call : WCall Bytes) where
   unfolding shown
   shown-finds = table-finds SpellsShown shown (
       value_last-finds SpellsShown (codes "new") (λ v. Shown v true) (λ v h. ((tt, h), refl))
-      & value_last-finds SpellsShown (codes "same") (λ v. Shown v false) (λ v h. ((tt, h), refl))
-      & tt
+      & value_last-finds SpellsShown (codes "same") (λ v. Shown v false) (λ v h. ((tt, h), refl)) & tt
       )
 
   replies-find : (word : List ℕ) (rest : Rest) (reply : WReply Bytes) → by_word (replies grammar (value_given call)) word rest ≡ Some reply
@@ -139,16 +134,13 @@ module _ (call : WCall Bytes) where
       & number_last-finds SpellsReply (codes "new-rx") (λ n. NewRx (rx n)) (λ n h. ((tt, h), refl))
       & number_last-finds SpellsReply (codes "new-tx") (λ n. NewTx (tx n)) (λ n h. ((tt, h), refl))
       & number_last-finds SpellsReply (codes "count") Count (λ n h. ((tt, h), refl))
-      & ended-finds SpellsReply (codes "done") Done ((tt, tt), refl)
-      & ended-finds SpellsReply (codes "closed") Closed ((tt, tt), refl)
+      & ended-finds SpellsReply (codes "done") Done ((tt, tt), refl) & ended-finds SpellsReply (codes "closed") Closed ((tt, tt), refl)
       & ended-finds SpellsReply (codes "too-many") TooMany ((tt, tt), refl)
-      & value_last-finds SpellsReply (codes "was") Was (λ v h. ((tt, h), refl))
-      & table-entry SpellsReply (codes "shown") shown shown-finds
+      & value_last-finds SpellsReply (codes "was") Was (λ v h. ((tt, h), refl)) & table-entry SpellsReply (codes "shown") shown shown-finds
       & answer-finds SpellsReply (codes "modified") Modified (λ b. ((tt, tt), refl))
       & answer-finds SpellsReply (codes "changed") reply.Changed (λ b. ((tt, tt), refl))
       & answer-finds SpellsReply (codes "gone") Gone (λ b. ((tt, tt), refl))
-      & ended-finds SpellsReply (codes "marked") Marked ((tt, tt), refl)
-      & ended-finds SpellsReply (codes "not-yet") NotYet ((tt, tt), refl)
+      & ended-finds SpellsReply (codes "marked") Marked ((tt, tt), refl) & ended-finds SpellsReply (codes "not-yet") NotYet ((tt, tt), refl)
       & tt
       )
 

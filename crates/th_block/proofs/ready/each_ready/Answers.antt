@@ -16,8 +16,7 @@ pub loop-next-smaller : goal.loop-next-smaller
 loop-next-smaller g c = omega (arith, ap length c.in-Some-pop_front.ensures.items)
 
 pub loop-next-preserved : goal.loop-next-preserved
-loop-next-preserved g c =
-    one_of _ _ _ _ _ _ _ _ _ c.in-Some-pop_front.item _ _ _ _ c.loop-next.invariant c.in-Some-pop_front.ensures.items
+loop-next-preserved g c = one_of _ _ _ _ _ _ _ _ _ c.in-Some-pop_front.item _ _ _ _ c.loop-next.invariant c.in-Some-pop_front.ensures.items
     (subst (λ call. AddsOne c.loop-next.account c.one_moved.new.account call c.loop-next.held.tally c.one_moved.new.held.tally
     c.loop-next.receipts.items c.one_moved.new.receipts.items)
     c.call.ensures c.in-Ok.ensures.made)

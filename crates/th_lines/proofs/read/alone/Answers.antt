@@ -17,8 +17,7 @@ returns-in-QUIT c = reads-word carries_value words (codes "QUIT") c.args.word.no
 
 pub returns-in_default : goal.returns-in_default
 unfolding words words_alone words_with_more value_words mark_words topic_words
-returns-in_default c =
-    by_word-misses words c.args.word.now None (
+returns-in_default c = by_word-misses words c.args.word.now None (
     inl (search rules)
     & inl (search rules)
     & inr refl

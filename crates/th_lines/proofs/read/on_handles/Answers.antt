@@ -36,23 +36,19 @@ returns-in-SUB c =
 
 pub returns-in-UNSUB : goal.returns-in-UNSUB
 unfolding topic_words
-returns-in-UNSUB c =
-    reads (codes "UNSUB") (on Unsubscribe) c.args.word.now c.args.t refl c.requires (search rules) (search rules)
+returns-in-UNSUB c = reads (codes "UNSUB") (on Unsubscribe) c.args.word.now c.args.t refl c.requires (search rules) (search rules)
 
 pub returns-in-RESUB : goal.returns-in-RESUB
 unfolding topic_words
-returns-in-RESUB c =
-    reads (codes "RESUB") (on Resubscribe) c.args.word.now c.args.t refl c.requires (search rules) (search rules)
+returns-in-RESUB c = reads (codes "RESUB") (on Resubscribe) c.args.word.now c.args.t refl c.requires (search rules) (search rules)
 
 pub returns-in-QUEUED : goal.returns-in-QUEUED
 unfolding topic_words
-returns-in-QUEUED c =
-    reads (codes "QUEUED") (on (Ask Queued)) c.args.word.now c.args.t refl c.requires (search rules) (search rules)
+returns-in-QUEUED c = reads (codes "QUEUED") (on (Ask Queued)) c.args.word.now c.args.t refl c.requires (search rules) (search rules)
 
 pub returns-in-READERS : goal.returns-in-READERS
 unfolding topic_words
-returns-in-READERS c =
-    reads (codes "READERS") (on (Ask Readers)) c.args.word.now c.args.t refl c.requires (search rules) (search rules)
+returns-in-READERS c = reads (codes "READERS") (on (Ask Readers)) c.args.word.now c.args.t refl c.requires (search rules) (search rules)
 
 pub returns-in-END : goal.returns-in-END
 unfolding topic_words
@@ -64,8 +60,7 @@ returns-in-TRACE c = reads (codes "TRACE") tracing c.args.word.now c.args.t refl
 
 pub returns-in_default : goal.returns-in_default
 unfolding topic_words
-returns-in_default c =
-    by_word-none topic_words c.args.word.now (Some c.args.t) (
+returns-in_default c = by_word-none topic_words c.args.word.now (Some c.args.t) (
     search rules
     & search rules
     & search rules

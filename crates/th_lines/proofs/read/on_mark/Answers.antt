@@ -23,8 +23,7 @@ reads spelled read word t own name long bytes =
 
 pub returns-in-HAS : goal.returns-in-HAS
 unfolding mark_words
-returns-in-HAS c =
-    reads (codes "HAS") (on (ByReceiver HasChanged)) c.args.word.now c.args.t refl c.requires (search rules) (search rules)
+returns-in-HAS c = reads (codes "HAS") (on (ByReceiver HasChanged)) c.args.word.now c.args.t refl c.requires (search rules) (search rules)
 
 pub returns-in-TRYCHANGED : goal.returns-in-TRYCHANGED
 unfolding mark_words

@@ -71,8 +71,7 @@ returns-in-None c =
     sym (c.in-Some-name_and_rest.ensures) ∙ ap (λ (r : Option (Bor (List ℕ))). Some (t, rest_of r)) c.in-None.is in
     let text : fields ≡ t = (parts-found fields t None read).0 in
     record {
-      exact =
-          subst (λ (p : List ℕ × Rest). Reads carries_value c.on_topic.result (by_word words p.0 p.1)) found
+      exact = subst (λ (p : List ℕ × Rest). Reads carries_value c.on_topic.result (by_word words p.0 p.1)) found
           (subst (λ (l : List ℕ). Reads carries_value c.on_topic.result (by_word words word (Some l))) (sym text) c.on_topic.ensures);
     }
 
@@ -88,7 +87,6 @@ returns-in-Some-rest c =
     sym (c.in-Some-name_and_rest.ensures) ∙ ap (λ (r : Option (Bor (List ℕ))). Some (t, rest_of r)) c.in-Some-rest.is in
     let text : fields ≡ t ++ 32 ∷ bytes = (parts-found fields t (Some bytes) read).0 in
     record {
-      exact =
-          subst (λ (p : List ℕ × Rest). Reads carries_value c.with_more.result (by_word words p.0 p.1)) found
+      exact = subst (λ (p : List ℕ × Rest). Reads carries_value c.with_more.result (by_word words p.0 p.1)) found
           (subst (λ (l : List ℕ). Reads carries_value c.with_more.result (by_word words word (Some l))) (sym text) c.with_more.ensures);
     }

@@ -64,21 +64,18 @@ returns-in_err-value-in-SWAP c =
 
 pub returns-in-EDIT : goal.returns-in-EDIT
 unfolding words words_alone words_with_more value_words mark_words topic_words
-returns-in-EDIT c =
-    reads (codes "EDIT") c.args.word.now c.args.t c.args.text.now
+returns-in-EDIT c = reads (codes "EDIT") c.args.word.now c.args.t c.args.text.now
     (λ (t : List ℕ). field_then (by_word (editing t))) c.edit.result refl c.requires (search rules)
     (search rules) c.edit.ensures
 
 pub returns-in-OPEN : goal.returns-in-OPEN
 unfolding words words_alone words_with_more value_words mark_words topic_words
-returns-in-OPEN c =
-    reads (codes "OPEN") c.args.word.now c.args.t c.args.text.now
+returns-in-OPEN c = reads (codes "OPEN") c.args.word.now c.args.t c.args.text.now
     (λ (t : List ℕ). field_then (by_word (making t))) c.open.result refl c.requires (search rules) (search rules) c.open.ensures
 
 pub returns-in-SUB : goal.returns-in-SUB
 unfolding words words_alone words_with_more value_words mark_words topic_words
-returns-in-SUB c =
-    reads (codes "SUB") c.args.word.now c.args.t c.args.text.now
+returns-in-SUB c = reads (codes "SUB") c.args.word.now c.args.t c.args.text.now
     (λ (t : List ℕ). or_field (On t (Subscribe Tail)) (by_word (beginning t))) c.subscribe.result refl c.requires (search rules)
     (search rules) c.subscribe.ensures
 

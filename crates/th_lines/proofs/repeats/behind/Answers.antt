@@ -15,6 +15,5 @@ returns-then-bytes-end c rest is =
     ]
 
 pub returns : goal.returns
-returns c =
-    stands c.args.line.now c.args.bytes.now c.if-bytes-end.false c.if-bytes-end-ne10.false
+returns c = stands c.args.line.now c.args.bytes.now c.if-bytes-end.false c.if-bytes-end-ne10.false
     (turned _ (sym c.ne.ensures ∙ c.if-ne.false))

@@ -9,7 +9,8 @@ returns-in-Some g c =
     let fits =
     λ (t : Told g.row.O-Call.Denot g.row.O-Reply.Denot). stands g.O.Compared.call_eq g.O.Compared.reply_eq c.args.segment.now t in
     sym (sym c.loop-diary.invariant.strange
-    ∙ stranger_here fits c.args.segment.now.first c.loop-diary.named.items c.args.diaries.now c.loop-diary.diary-index c.diary-item.result c.in-Some.place c.loop-diary-test.true c.diary-item.is
+    ∙ stranger_here fits c.args.segment.now.first c.loop-diary.named.items c.args.diaries.now c.loop-diary.diary-index c.diary-item.result
+    c.in-Some.place c.loop-diary-test.true c.diary-item.is
     (rw c.receipts.ensures at c.in-Some.ensures.stranger))
 
 pub loop-diary-preserved : goal.loop-diary-preserved
@@ -17,7 +18,8 @@ loop-diary-preserved g c =
     let fits =
     λ (t : Told g.row.O-Call.Denot g.row.O-Reply.Denot). stands g.O.Compared.call_eq g.O.Compared.reply_eq c.args.segment.now t in
     let later =
-    stranger_later fits c.args.segment.now.first c.loop-diary.named.items c.args.diaries.now c.loop-diary.diary-index c.diary-item.result c.loop-diary-test.true c.diary-item.is
+    stranger_later fits c.args.segment.now.first c.loop-diary.named.items c.args.diaries.now c.loop-diary.diary-index c.diary-item.result
+    c.loop-diary-test.true c.diary-item.is
     (rw c.receipts.ensures at c.in-None.ensures.stranger) in
     let named = rw c.receipts.ensures at c.in-None.ensures.named in
     record {

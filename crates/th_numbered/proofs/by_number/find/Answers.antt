@@ -14,8 +14,7 @@ returns-then-n-first g c =
     (omega (arith, lt, length-keys ss)))
 
 pub returns-then-index-n : goal.returns-then-index-n
-returns-then-index-n g c =
-    found_at c.args.n c.args.list.now.items _ c.index-then-ahead-high.result.now c.requires
+returns-then-index-n g c = found_at c.args.n c.args.list.now.items _ c.index-then-ahead-high.result.now c.requires
     (omega (arith, c.if-ahead-high.true, c.len-high.ensures)) c.index-then-ahead-high.ensures c.if-index-n.true
 
 pub loop-low-init : goal.loop-low-init
@@ -46,8 +45,7 @@ loop-low-init g c =
     ]
 
 pub returns-then-number-n : goal.returns-then-number-n
-returns-then-number-n g c =
-    found_at c.args.n c.args.list.now.items _ c.index-in-loop-low.result.now c.requires
+returns-then-number-n g c = found_at c.args.n c.args.list.now.items _ c.index-in-loop-low.result.now c.requires
     (omega (arith, c.loop-low-test.true, c.loop-low.invariant.last)) c.index-in-loop-low.ensures c.if-number-n.true
 
 pub loop-low-preserved-then-number-n-2 : goal.loop-low-preserved-then-number-n-2

@@ -3,5 +3,4 @@ use Rattle.th_program.proofs.streams.texts.Given as goal
 
 -- the texts of the words so far
 abbrev pub invariant-loop-word : goal.invariant-loop-word
-invariant-loop-word l =
-    map (λ t. t.now) l.texts.items ≡ map string_bytes (take l.word-index l.words)
+invariant-loop-word l = map (λ t. t.now) l.texts.items ≡ map string_bytes (take l.word-index l.words)

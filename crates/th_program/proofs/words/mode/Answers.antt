@@ -35,11 +35,10 @@ returns-in-Ok-try_get_matches_from-clause-version c =
     cc
 
 pub returns-in-Err-clause-replay : goal.returns-in-Err-clause-replay
-returns-in-Err-clause-replay c =
-    λ (name, words). elim (failed c [] (ap (fault_of command_line) words ∙ replay_passes name)) [
-      | inl short ↦ c.refused.ensures.short short
-      | inr none ↦ absurd none
-    ]
+returns-in-Err-clause-replay c = λ (name, words). elim (failed c [] (ap (fault_of command_line) words ∙ replay_passes name)) [
+  | inl short ↦ c.refused.ensures.short short
+  | inr none ↦ absurd none
+]
 
 pub returns-in-Err-clause-taken : goal.returns-in-Err-clause-taken
 returns-in-Err-clause-taken c = λ is other. elim (failed c [] is) [
@@ -48,16 +47,14 @@ returns-in-Err-clause-taken c = λ is other. elim (failed c [] is) [
 ]
 
 pub returns-in-Err-clause-help : goal.returns-in-Err-clause-help
-returns-in-Err-clause-help c =
-    λ (name, words). elim
+returns-in-Err-clause-help c = λ (name, words). elim
     (failed c (kind.DisplayHelp ∷ []) (ap (fault_of command_line) words ∙ help_fails name)) [
       | inl short ↦ inr (c.refused.ensures.short short)
       | inr kinds ↦ elim kinds [ inl help ↦ c.refused.ensures.help help | inr none ↦ absurd none ]
     ]
 
 pub returns-in-Err-clause-version : goal.returns-in-Err-clause-version
-returns-in-Err-clause-version c =
-    λ (name, words). elim
+returns-in-Err-clause-version c = λ (name, words). elim
     (failed c (kind.DisplayVersion ∷ [])
     (ap (fault_of command_line) words ∙ version_fails name)) [
       | inl short ↦ inr (c.refused.ensures.short short)
@@ -68,8 +65,7 @@ returns-in-Err-clause-version c =
     ]
 
 pub returns-in-Err-clause-none : goal.returns-in-Err-clause-none
-returns-in-Err-clause-none c =
-    λ (name, words). elim
+returns-in-Err-clause-none c = λ (name, words). elim
     (failed c (kind.MissingSubcommand ∷ []) (ap (fault_of command_line) words ∙ none_fails name)) [
       | inl short ↦ inr (c.refused.ensures.short short)
       | inr kinds ↦ elim kinds [
@@ -93,11 +89,10 @@ returns-in-Ok-try_get_matches_from-clause-check c = λ (name, words).
     (check_named c.in-Ok-try_get_matches_from.matches _ _ c.in-Ok.ensures c.in-Ok-try_get_matches_from.ensures.matches name words)))) refl
 
 pub returns-in-Err-clause-check : goal.returns-in-Err-clause-check
-returns-in-Err-clause-check c =
-    λ (name, words). elim (failed c [] (ap (fault_of command_line) words ∙ check_passes name)) [
-      | inl short ↦ c.refused.ensures.short short
-      | inr none ↦ absurd none
-    ]
+returns-in-Err-clause-check c = λ (name, words). elim (failed c [] (ap (fault_of command_line) words ∙ check_passes name)) [
+  | inl short ↦ c.refused.ensures.short short
+  | inr none ↦ absurd none
+]
 
 -- words that do not ask to serve name another mode
 pub returns-in-Ok-try_get_matches_from-clause-taken : goal.returns-in-Ok-try_get_matches_from-clause-taken

@@ -10,8 +10,7 @@ use Rattle.th_registry.specs.Pictures.{SeenBroadcast, pictures}
 use Rattle.th_registry.proofs.topics.open_broadcast.Goals as goal
 
 pub returns-in_default : goal.returns-in_default
-returns-in_default c =
-    inl (opens-bad (pictures c.args.limit) c.args.channels.now.entries c.args.name c.requires
+returns-in_default c = inl (opens-bad (pictures c.args.limit) c.args.channels.now.entries c.args.name c.requires
     (Makings.BroadcastAt c.args.asked c.args.base)
     (made-none (pictures c.args.limit) (length c.args.channels.now.entries + 1) c.args.asked c.args.base c.in_default.ensures.refused))
 

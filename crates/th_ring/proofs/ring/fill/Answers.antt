@@ -23,7 +23,11 @@ loop-i-preserved g c =
       values =
           c.pop_front-value.ensures.rest ∙ ap (drop 1) i.values ∙ drop-drop 1 k c.args.kept.items ∙ ap (λ n. drop n c.args.kept.items) next;
       done =
-          done_more c.args.capacity c.args.low c.args.tail c.loop-i.i c.low_bits-at.result c.loop-i.slots.items c.args.slots.now.items i.size c.requires.capacity.1 (omega arith) (omega arith) c.requires.window c.low_bits-at.ensures (filled_slot c.args.low c.args.kept.items c.args.places.now.entries) i.done i.rest _ is;
+          done_more c.args.capacity c.args.low c.args.tail c.loop-i.i c.low_bits-at.result c.loop-i.slots.items c.args.slots.now.items
+          i.size c.requires.capacity.1 (omega arith) (omega arith) c.requires.window c.low_bits-at.ensures
+          (filled_slot c.args.low c.args.kept.items c.args.places.now.entries) i.done i.rest _ is;
       rest =
-          rest_less c.args.capacity c.args.low c.args.tail c.loop-i.i c.low_bits-at.result c.loop-i.slots.items c.args.slots.now.items i.size c.requires.capacity.1 (omega arith) (omega arith) c.requires.window c.low_bits-at.ensures (filled_slot c.args.low c.args.kept.items c.args.places.now.entries) i.done i.rest _ is;
+          rest_less c.args.capacity c.args.low c.args.tail c.loop-i.i c.low_bits-at.result c.loop-i.slots.items c.args.slots.now.items
+          i.size c.requires.capacity.1 (omega arith) (omega arith) c.requires.window c.low_bits-at.ensures
+          (filled_slot c.args.low c.args.kept.items c.args.places.now.entries) i.done i.rest _ is;
     }

@@ -12,8 +12,7 @@ loop-share-preserved c =
     let lt : i < length xs = c.loop-share-test.true in
     let key : x.key ≡ c.args.book.now.key = cc in
     record {
-      keys =
-          All-more (λ (p : Part). p.key ≡ c.args.book.now.key) xs i x lt c.loop-share.invariant.keys
+      keys = All-more (λ (p : Part). p.key ≡ c.args.book.now.key) xs i x lt c.loop-share.invariant.keys
           (subst (λ (p : Part). p.key ≡ c.args.book.now.key) c.share-item.is key);
       counts = let more = sum_by_more (λ (p : Part). p.count) xs i x lt in omega (arith, ap (λ (p : Part). p.count) c.share-item.is, more);
     }

@@ -7,7 +7,6 @@ use Rattle.th_lines.specs.declared.reply.Code.TheVariants as Codes
 use Rattle.th_lines.specs.declared.reply.Reply.TheVariants.{Refused}
 use Rattle.th_session.specs.Kept.{with_receipt}
 use Rattle.th_session.specs.Script.{Replied, answered}
-use Rattle.th_session.specs.Held.{held}
 use Rattle.th_session.proofs.HoldLemmas.{at-in, at-out, held-set, sender-seen}
 use Rattle.th_session.proofs.Playing.{plays-by, sender-there, said-by}
 use Rattle.th_session.proofs.Rooms.{no-room}
@@ -49,8 +48,7 @@ returns-in-None g c =
       c.note-in-None.ensures.0,
       (
         plays-by g.D.Desk.says (Actions.Ask c.args.question) c.args.topic.0 _ _ (replied c.ask-in-None.result) _ _ refl
-            (said-by g.D.Desk.says event c.args.topic.0 _ _ _ _ _ lacks c.ask-in-None.ensures.event) refl
-            refl,
+            (said-by g.D.Desk.says event c.args.topic.0 _ _ _ _ _ lacks c.ask-in-None.ensures.event) refl refl,
         c.note-in-None.ensures.1 ∙ ap (λ l. with_receipt l answer) c.reserve.ensures.items,
       ),
     )

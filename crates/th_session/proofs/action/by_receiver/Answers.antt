@@ -7,7 +7,6 @@ use Rattle.th_lines.specs.declared.reply.Code.TheVariants as Codes
 use Rattle.th_lines.specs.declared.reply.Reply.TheVariants.{Refused}
 use Rattle.th_session.specs.Kept.{with_receipt}
 use Rattle.th_session.specs.Script.{Replied, answered}
-use Rattle.th_session.specs.Held.{held}
 use Rattle.th_session.proofs.Rooms.{no-room}
 use Rattle.th_session.proofs.HoldLemmas.{held-set, receiver-kept}
 use Rattle.th_session.proofs.Playing.{receiver-out, receiver-lacks, receiver-own, plays-by, plays-not}
@@ -20,8 +19,7 @@ returns-in_default g c =
       refl,
       (
         plays-not g.D.Desk.says (ByReceiver c.args.verb) c.args.topic.0 _ _ _
-            (receiver-out g.D.Desk.tx g.D.Desk.rx event c.args.handles.now.entries c.args.topic.0 (sym c.in_default.ensures.value))
-            refl,
+            (receiver-out g.D.Desk.tx g.D.Desk.rx event c.args.handles.now.entries c.args.topic.0 (sym c.in_default.ensures.value)) refl,
         refl,
       ),
     )

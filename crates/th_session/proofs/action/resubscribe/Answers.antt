@@ -7,7 +7,6 @@ use Rattle.th_lines.specs.declared.reply.Reply.TheVariants.{Refused}
 use Rattle.th_session.specs.Kept.{with_receipt}
 use Rattle.th_session.specs.Script.{Replied, answered}
 use Rattle.th_registry.specs.Typed.{replied}
-use Rattle.th_session.specs.Held.{held}
 use Rattle.th_session.proofs.Rooms.{no-room}
 use Rattle.th_session.proofs.HoldLemmas.{held-set, receiver-kept, there-set}
 use Rattle.th_session.proofs.Playing.{receiver-out, receiver-lacks, receiver-own, plays-not, plays-resubscribe}
@@ -22,8 +21,7 @@ returns-in_default g c = (
   refl,
   (
     plays-not g.D.Desk.says Actions.Resubscribe c.args.topic.0 _ _ _
-        (receiver-out g.D.Desk.tx g.D.Desk.rx event c.args.handles.now.entries c.args.topic.0 (sym c.in_default.ensures.value))
-        refl,
+        (receiver-out g.D.Desk.tx g.D.Desk.rx event c.args.handles.now.entries c.args.topic.0 (sym c.in_default.ensures.value)) refl,
     refl,
   ),
 )
@@ -71,8 +69,7 @@ returns g c =
       (
         plays-resubscribe g.D.Desk.tx g.D.Desk.rx g.D.Desk.says c.args.topic.0 c.args.handles.now.entries _ _ c.resubscribe-said.result _ _
             (receiver-own g.D.Desk.tx g.D.Desk.rx event c.args.handles.now.entries c.args.topic.0 _ _ at holds)
-            c.resubscribe-said.ensures.event
-            (ap (λ told. answered c.args.topic.0 (replied told)) c.keep_receiver-told.ensures.told)
+            c.resubscribe-said.ensures.event (ap (λ told. answered c.args.topic.0 (replied told)) c.keep_receiver-told.ensures.told)
             (c.keep_receiver-told.ensures.kept _ refl)
             (held-set g.D.Desk.tx g.D.Desk.rx c.args.handles.now.entries _ c.args.topic.0 c.in-Some.own.now _ at
             refl

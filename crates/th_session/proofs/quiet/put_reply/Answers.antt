@@ -18,7 +18,7 @@ returns-in-Err g c =
     let after = output g.W.Write.contents c.append-in-Err.new.writer c.append-in-Err.new.self in
     let result = c.append-in-Err.result in
     let P : Result (Receipt g.row.K-Call.Denot g.row.R.Denot) NoEvent → Type 0 = λ came.
-    AddsOrFails (spell (reply_or_none g.R.Told.told came)) before after result in
+    AddsOrFails (spell (reply_or_none g.R.AsReply.told came)) before after result in
     let kept = c.keep.ensures in
     let none =
     left-none (λ (r : Receipt g.row.K-Call.Denot g.row.R.Denot). r.reply) kept.0 c.keep.result c.in-Err.why _ c.in-Err.is kept.2 in
@@ -31,11 +31,11 @@ returns-in-Some g c =
     let after = output g.W.Write.contents c.append.new.writer c.append.new.out in
     let result = c.append.result in
     let P : Result (Receipt g.row.K-Call.Denot g.row.R.Denot) NoEvent → Type 0 = λ came.
-    AddsOrFails (spell (reply_or_none g.R.Told.told came)) before after result in
+    AddsOrFails (spell (reply_or_none g.R.AsReply.told came)) before after result in
     let kept = c.keep.ensures in
     let one = left-one (λ (r : Receipt g.row.K-Call.Denot g.row.R.Denot). r.reply) kept.0 c.keep.result _ c.in-Ok.is kept.2 in
     let same = same_Some c.in-Some.reply.now one.0.reply (c.in-Some.ensures ∙ one.2) in
-    let put = subst (λ (reply : g.row.R.Denot). AddsOrFails (spell (g.R.Told.told reply)) before after result) same c.append.ensures in
+    let put = subst (λ (reply : g.row.R.Denot). AddsOrFails (spell (g.R.AsReply.told reply)) before after result) same c.append.ensures in
     (kept.0, kept.1, subst P (sym one.1) put)
 
 pub returns-in-None : goal.returns-in-None

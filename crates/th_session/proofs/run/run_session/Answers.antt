@@ -3,7 +3,7 @@ use Rattle.th_lines.specs.Output.{output}
 use Rattle.th_lines.specs.declared.reply.Reply.TheVariants.{Bye}
 use Rattle.th_session.specs.declared.keeping.Keeping.{Keeping}
 use Rattle.th_session.specs.Kept.{Kept}
-use Rattle.th_session.specs.Run.{Course, Ran}
+use Rattle.th_session.specs.Run.{Progress, Ran}
 use Rattle.th_session.specs.Script.{Plays, Replied, spend_all}
 use Rattle.th_session.proofs.Running.{served_short}
 use Rattle.th_session.proofs.run.run_session.Goals as goal
@@ -18,7 +18,7 @@ pub returns : goal.returns
 returns g c =
     let kept = c.into_session-session.ensures in
     let end = c.spend_all.ensures in
-    let same : c.in-Ok-new.run'.keeping ≡ c.args.keeping = ap (λ (k : Course). k.keeping) c.in-Ok-new.ensures in
+    let same : c.in-Ok-new.run'.keeping ≡ c.args.keeping = ap (λ (k : Progress). k.keeping) c.in-Ok-new.ensures in
     rw c.wake.ensures (record {
       last = (c.go-fault.new.self.kept, c.go-fault.new.desk);
       ran = subst (λ (k : Keeping). Ran k g.D.Desk.says (g.R.Read.remaining c.args.reader.now.device)

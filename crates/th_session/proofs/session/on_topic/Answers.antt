@@ -6,8 +6,7 @@ use Rattle.th_session.specs.Script.{Plays, Replied, Say, acting}
 use Rattle.th_session.proofs.session.on_topic.Goals as goal
 
 pub returns-in_default : goal.returns-in_default
-returns-in_default g c =
-    (Replied (Refused Codes.NoTopic), refl, ((None, c.args.desk.now, c.in_default.ensures, (refl, refl, refl)), refl))
+returns-in_default g c = (Replied (Refused Codes.NoTopic), refl, ((None, c.args.desk.now, c.in_default.ensures, (refl, refl, refl)), refl))
 
 pub returns-then-not-is_for : goal.returns-then-not-is_for
 returns-then-not-is_for g c =

@@ -7,8 +7,7 @@ use Rattle.th_lines.proofs.OutputLemmas.{adds_others, front_as, front_more}
 use Rattle.th_session.proofs.trace.append_counted.Goals as goal
 
 pub returns-in-Ok : goal.returns-in-Ok
-returns-in-Ok g c =
-    adds_others (output g.W.Write.contents c.args.writer.now c.args.out.now)
+returns-in-Ok g c = adds_others (output g.W.Write.contents c.args.writer.now c.args.out.now)
     (output g.W.Write.contents c.append.new.writer c.append.new.self)
     (output g.W.Write.contents c.append_lines.new.writer c.append_lines.new.self)
     (spell (Count c.args.count)) (concat (g.L.Lines.to_come c.args.lines.now)) c.append_lines.result c.in-Ok.ensures c.append_lines.ensures

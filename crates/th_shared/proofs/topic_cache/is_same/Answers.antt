@@ -4,6 +4,5 @@ use Rattle.th_shared.proofs.Named.{same_front}
 use Rattle.th_shared.proofs.topic_cache.is_same.Goals as goal
 
 pub returns : goal.returns
-returns c =
-    sym ((bytes_eq-Decides c.args.one.now c.args.other.now).1 (same_front c.loop-at.at c.args.one.now c.args.other.now
+returns c = sym ((bytes_eq-Decides c.args.one.now c.args.other.now).1 (same_front c.loop-at.at c.args.one.now c.args.other.now
     c.loop-at.invariant (omega (arith, c.loop-at-test.false)) (omega (arith, c.loop-at-test.false, c.if-one-other.false))))

@@ -12,8 +12,7 @@ loop-preserved g c =
     let next : slice_get places k ≡ Some (rx, c.in-Some.place) =
     sym (c.in-Some.ensures ∙ (ap (λ (ps : Places). slice_get ps 0) c.loop.invariant.rest ∙ first-of-drop places k)) in
     record {
-      front =
-          c.in_ok-insert.ensures.entries
+      front = c.in_ok-insert.ensures.entries
           ∙ (ap (λ (ps : Places). with_place ps rx c.in-Some.place) c.loop.invariant.front
           ∙ next-placed places k (rx, c.in-Some.place) c.requires next);
       rest = above-next places k (rx, c.in-Some.place) c.requires next;

@@ -10,4 +10,5 @@ returns-clause-row g c =
     let seen = c.see_all.ensures in
     subst (λ (old : Holder). CallsInRow old
     (holder i.number c.see_all.new.account) c.args.call.now c.all_ready-total.new.receipts.items) c.self.view_is
-    (called i.number i.account c.all_ready-total.new.account c.see_all.new.account _ _ _ _ _ c.all_ready-total.ensures.row c.all_ready-total.ensures.total seen.share seen.eye seen.seen)
+    (called i.number i.account c.all_ready-total.new.account c.see_all.new.account _ _ _ _ _ c.all_ready-total.ensures.row
+    c.all_ready-total.ensures.total seen.share seen.eye seen.seen)

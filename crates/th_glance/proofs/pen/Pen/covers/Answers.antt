@@ -10,8 +10,7 @@ pub split_seat-note-requires : goal.split_seat-note-requires
 split_seat-note-requires c = (search rules, search rules, splits _ _)
 
 pub join_seat-requires : goal.join_seat-requires
-join_seat-requires c =
-    (search rules, search rules, search rules, search rules, joins _ _ _ _ (search rules))
+join_seat-requires c = (search rules, search rules, search rules, search rules, joins _ _ _ _ (search rules))
 
 pub load-requires : goal.load-requires
 load-requires c = (search rules, search rules, covers _ _ _ (search rules))

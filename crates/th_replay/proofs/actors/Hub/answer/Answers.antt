@@ -46,8 +46,7 @@ returns-in_default-rest g c =
     (spell (Refused Codes.BadLine), turned, c.append-in_default-rest.ensures)
 
 pub carry_out_first-requires : goal.carry_out_first-requires
-carry_out_first-requires g c =
-    sym (ap (λ (hub : Hub SeenTopics). place_of hub.actors c.in-Some-name_and_rest.name) c.self.view_is)
+carry_out_first-requires g c = sym (ap (λ (hub : Hub SeenTopics). place_of hub.actors c.in-Some-name_and_rest.name) c.self.view_is)
     ∙ ap (λ (names : List (List ℕ)). position (pointwise nat_eq c.in-Some-name_and_rest.name) names)
     (keys-held c.self.inside.actors.entries)
     ∙ (sym c.get_index_of-place.ensures.index ∙ c.in-None.is)

@@ -9,7 +9,7 @@ use Rattle.th_registry.specs.Pictures.{Desk, SeenTopics}
 use Rattle.th_session.specs.Kept.{having}
 use Rattle.th_session.specs.Quiet.{PutsQuietly, action_of}
 use Rattle.th_session.specs.Script.{Replied}
-use Rattle.th_replay.specs.Schedule.{Actors, Hub, PutsAnswer, asks_by_holding, by_holding, holdings, picture_asks, picture_step}
+use Rattle.th_replay.specs.Schedule.{Actors, Hub, PutsAt, holdings}
 use Rattle.th_replay.proofs.Holdings.{held-at, set-same}
 use Rattle.th_replay.proofs.Orders.{goes_on, lacks, stays}
 use Rattle.th_replay.proofs.Steps.{ends_so, no_quit}
@@ -34,10 +34,8 @@ returns g c =
     let after : Output = output g.W.Write.contents c.carry_out.new.writer c.carry_out.new.out in
     let Q : SeenTopics → Type 0 = λ old. PutsQuietly i.desk.limit had old command topics before after c.carry_out.result in
     let a = subst Q (ap (λ (desk : Desk). desk.topics) c.desk.view_is) (c.carry_out.ensures i.desk.limit) in
-    let P : Hub SeenTopics → Type 0 = λ hub. PutsAnswer (by_holding picture_step hub c.args.place command
-    (slice_get (values_of hub.actors) c.args.place)) (asks_by_holding picture_asks hub command
-    (slice_get (values_of hub.actors) c.args.place)) hub (record { topics = topics; actors = all })
-    before after c.carry_out.result in
+    let P : Hub SeenTopics → Type 0 = λ hub. PutsAt c.args.place command hub (record { topics = topics; actors = all }) before after
+    c.carry_out.result in
     let there = held-at i.actors.entries c.args.place _ c.in-Some.ensures.entry in
     let rest = sym (set-same all c.args.place had.handles there) ∙ stays a.0 c.args.place had.handles all (no_quit a.0 a.2) in
     let end = ends_so had i.desk.topics command a.0 (having had a.0 had.handles) topics i.desk.limit c.self.invariant a.1 in

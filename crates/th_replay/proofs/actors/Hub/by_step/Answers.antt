@@ -10,7 +10,7 @@ use Rattle.th_registry.specs.Pictures.{SeenTopics}
 use Rattle.th_session.specs.Kept.{told}
 use Rattle.th_session.specs.Script.{Replied}
 use Rattle.th_session.specs.declared.session.Answer.TheVariants as answers
-use Rattle.th_replay.specs.Schedule.{Actors, Hub, PutsAnswer, asks_by_holding, by_holding, has_quit, holdings, picture_asks, picture_step}
+use Rattle.th_replay.specs.Schedule.{Actors, Hub, PutsAt, has_quit, holdings}
 use Rattle.th_replay.proofs.Holdings.{at-held, handles, set-held}
 use Rattle.th_replay.proofs.Orders.{goes_on, gone, lacks, stays}
 use Rattle.th_replay.proofs.Steps.{ends_so, keeps, only_replies_quit, told_reply}
@@ -21,9 +21,8 @@ returns-in_default g c =
     let i = c.self.inside in
     let after : Output = output g.W.Write.contents c.append.new.writer c.append.new.self in
     let inside : Hub SeenTopics = record { topics = i.desk.topics; actors = holdings i.actors.entries } in
-    let P : Hub SeenTopics → Type 0 = λ hub. PutsAnswer (by_holding picture_step hub c.args.place c.args.command
-    (slice_get (values_of hub.actors) c.args.place)) (asks_by_holding picture_asks hub c.args.command
-    (slice_get (values_of hub.actors) c.args.place)) hub inside (output g.W.Write.contents c.args.writer.now c.args.out.now) after
+    let P : Hub SeenTopics → Type 0 = λ hub. PutsAt c.args.place c.args.command hub inside
+    (output g.W.Write.contents c.args.writer.now c.args.out.now) after
     c.append.result in
     let none = at-held i.actors.entries c.args.place ∙ ap (option_map handles)
     (sym c.get_index_mut.ensures.value ∙ ap option_copied_mut c.in_default.is) in
@@ -43,9 +42,8 @@ returns-then-is_gone g c =
     let after : Output = output g.W.Write.contents c.put_answer-put.new.writer c.put_answer-put.new.out in
     let left : Actors = c.take_out.new.self.actors in
     let P : Hub SeenTopics → SeenTopics → Type 0 = λ hub topics.
-    PutsAnswer (by_holding picture_step hub c.args.place c.args.command (slice_get (values_of hub.actors) c.args.place))
-    (asks_by_holding picture_asks hub c.args.command (slice_get (values_of hub.actors) c.args.place)) hub
-    (record { topics = topics; actors = left }) (output g.W.Write.contents c.args.writer.now c.args.out.now) after
+    PutsAt c.args.place c.args.command hub (record { topics = topics; actors = left })
+    (output g.W.Write.contents c.args.writer.now c.args.out.now) after
     c.put_answer-put.result in
     let said : answers.Reply c.in-Reply.reply ≡ told a.0 = sym c.in-Reply.is ∙ a.1 in
     let quit : has_quit a.0 ≡ true = ap has_quit (told_reply a.0 c.in-Reply.reply said) ∙ sym c.has_quit-is_gone.ensures
@@ -73,9 +71,8 @@ returns-else-is_gone g c =
     let has = c.step.new.session in
     let after : Output = output g.W.Write.contents c.put_answer-put.new.writer c.put_answer-put.new.out in
     let left : Actors = holdings (set_value_at i.actors.entries c.args.place has) in
-    let P : Hub SeenTopics → Type 0 = λ hub. PutsAnswer (by_holding picture_step hub c.args.place c.args.command
-    (slice_get (values_of hub.actors) c.args.place)) (asks_by_holding picture_asks hub c.args.command
-    (slice_get (values_of hub.actors) c.args.place)) hub (record { topics = c.step.new.desk.topics; actors = left })
+    let P : Hub SeenTopics → Type 0 = λ hub. PutsAt c.args.place c.args.command hub
+    (record { topics = c.step.new.desk.topics; actors = left })
     (output g.W.Write.contents c.args.writer.now c.args.out.now) after c.put_answer-put.result in
     let said : answers.Reply c.in-Reply.reply ≡ told a.0 = sym c.in-Reply.is ∙ a.1 in
     let not_quit : has_quit a.0 ≡ false = ap has_quit (told_reply a.0 c.in-Reply.reply said) ∙ sym c.has_quit-is_gone.ensures
@@ -101,9 +98,8 @@ returns-in_default-step g c =
     let has = c.step.new.session in
     let after : Output = output g.W.Write.contents c.put_answer-put-in_default-step.new.writer c.put_answer-put-in_default-step.new.out in
     let left : Actors = holdings (set_value_at i.actors.entries c.args.place c.let_go.new.self) in
-    let P : Hub SeenTopics → Type 0 = λ hub. PutsAnswer (by_holding picture_step hub c.args.place c.args.command
-    (slice_get (values_of hub.actors) c.args.place)) (asks_by_holding picture_asks hub c.args.command
-    (slice_get (values_of hub.actors) c.args.place)) hub (record { topics = c.step.new.desk.topics; actors = left })
+    let P : Hub SeenTopics → Type 0 = λ hub. PutsAt c.args.place c.args.command hub
+    (record { topics = c.step.new.desk.topics; actors = left })
     (output g.W.Write.contents c.args.writer.now c.args.out.now) after c.put_answer-put-in_default-step.result in
     let not_quit : has_quit a.0 ≡ false = only_replies_quit a.0 (λ reply t. c.in_default-step.not-Reply reply (a.1 ∙ t)) in
     let kept = ap handles c.let_go.ensures in

@@ -1,4 +1,4 @@
-use Rattle.std.proofs.Common.{◌≡◌, ◌∙◌, ◌+◌, [], List, Err, ap, false, refl, subst, sym, true, ℕ}
+use Rattle.std.proofs.Common.{◌≡◌, ◌∙◌, ◌+◌, [], List, ap, false, refl, subst, sym, true, ℕ}
 use Rattle.std.specs.Prelude.{Option, Result}
 use Rattle.th_lines.specs.Device.{kept_count}
 use Rattle.th_lines.specs.Feeding.{Stands}
@@ -6,7 +6,7 @@ use Rattle.th_lines.specs.Output.{Output, output}
 use Rattle.th_lines.specs.Tally.{Tally}
 use Rattle.th_lines.proofs.AnsweringLemmas.{answers_none}
 use Rattle.th_replay.specs.Outcome.{Comes, Devices, devices}
-use Rattle.th_replay.specs.Progress.{Course, IsBroken, Took, beginning, end_by, may_wait}
+use Rattle.th_replay.specs.Progress.{Progress, IsBroken, Took, beginning, end_by, may_wait}
 use Rattle.th_replay.specs.Schedule.{answers, seen_start}
 use Rattle.th_replay.specs.declared.fault.ReplayFault.{ReplayFault}
 use Rattle.th_replay.specs.declared.fault.ReplayFault.TheVariants.{Write}
@@ -23,8 +23,8 @@ returns-then-not-may_wait-clause-comes g c =
     let new : Devices = devices g.R.Read.remaining c.feed-fed.new.reader contents c.feed-fed.new.writer in
     let f = c.feed-fed.new.self in
     let unit : Unit {0} = tt in
-    let now : Course × Unit {0} × Tally g.row.W.Denot = (c.feed-fed.new.taker, unit, c.feed-fed.new.writer) in
-    let s = subst (λ (k : Course). Took contents (k, unit, c.args.writer.now) [] (k, unit, c.args.writer.now)
+    let now : Progress × Unit {0} × Tally g.row.W.Denot = (c.feed-fed.new.taker, unit, c.feed-fed.new.writer) in
+    let s = subst (λ (k : Progress). Took contents (k, unit, c.args.writer.now) [] (k, unit, c.args.writer.now)
     → Stands (Took contents) (IsBroken contents) r r' (k, unit, c.args.writer.now) (λ p. p.0.waiting ≡ [])
     (kept_count c.feed-fed.new.reader.calls ≡ kept_count (c.args.reader.now.calls + c.args.reads))
     c.args.reads c.feed-fed.result f now) c.requires.run c.feed-fed.ensures.fed (answers_none _) in
@@ -44,14 +44,14 @@ returns-clause-comes g c =
     let new : Devices = devices g.R.Read.remaining c.feed-fed.new.reader contents c.flush.new.writer in
     let f = c.feed-fed.new.self in
     let unit : Unit {0} = tt in
-    let at : Course = record { hub = c.self.inside.hub; waiting = c.self.inside.out } in
-    let now : Course × Unit {0} × Tally g.row.W.Denot = (at, unit, c.feed-fed.new.writer) in
+    let at : Progress = record { hub = c.self.inside.hub; waiting = c.self.inside.out } in
+    let now : Progress × Unit {0} × Tally g.row.W.Denot = (at, unit, c.feed-fed.new.writer) in
     let spent = kept_count c.feed-fed.new.reader.calls ≡ kept_count (c.args.reader.now.calls + c.args.reads) in
-    let fed = subst (λ (k : Course). Took contents (k, unit, c.args.writer.now) [] (k, unit, c.args.writer.now)
+    let fed = subst (λ (k : Progress). Took contents (k, unit, c.args.writer.now) [] (k, unit, c.args.writer.now)
     → Stands (Took contents) (IsBroken contents) r r' (k, unit, c.args.writer.now) (λ p. p.0.waiting ≡ []) spent
     c.args.reads c.feed-fed.result f (c.feed-fed.new.taker, unit, c.feed-fed.new.writer)) c.requires.run c.feed-fed.ensures.fed
     (answers_none _) in
-    let s = subst (λ (k : Course). Stands (Took contents) (IsBroken contents) r r' (beginning, unit, c.args.writer.now)
+    let s = subst (λ (k : Progress). Stands (Took contents) (IsBroken contents) r r' (beginning, unit, c.args.writer.now)
     (λ p. p.0.waiting ≡ []) spent
     c.args.reads c.feed-fed.result f (k, unit, c.feed-fed.new.writer)) (sym c.self.view_is) fed in
     let e : end_by c.feed-fed.result f.taken ≡ c.end_by-end.result =

@@ -26,7 +26,8 @@ invariant_of-result g c =
     let same : c.into_parts-kept.result.1.entries ≡ c.in-Ok-copied_from.own.entries =
     c.into_parts-kept.ensures.places ∙ sym (c.in-Ok-copied_from.ensures ∙ c.places.ensures) in
     rw (← same)
-    (ring_of_parts c.args.parts w _ _ _ _ _ c.capacity-capacity.ensures c.tail-tail.ensures.tail low kept c.into_parts-kept.ensures.places c.in-Ok.slots.items c.fill.new.slots.items c.in-Ok.ensures c.fill.ensures.size c.fill.ensures.filled c.fill.ensures.others)
+    (ring_of_parts c.args.parts w _ _ _ _ _ c.capacity-capacity.ensures c.tail-tail.ensures.tail low kept c.into_parts-kept.ensures.places
+    c.in-Ok.slots.items c.fill.new.slots.items c.in-Ok.ensures c.fill.ensures.size c.fill.ensures.filled c.fill.ensures.others)
 
 pub returns-clause-ok : goal.returns-clause-ok
 returns-clause-ok g c =
@@ -37,4 +38,6 @@ returns-clause-ok g c =
     let same : c.into_parts-kept.result.1.entries ≡ c.in-Ok-copied_from.own.entries =
     c.into_parts-kept.ensures.places ∙ sym (c.in-Ok-copied_from.ensures ∙ c.places.ensures) in
     rw (← same)
-    (window_of_parts c.args.parts w _ _ _ _ _ c.capacity-capacity.ensures c.tail-tail.ensures.tail low kept c.into_parts-kept.ensures.places c.in-Ok.slots.items c.fill.new.slots.items c.in-Ok.ensures c.fill.ensures.size c.fill.ensures.filled c.fill.ensures.others)
+    (window_of_parts c.args.parts w _ _ _ _ _ c.capacity-capacity.ensures c.tail-tail.ensures.tail low kept
+    c.into_parts-kept.ensures.places c.in-Ok.slots.items c.fill.new.slots.items c.in-Ok.ensures c.fill.ensures.size c.fill.ensures.filled
+    c.fill.ensures.others)

@@ -32,14 +32,20 @@ invariant_of-self-2 g c =
     let absent = rw (← c.self.view_is) at c.requires in
     let low = c.least_awaited-low.ensures in
     rw c.in-Ok.ensures.entries
-    (ring_joined c.self.inside.capacity c.self.inside.tail c.self.inside.slots.items c.self.inside.places.entries c.self.invariant c.args.rx.0 c.least_awaited-low.result absent (omega (arith, low)) (omega (arith, low, low_of-le c.self.inside.tail c.self.inside.capacity c.self.inside.places.entries)) c.wait_from.new.slots.items c.wait_from.ensures.size c.wait_from.ensures.waited c.wait_from.ensures.others)
+    (ring_joined c.self.inside.capacity c.self.inside.tail c.self.inside.slots.items c.self.inside.places.entries c.self.invariant
+    c.args.rx.0 c.least_awaited-low.result absent (omega (arith, low))
+    (omega (arith, low, low_of-le c.self.inside.tail c.self.inside.capacity c.self.inside.places.entries)) c.wait_from.new.slots.items
+    c.wait_from.ensures.size c.wait_from.ensures.waited c.wait_from.ensures.others)
 
 pub returns-clause-ok : goal.returns-clause-ok
 returns-clause-ok g c =
     let absent = rw (← c.self.view_is) at c.requires in
     let low = c.least_awaited-low.ensures in
     let w =
-    window_joined c.self.inside.capacity c.self.inside.tail c.self.inside.slots.items c.self.inside.places.entries c.self.invariant c.args.rx.0 c.least_awaited-low.result absent (omega (arith, low)) (omega (arith, low, low_of-le c.self.inside.tail c.self.inside.capacity c.self.inside.places.entries)) c.wait_from.new.slots.items c.wait_from.ensures.size c.wait_from.ensures.waited c.wait_from.ensures.others in
+    window_joined c.self.inside.capacity c.self.inside.tail c.self.inside.slots.items c.self.inside.places.entries c.self.invariant
+    c.args.rx.0 c.least_awaited-low.result absent (omega (arith, low))
+    (omega (arith, low, low_of-le c.self.inside.tail c.self.inside.capacity c.self.inside.places.entries)) c.wait_from.new.slots.items
+    c.wait_from.ensures.size c.wait_from.ensures.waited c.wait_from.ensures.others in
     rw (← c.self.view_is, c.in-Ok.ensures.entries)
     (w ∙ ap
     (placed

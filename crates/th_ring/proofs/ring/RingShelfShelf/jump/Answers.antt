@@ -13,7 +13,8 @@ invariant_of-self g c =
     let rising = rising_from_sorted _ c.get_mut.ensures.ordered in
     let moved = set_value-with ps c.args.rx.0 _ c.skip_to.new.place rising here in
     rw (moved, c.skip_to.ensures.moved)
-    (ring_jumped c.self.inside.capacity c.self.inside.tail c.self.inside.slots.items c.self.inside.places.entries c.self.invariant c.args.rx.0 _ rising here (omega (arith, at, behind)))
+    (ring_jumped c.self.inside.capacity c.self.inside.tail c.self.inside.slots.items c.self.inside.places.entries c.self.invariant
+    c.args.rx.0 _ rising here (omega (arith, at, behind)))
 
 pub returns-clause-moved : goal.returns-clause-moved
 returns-clause-moved g c =
@@ -24,4 +25,5 @@ returns-clause-moved g c =
     let rising = rising_from_sorted _ c.get_mut.ensures.ordered in
     let moved = set_value-with ps c.args.rx.0 _ c.skip_to.new.place rising here in
     rw (← c.self.view_is, moved, c.skip_to.ensures.moved)
-    (window_jumped c.self.inside.capacity c.self.inside.tail c.self.inside.slots.items c.self.inside.places.entries c.self.invariant c.args.rx.0 _ rising here (omega (arith, at, behind)))
+    (window_jumped c.self.inside.capacity c.self.inside.tail c.self.inside.slots.items c.self.inside.places.entries c.self.invariant
+    c.args.rx.0 _ rising here (omega (arith, at, behind)))

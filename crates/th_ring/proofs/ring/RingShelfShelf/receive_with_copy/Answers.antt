@@ -33,7 +33,8 @@ invariant_of-self-then-at-first g c =
     let behind : c.in-Some.place.now < c.self.inside.tail - c.self.inside.capacity =
     omega (arith, c.if-at-first.true, c.saturating_sub-first.ensures) in
     rw (moved, first)
-    (ring_jumped c.self.inside.capacity c.self.inside.tail c.self.inside.slots.items c.self.inside.places.entries c.self.invariant c.args.rx.0 _ rising here behind)
+    (ring_jumped c.self.inside.capacity c.self.inside.tail c.self.inside.slots.items c.self.inside.places.entries c.self.invariant
+    c.args.rx.0 _ rising here behind)
 
 pub returns-then-at-first-clause-ok : goal.returns-then-at-first-clause-ok
 returns-then-at-first-clause-ok g c =
@@ -50,7 +51,8 @@ returns-then-at-first-clause-ok g c =
       behind = behind;
       count = omega (arith, c.skip_to.ensures.missed, c.saturating_sub-first.ensures);
       moved =
-          window_jumped c.self.inside.capacity c.self.inside.tail c.self.inside.slots.items c.self.inside.places.entries c.self.invariant c.args.rx.0 _ rising here behind;
+          window_jumped c.self.inside.capacity c.self.inside.tail c.self.inside.slots.items c.self.inside.places.entries c.self.invariant
+          c.args.rx.0 _ rising here behind;
     })
 
 pub read-requires-clause-waits : goal.read-requires-clause-waits
@@ -63,9 +65,11 @@ read-requires-clause-waits g c =
     let inside : c.self.inside.tail - c.self.inside.capacity ≤ c.in-Some.place.now =
     omega (arith, c.if-at-first.false, c.saturating_sub-first.ensures) in
     let item =
-    slot_is c.self.inside.capacity c.self.inside.slots.items c.self.invariant.size c.self.invariant.is_capacity.1 c.in-Some.place.now c.low_bits-index.result c.low_bits-index.ensures c.index_mut.result.now c.index_mut.ensures.value in
+    slot_is c.self.inside.capacity c.self.inside.slots.items c.self.invariant.size c.self.invariant.is_capacity.1 c.in-Some.place.now
+    c.low_bits-index.result c.low_bits-index.ensures c.index_mut.result.now c.index_mut.ensures.value in
     rw item
-    (waited c.self.inside.capacity c.self.inside.tail c.self.inside.slots.items c.self.inside.places.entries c.self.invariant c.args.rx.0 c.in-Some.place.now c.in-Some.place.now here (omega arith) before)
+    (waited c.self.inside.capacity c.self.inside.tail c.self.inside.slots.items c.self.inside.places.entries c.self.invariant c.args.rx.0
+    c.in-Some.place.now c.in-Some.place.now here (omega arith) before)
 
 pub read-requires-clause-there : goal.read-requires-clause-there
 read-requires-clause-there g c =
@@ -77,9 +81,11 @@ read-requires-clause-there g c =
     let inside : c.self.inside.tail - c.self.inside.capacity ≤ c.in-Some.place.now =
     omega (arith, c.if-at-first.false, c.saturating_sub-first.ensures) in
     let item =
-    slot_is c.self.inside.capacity c.self.inside.slots.items c.self.invariant.size c.self.invariant.is_capacity.1 c.in-Some.place.now c.low_bits-index.result c.low_bits-index.ensures c.index_mut.result.now c.index_mut.ensures.value in
+    slot_is c.self.inside.capacity c.self.inside.slots.items c.self.invariant.size c.self.invariant.is_capacity.1 c.in-Some.place.now
+    c.low_bits-index.result c.low_bits-index.ensures c.index_mut.result.now c.index_mut.ensures.value in
     rw item
-    (value_there c.self.inside.capacity c.self.inside.tail c.self.inside.slots.items c.self.inside.places.entries c.self.invariant c.args.rx.0 c.in-Some.place.now here inside before)
+    (value_there c.self.inside.capacity c.self.inside.tail c.self.inside.slots.items c.self.inside.places.entries c.self.invariant
+    c.args.rx.0 c.in-Some.place.now here inside before)
 
 pub invariant_of-self-in_default-read : goal.invariant_of-self-in_default-read
 invariant_of-self-in_default-read g c =
@@ -124,9 +130,11 @@ invariant_of-self-2 g c =
     let rising = rising_from_sorted _ c.get_mut.ensures.ordered in
     let moved = set_value-with ps c.args.rx.0 _ (c.in-Some.place.now + 1) rising here in
     let slots =
-    slots_are c.self.inside.capacity c.self.inside.slots.items c.self.invariant.size c.self.invariant.is_capacity.1 c.in-Some.place.now c.low_bits-index.result c.low_bits-index.ensures c.index_mut.result.now c.read.new.slot c.index_mut.ensures.value c.in-Ok.ensures.ok in
+    slots_are c.self.inside.capacity c.self.inside.slots.items c.self.invariant.size c.self.invariant.is_capacity.1 c.in-Some.place.now
+    c.low_bits-index.result c.low_bits-index.ensures c.index_mut.result.now c.read.new.slot c.index_mut.ensures.value c.in-Ok.ensures.ok in
     rw moved
-    (ring_taken c.self.inside.capacity c.self.inside.tail c.self.inside.slots.items c.self.inside.places.entries c.self.invariant c.args.rx.0 c.in-Some.place.now rising here inside before _ slots)
+    (ring_taken c.self.inside.capacity c.self.inside.tail c.self.inside.slots.items c.self.inside.places.entries c.self.invariant
+    c.args.rx.0 c.in-Some.place.now rising here inside before _ slots)
 
 pub returns-clause-ok : goal.returns-clause-ok
 returns-clause-ok g c =
@@ -138,18 +146,22 @@ returns-clause-ok g c =
     let inside : c.self.inside.tail - c.self.inside.capacity ≤ c.in-Some.place.now =
     omega (arith, c.if-at-first.false, c.saturating_sub-first.ensures) in
     let item =
-    slot_is c.self.inside.capacity c.self.inside.slots.items c.self.invariant.size c.self.invariant.is_capacity.1 c.in-Some.place.now c.low_bits-index.result c.low_bits-index.ensures c.index_mut.result.now c.index_mut.ensures.value in
+    slot_is c.self.inside.capacity c.self.inside.slots.items c.self.invariant.size c.self.invariant.is_capacity.1 c.in-Some.place.now
+    c.low_bits-index.result c.low_bits-index.ensures c.index_mut.result.now c.index_mut.ensures.value in
     let rising = rising_from_sorted _ c.get_mut.ensures.ordered in
     let moved = set_value-with ps c.args.rx.0 _ (c.in-Some.place.now + 1) rising here in
     let slots =
-    slots_are c.self.inside.capacity c.self.inside.slots.items c.self.invariant.size c.self.invariant.is_capacity.1 c.in-Some.place.now c.low_bits-index.result c.low_bits-index.ensures c.index_mut.result.now c.read.new.slot c.index_mut.ensures.value c.in-Ok.ensures.ok in
+    slots_are c.self.inside.capacity c.self.inside.slots.items c.self.invariant.size c.self.invariant.is_capacity.1 c.in-Some.place.now
+    c.low_bits-index.result c.low_bits-index.ensures c.index_mut.result.now c.read.new.slot c.index_mut.ensures.value c.in-Ok.ensures.ok in
     rw (← c.self.view_is, moved) (record {
       at = c.in-Some.place.now;
       stands = record { place = here; in_window = inside; sent = before };
       here =
-          value_taken c.self.inside.capacity c.self.inside.tail c.self.inside.slots.items c.self.inside.places.entries c.self.invariant c.args.rx.0 c.in-Some.place.now here inside before ∙ ap (λ (s : _). s.value) (sym item) ∙ c.in-Ok.ensures.value;
+          value_taken c.self.inside.capacity c.self.inside.tail c.self.inside.slots.items c.self.inside.places.entries c.self.invariant
+          c.args.rx.0 c.in-Some.place.now here inside before ∙ ap (λ (s : _). s.value) (sym item) ∙ c.in-Ok.ensures.value;
       moved =
-          window_taken c.self.inside.capacity c.self.inside.tail c.self.inside.slots.items c.self.inside.places.entries c.self.invariant c.args.rx.0 c.in-Some.place.now rising here inside before _ slots;
+          window_taken c.self.inside.capacity c.self.inside.tail c.self.inside.slots.items c.self.inside.places.entries c.self.invariant
+          c.args.rx.0 c.in-Some.place.now rising here inside before _ slots;
     })
 
 pub overflow_add-place : goal.overflow_add-place
@@ -173,6 +185,8 @@ returns-in_default-read-clause-last g c = λ alone sure last.
     let only = rw (← c.self.view_is) at last in
     let one = only c.in-Some.place.now (record { place = here; in_window = inside; sent = before }) in
     let count =
-    count_at c.self.inside.capacity c.self.inside.tail c.self.inside.slots.items c.self.inside.places.entries c.self.invariant c.in-Some.place.now c.low_bits-index.result c.index_mut.result.now c.low_bits-index.ensures c.index_mut.ensures.value (omega arith) before in
+    count_at c.self.inside.capacity c.self.inside.tail c.self.inside.slots.items c.self.inside.places.entries c.self.invariant
+    c.in-Some.place.now c.low_bits-index.result c.index_mut.result.now c.low_bits-index.ensures c.index_mut.ensures.value
+    (omega arith) before in
     let ok = c.read.ensures.last alone (count ∙ one) in
     rw c.in_default-read.is at ok

@@ -13,7 +13,8 @@ returns-then-position-self g c =
 pub returns : goal.returns
 returns g c =
     let item =
-    slot_is c.self.inside.capacity c.self.inside.slots.items c.self.invariant.size c.self.invariant.is_capacity.1 c.args.position c.low_bits.result c.low_bits.ensures c.index.result.now c.index.ensures in
+    slot_is c.self.inside.capacity c.self.inside.slots.items c.self.invariant.size c.self.invariant.is_capacity.1 c.args.position
+    c.low_bits.result c.low_bits.ensures c.index.result.now c.index.ensures in
     rw (← c.self.view_is)
     (c.as_ref.ensures.value ∙ ap (λ (s : _). s.value) item
     ∙ sym (value_in _ _ _ _ c.self.invariant c.args.position (omega (arith, c.saturating_sub.ensures)) (omega arith)))

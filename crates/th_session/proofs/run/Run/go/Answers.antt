@@ -7,7 +7,7 @@ use Rattle.th_lines.specs.Tally.{Tally}
 use Rattle.th_lines.proofs.AnsweringLemmas.{answers_none}
 use Rattle.th_session.specs.declared.fault.SessionFault.{SessionFault}
 use Rattle.th_session.specs.declared.fault.SessionFault.TheVariants.{Write}
-use Rattle.th_session.specs.Run.{Course, IsOver, Ran, Took, beginning, fault_by, is_whole, stands}
+use Rattle.th_session.specs.Run.{Progress, IsOver, Ran, Took, beginning, fault_by, is_whole, stands}
 use Rattle.th_session.proofs.Running.{ends_by, ran_broken, ran_failed, ran_whole}
 use Rattle.th_session.proofs.run.Run.go.Goals.{in-Ok, in-Err}
 use Rattle.th_session.proofs.run.Run.go.Goals as goal
@@ -19,9 +19,9 @@ returns-then-not-is_whole g c =
     let r : Option (List ℕ) = g.R.Read.remaining c.args.reader.now.device in
     let r' : Option (List ℕ) = g.R.Read.remaining c.feed.new.reader.device in
     let keeping = c.args.self.now.keeping in
-    let now : Course × g.row.D.Denot × Tally g.row.W.Denot = (c.feed.new.taker, c.feed.new.desk, c.feed.new.writer) in
+    let now : Progress × g.row.D.Denot × Tally g.row.W.Denot = (c.feed.new.taker, c.feed.new.desk, c.feed.new.writer) in
     let spent = kept_count c.feed.new.reader.calls ≡ kept_count (c.args.reader.now.calls + c.args.reads) in
-    let fed = subst (λ (k : Course). Took says contents (k, c.args.desk.now, c.args.writer.now) [] (k, c.args.desk.now, c.args.writer.now)
+    let fed = subst (λ (k : Progress). Took says contents (k, c.args.desk.now, c.args.writer.now) [] (k, c.args.desk.now, c.args.writer.now)
     → Stands (Took says contents) (IsOver says contents) r r' (k, c.args.desk.now, c.args.writer.now) (λ p. Unit {0}) spent c.args.reads
     c.feed.result c.feed.new.self now) c.requires.run c.feed.ensures.fed in
     let q = ends_by keeping says contents r r' c.args.desk.now c.args.writer.now spent c.args.reads c.feed.result c.feed.new.self now
@@ -41,15 +41,16 @@ returns g c =
     let r' : Option (List ℕ) = g.R.Read.remaining c.feed.new.reader.device in
     let keeping = c.args.self.now.keeping in
     let i = c.self.inside in
-    let at : Course = record { kept = i.session; waiting = i.replies; keeping = i.keeping } in
-    let now : Course × g.row.D.Denot × Tally g.row.W.Denot = (at, c.feed.new.desk, c.feed.new.writer) in
+    let at : Progress = record { kept = i.session; waiting = i.replies; keeping = i.keeping } in
+    let now : Progress × g.row.D.Denot × Tally g.row.W.Denot = (at, c.feed.new.desk, c.feed.new.writer) in
     let spent = kept_count c.feed.new.reader.calls ≡ kept_count (c.args.reader.now.calls + c.args.reads) in
-    let fed = subst (λ (k : Course). Took says contents (k, c.args.desk.now, c.args.writer.now) [] (k, c.args.desk.now, c.args.writer.now)
+    let fed = subst (λ (k : Progress). Took says contents (k, c.args.desk.now, c.args.writer.now) [] (k, c.args.desk.now, c.args.writer.now)
     → Stands (Took says contents) (IsOver says contents) r r' (k, c.args.desk.now, c.args.writer.now) (λ p. Unit {0}) spent c.args.reads
     c.feed.result c.feed.new.self
     (c.feed.new.taker, c.feed.new.desk, c.feed.new.writer)) c.requires.run c.feed.ensures.fed in
     let q = ends_by keeping says contents r r' c.args.desk.now c.args.writer.now spent c.args.reads c.feed.result c.feed.new.self now
-    (subst (λ (k : Course). Stands (Took says contents) (IsOver says contents) r r' (beginning keeping, c.args.desk.now, c.args.writer.now)
+    (subst (λ (k : Progress). Stands (Took says contents) (IsOver says contents) r r'
+    (beginning keeping, c.args.desk.now, c.args.writer.now)
     (λ p. Unit {0}) spent c.args.reads
     c.feed.result c.feed.new.self (k, c.feed.new.desk, c.feed.new.writer)) (sym c.self.view_is) (fed (refl, answers_none _))) in
     let e : fault_by c.feed.result ≡ c.fault_by-fault.result = sym c.fault_by-fault.ensures in

@@ -2,7 +2,7 @@ use Rattle.std.proofs.Common.{refl, subst, sym}
 use Rattle.std.specs.Prelude.{Option, Result}
 use Rattle.th_lines.specs.Feeding as feeding
 use Rattle.th_session.specs.declared.fault.SessionFault.{SessionFault}
-use Rattle.th_session.specs.Run.{Course, IsOver, Took}
+use Rattle.th_session.specs.Run.{Progress, IsOver, Took}
 use Rattle.th_session.proofs.Running.{settles_broken, settles_on}
 use Rattle.th_session.proofs.run.RunTakesLinesCounted.settle.Goals.{in-Ok, in-Err}
 use Rattle.th_session.proofs.run.RunTakesLinesCounted.settle.Goals as goal
@@ -10,12 +10,12 @@ use Rattle.th_session.proofs.run.RunTakesLinesCounted.settle.Goals as goal
 pub returns : goal.returns
 returns g c =
     let i = c.self.inside in
-    let old : Course = record { kept = i.session; waiting = i.replies; keeping = i.keeping } in
-    let new : Course = record { kept = i.session; waiting = c.settle.new.self; keeping = i.keeping } in
-    let P : Course → Result (Unit {0}) (Option SessionFault) → Type 0 =
+    let old : Progress = record { kept = i.session; waiting = i.replies; keeping = i.keeping } in
+    let new : Progress = record { kept = i.session; waiting = c.settle.new.self; keeping = i.keeping } in
+    let P : Progress → Result (Unit {0}) (Option SessionFault) → Type 0 =
     λ k r. feeding.Settles (Took g.D.Desk.says g.W.Write.contents) (IsOver g.D.Desk.says g.W.Write.contents) (λ p. Unit {0})
     (k, c.args.desk.now, c.args.writer.now) r (new, c.settle.new.desk, c.settle.new.writer) in
-    subst (λ (k : Course). P k c.match-settle.result) c.self.view_is
+    subst (λ (k : Progress). P k c.match-settle.result) c.self.view_is
     (elim c.match-settle.branch [
       | in-Ok w ↦ subst (λ (r : Result (Unit {0}) (Option SessionFault)). P old r) (sym w.result-is)
           (settles_on g.D.Desk.says g.W.Write.contents (old, c.args.desk.now, c.args.writer.now)

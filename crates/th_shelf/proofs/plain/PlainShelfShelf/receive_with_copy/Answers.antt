@@ -130,7 +130,6 @@ returns-clause-ok g c =
         sent = before;
       };
       here = rw low at c.in-Ok.ensures.value;
-      moved =
-          read_window _ _ _ _ c.self.invariant c.args.rx.0 _ here c.trim.new.kept.items (rw low at c.trim.ensures.ahead) before
+      moved = read_window _ _ _ _ c.self.invariant c.args.rx.0 _ here c.trim.new.kept.items (rw low at c.trim.ensures.ahead) before
           (rw (low, moved, next) at c.trim.ensures.first);
     })

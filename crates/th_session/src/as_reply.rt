@@ -13,7 +13,7 @@ use th_registry::Channel;
 use th_registry::channel::TopicReceipt;
 
 /// What a channel of some kind replied, as an actor is told it.
-pub(crate) trait Told {
+pub(crate) trait AsReply {
     /// The reply that is told.
     ghost told: { Self → Reply };
 
@@ -27,7 +27,7 @@ pub(crate) trait Told {
             (output W.contents writer.old out.old) (output W.contents writer.new out.new) result };
 }
 
-impl Told for BReply<Value> {
+impl AsReply for BReply<Value> {
     ghost use Rattle.th_session.specs.Table.{replied_broadcast};
 
     ghost told = { replied_broadcast };
@@ -57,7 +57,7 @@ impl Told for BReply<Value> {
     }
 }
 
-impl Told for WReply<Value> {
+impl AsReply for WReply<Value> {
     ghost use Rattle.th_session.specs.Table.{replied_watch};
 
     ghost told = { replied_watch };
