@@ -1,0 +1,4 @@
+mod Greedy
+mod NextLemmas
+mod RestLemmas
+mod Searching

@@ -1,0 +1,4 @@
+pub mod Nexts
+pub mod Orders
+pub mod Rests
+pub mod Search
