@@ -1,5 +1,6 @@
 //! Laws of diaries.
 ghost use Rattle.th_accounts.specs.Clients.{ClientsWereTold};
+ghost use Rattle.th_accounts.specs.Joined.{JoinedAreCounted};
 ghost use Rattle.th_accounts.specs.Received.{AuditedDiariesDeliver};
 ghost use Rattle.std.specs.Prelude.{Bool};
 ghost use Rattle.th_accounts.specs.Whole.{picked, said_in, IsWhole};
@@ -32,4 +33,10 @@ pub fn audited_diaries_deliver<S, T>()
 /// was sent from its first place on, in order, with a gap for each value that it missed.
 pub fn clients_were_told<T>()
     ensures { ClientsWereTold T }
+{}
+
+/// Once the shares of a channel settle, the parts of its history from the opening to the end, joined, have an entry for each event
+/// that the shares count.
+pub fn joined_parts_are_counted<S, C, R>()
+    ensures { JoinedAreCounted S C R }
 {}

@@ -10,6 +10,7 @@ pub fn law() {
     laws::whole_diaries_tell_all::<WCall<u64>, WReply<u64>>();
     laws::audited_diaries_deliver::<u64, u64>();
     laws::clients_were_told::<u64>();
+    laws::joined_parts_are_counted::<u64, WCall<u64>, WReply<u64>>();
 }
 
 pub fn account(
