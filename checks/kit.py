@@ -21,3 +21,9 @@ def toolchain():
     except Exception:  # another release may be no Python at all
         return None
     return made if all(hasattr(made, it) for it in USED) and hasattr(made.rtlib.Crate, "build_rlib") else None
+
+
+def is_refusal(rt, verdict):
+    """Whether what `must_fail` answers of an edit is that the prover refused it. Some releases have words for it, others say yes or no."""
+    words = [getattr(rt, name) for name in ("REFUSED", "AT_LIMIT") if hasattr(rt, name)]
+    return verdict in words if words else verdict is True
