@@ -1,5 +1,6 @@
 """Servers and clients of `topichub serve`, for the scripts that try it. All that they wait for is given in seconds of the proved
 program, and takes longer where the program is slow."""
+import resource
 import signal
 import socket
 import subprocess
@@ -9,14 +10,21 @@ from program import patience, program
 
 
 class Server:
-    """A server of so many sessions. `first` is the first line that it printed: it listens, or has ended without one."""
+    """A server of so many sessions, which may have so many files open at a time. `first` is the first line that it printed: it
+    listens, or has ended without one."""
 
-    def __init__(self, path, sessions, seconds, environment=None):
+    def __init__(self, path, sessions, seconds, environment=None, files=None):
         self.path = path
+
+        def begin():
+            signal.signal(signal.SIGINT, signal.SIG_DFL)
+            if files is not None:
+                resource.setrlimit(resource.RLIMIT_NOFILE, (files, files))
+
         # A shell has what it starts in the background ignore SIGINT, and so would all below it.
         self.process = subprocess.Popen([program(), "serve", path, "--sessions", str(sessions)], stdin=subprocess.DEVNULL,
                                         stdout=subprocess.PIPE, stderr=subprocess.PIPE, text=True, env=environment,
-                                        preexec_fn=lambda: signal.signal(signal.SIGINT, signal.SIG_DFL))
+                                        preexec_fn=begin)
         # What has not ended after so many seconds never will, and says no more.
         self.timer = threading.Timer(patience(seconds), self.process.kill)
         self.timer.start()

@@ -104,9 +104,10 @@ impl Feeder {
         })
     }
 
-    /// How many lines were handed out.
+    /// How many lines were handed out: never more than may be.
     pub fn taken(&self) -> u64
-        ensures { result ≡ self.now.taken }
+        ensures taken { result ≡ self.now.taken }
+        ensures within { result ≤ self.now.limit }
     {
         self.taken
     }

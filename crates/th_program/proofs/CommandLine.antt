@@ -11,7 +11,9 @@ use Rattle.clap.specs.declared.parser.matches.ArgMatches.TheViews.{out-ArgMatche
 use Rattle.clap.specs.declared.parser.matches.SubCommand.{SubCommand}
 use Rattle.clap.specs.declared.error.kind.ErrorKind.TheVariants as kind
 use Rattle.clap.proofs.OnLiterals.{clap_on_literals}
-use Rattle.th_program.specs.Words.{command_line}
+use Rattle.th_program.specs.declared.modes.Mode.{Mode}
+use Rattle.th_program.specs.declared.modes.ModeFault.{ModeFault}
+use Rattle.th_program.specs.Words.{AreServe, AsksFor, IsMode, arguments_by, arguments_of, asked_by, asked_of, command_line, text_of}
 
 pub is_plain : is_simple_and_free command_line ≡ true
 is_plain = refl
@@ -101,3 +103,17 @@ pub adds_app : {E : Type 0} (program sub : Command) (app : App) (result : Result
     → IfOk result (λ r. app_of r ≡ with_subcommand (app_of program) app.top)
 adds_app program sub app (Ok r) adds local is = adds.shape local ∙ ap (λ (a : App). with_subcommand (app_of program) a.top) is
 adds_app program sub app (Err e) adds local is = adds
+
+module _ (m : ArgMatches) (app : App) (words : List (List ℕ)) (is : app ≡ command_line) (has : HasMatchesOf app words m) where
+  -- a mode that the matches ask for is the one that the words ask for
+  pub mode_by : (r : Result Mode ModeFault) → IfOk r (IsMode (asked_of (subcommand_name_of m)) (arguments_of (subcommand_rows_of m)))
+      → IfOk r (IsMode (asked_by words) (arguments_by words))
+  mode_by r h =
+      subst (λ (o : Option (List ℕ)). IfOk r (IsMode (asked_of o) (arguments_by words))) (name_is m app words is has [])
+      (subst (λ (o : Option (Text × List Row)). IfOk r (IsMode (asked_of (subcommand_name_of m)) (arguments_of o)))
+      (rows_are m app words is has []) h)
+
+  -- and so is the number of sessions
+  pub number_by : (n : ℕ) → AreServe words n → AsksFor (text_of (codes "N") (arguments_of (subcommand_rows_of m))) n
+  number_by n a = subst (λ (o : Option (Text × List Row)). AsksFor (text_of (codes "N") (arguments_of o)) n)
+      (sym (rows_are m app words is has [])) a.number

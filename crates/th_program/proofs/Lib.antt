@@ -2,3 +2,4 @@ mod CommandLine
 mod Endings
 mod Hearing
 mod Writing
+mod Serving

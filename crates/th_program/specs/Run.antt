@@ -56,7 +56,7 @@ module _ (before after : Devices) where
 
   -- the schedule was carried out to its end
   abbrev pub IsReplayed : Type 0
-  IsReplayed = (count : ℕ) × Replayed machine start before after count
+  IsReplayed = (count : ℕ) × Replayed machine start 1000000 before after count
 
   -- the schedule was stopped by this fault
   abbrev pub IsStopped : ReplayFault → Type 0

@@ -1,8 +1,9 @@
 -- What the words of the command line ask for.
-use Rattle.std.specs.Prelude.{◌≡◌, ◌⊎◌, ◌≤◌, ℕ, List, [], ◌∷◌, Option, Some, None, Result, MatchResult, codes, true, if◌then◌else◌}
+use Rattle.std.specs.Prelude.{◌≡◌, ◌⊎◌, ◌≤◌, ℕ, List, [], ◌∷◌, Option, Some, None, Result, MatchResult, codes, string_bytes, true, if◌then◌else◌}
 use Rattle.std.specs.Str.{bytes_eq}
-use Rattle.std.specs.Option.{option_map}
-use Rattle.clap.specs.Words.{App, new_app, new_rule, subcommand_of, with_rule, with_subcommand}
+use Rattle.std.specs.Str.Parse.{IsNumeral, digits_value, without_leading_plus}
+use Rattle.std.specs.Option.{option_map, unwrap_or}
+use Rattle.clap.specs.Words.{App, Row, fault_of, first_of, new_app, new_rule, subcommand_of, with_rule, with_subcommand}
 use Rattle.th_program.specs.declared.modes.Mode.{Mode}
 use Rattle.th_program.specs.declared.modes.Mode.TheVariants.{Check, Replay, Serve}
 use Rattle.th_program.specs.declared.modes.Asked.{Asked}
@@ -94,3 +95,34 @@ command_line =
 -- which mode words name that `clap` takes
 abbrev pub asked_by : List (List ℕ) → Asked
 asked_by words = asked_of (option_map (λ p. p.0) (subcommand_of command_line words))
+
+-- the words behind a mode's name, as `clap` takes them for its arguments
+abbrev pub arguments_of : Option (List ℕ × List Row) → List Row
+arguments_of found = unwrap_or (option_map (λ p. p.1) found) []
+
+abbrev pub arguments_by : List (List ℕ) → List Row
+arguments_by words = arguments_of (subcommand_of command_line words)
+
+-- the text of one of them, none where there is none
+abbrev pub text_of : List ℕ → List Row → List ℕ
+text_of id rows = unwrap_or (first_of id rows) []
+
+-- the text is a number from 1 to 64 in decimal digits; a plus may stand before them
+abbrev pub AsksFor : List ℕ → ℕ → Type 0
+AsksFor text n = IsNumeral 10 (without_leading_plus text)
+    × (n ≡ digits_value 10 (without_leading_plus text))
+    × (1 ≤ n) × (n ≤ 64)
+
+-- the mode that was asked for; one that serves has the path and the number of sessions that these words say
+abbrev pub IsMode : Asked → List Row → Mode → Type 0
+IsMode asked rows Replay = asked ≡ Asked.Replay
+IsMode asked rows Check = asked ≡ Asked.Check
+IsMode asked rows (Serve path sessions) = (asked ≡ Asked.Serve)
+    × (string_bytes path ≡ text_of (codes "PATH") rows)
+    × AsksFor (text_of (codes "N") rows) sessions
+
+-- words that ask rightly to serve so many sessions
+pub record AreServe (words : List (List ℕ)) (n : ℕ) : Type 0 where
+  pub taken : fault_of command_line words ≡ []
+  pub asked : asked_by words ≡ Asked.Serve
+  pub number : AsksFor (text_of (codes "N") (arguments_by words)) n

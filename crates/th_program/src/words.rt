@@ -1,9 +1,9 @@
 //! The words of the command line.
 
-ghost use Rattle.std.specs.Prelude.{◌≡◌, ◌≢◌, ◌⊎◌, ◌≤◌, IfErr, IfOk, IfSome, Ok, OnOk, [], codes, false, map, option_map};
+ghost use Rattle.std.specs.Prelude.{◌≡◌, ◌≢◌, ◌⊎◌, ◌≤◌, IfErr, IfOk, IfSome, IsSome, Ok, OnOk, ℕ, [], codes, false, map, option_map};
 ghost use Rattle.clap.specs.declared.builder.command.Command.TheViews.{out-Command};
-ghost use Rattle.clap.specs.Words.{app_of, fault_of, kind_of, new_app, subcommand_name_of, with_subcommand};
-ghost use Rattle.th_program.specs.Words.{AreCheck, AreReplay, AreHelp, AreVersion, AreNone, IsHelp, IsUsage, GivesCheck, GivesMode, GivesReplay, GivesFault, HasSessions, asked_by, asked_of, command_line, serve_line, with_required};
+ghost use Rattle.clap.specs.Words.{app_of, fault_of, found_of, kind_of, new_app, rows_of, subcommand_name_of, subcommand_rows_of, with_subcommand};
+ghost use Rattle.th_program.specs.Words.{AreCheck, AreReplay, AreHelp, AreServe, AreVersion, AreNone, AsksFor, IsHelp, IsMode, IsUsage, GivesCheck, GivesMode, GivesReplay, GivesFault, HasSessions, arguments_by, arguments_of, asked_by, asked_of, command_line, serve_line, text_of, with_required};
 
 use crate::help::{
     ABOUT, AFTER, CHECK_ABOUT, CHECK_AFTER, CHECK_INPUT, REPLAY_ABOUT, REPLAY_AFTER, REPLAY_INPUT,
@@ -126,11 +126,16 @@ fn asked(name: Option<&str>) -> Asked
 
 // How many sessions the text asks for, where it is a number from 1 to 64.
 fn sessions_in(text: &str) -> Option<u64>
-    ensures { IfSome result (λ n. (1 ≤ n) × (n ≤ 64)) }
+    ensures number { IfSome result (AsksFor text.now) }
+    ensures none { (n : ℕ) → AsksFor text.now n → IsSome result }
 {
-    match text.parse::<u64>() {
-        Ok(sessions) if 1 <= sessions && sessions <= 64 => Some(sessions),
-        _ => None,
+    let Ok(sessions) = text.parse::<u64>() else {
+        return None;
+    };
+    if 1 <= sessions && sessions <= 64 {
+        Some(sessions)
+    } else {
+        None
     }
 }
 
@@ -149,7 +154,9 @@ fn wrong_sessions(alloc: Global, text: &str) -> ModeFault
 
 // The mode that serves, by the words behind its name.
 fn serve_mode(alloc: Global, words: &ArgMatches<'_>) -> Result<Mode, ModeFault>
-    ensures sessions { IfOk result HasSessions }
+    ensures mode { IfOk result (IsMode Asked.Serve (rows_of (found_of words.now))) }
+    ensures number { (n : ℕ) → AsksFor (text_of (codes "N") (rows_of (found_of words.now))) n
+        → GivesMode result }
     ensures wrong { IfErr result (λ fault. IsUsage fault ⊎ (fault ≡ ModeFault.Short)) }
 {
     let number = words.get_str("N").unwrap_or("");
@@ -157,7 +164,7 @@ fn serve_mode(alloc: Global, words: &ArgMatches<'_>) -> Result<Mode, ModeFault>
         return Err(wrong_sessions(alloc, number));
     };
     let path = words.get_str("PATH").unwrap_or("");
-    match format!(in alloc; "{path}") {
+    match String::from_str(alloc, path) {
         Ok(path) => Ok(Mode::Serve { path, sessions }),
         Err(_) => Err(ModeFault::Short),
     }
@@ -169,7 +176,10 @@ fn taken(alloc: Global, matches: &ArgMatches<'_>) -> Result<Mode, ModeFault>
         → result ≡ Ok Mode.Replay }
     ensures check { asked_of (subcommand_name_of matches.now) ≡ Asked.Check
         → result ≡ Ok Mode.Check }
-    ensures sessions { IfOk result HasSessions }
+    ensures mode { let arguments = arguments_of (subcommand_rows_of matches.now) in
+        IfOk result (IsMode (asked_of (subcommand_name_of matches.now)) arguments) }
+    ensures number { let arguments = arguments_of (subcommand_rows_of matches.now) in
+        (n : ℕ) → AsksFor (text_of (codes "N") arguments) n → GivesMode result }
     ensures other { asked_of (subcommand_name_of matches.now) ≢ Asked.Serve → GivesMode result }
 {
     match asked(matches.subcommand_name()) {
@@ -177,7 +187,7 @@ fn taken(alloc: Global, matches: &ArgMatches<'_>) -> Result<Mode, ModeFault>
         Asked::Check => Ok(Mode::Check),
         Asked::Serve => match matches.subcommand_matches("serve") {
             Some(words) => serve_mode(alloc, words),
-            None => Err(wrong_sessions(alloc, "")),
+            None => unreachable!(),
         },
     }
 }
@@ -197,6 +207,9 @@ pub fn mode(alloc: Global, words: &[&str]) -> Result<Mode, ModeFault>
     ensures only { OnOk result (fault_of command_line (map (λ w. w.now) words.now) ≡ []) }
     ensures taken { fault_of command_line (map (λ w. w.now) words.now) ≡ []
         → asked_by (map (λ w. w.now) words.now) ≢ Asked.Serve → GivesMode result }
+    ensures mode { let given = map (λ w. w.now) words.now in
+        IfOk result (IsMode (asked_by given) (arguments_by given)) }
+    ensures serve { (n : ℕ) → AreServe (map (λ w. w.now) words.now) n → GivesMode result }
     ensures sessions { IfOk result HasSessions }
 {
     let Ok(command) = program_command(alloc) else {

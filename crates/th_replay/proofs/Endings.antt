@@ -1,35 +1,34 @@
 -- How a replay goes on, and what has come of it when it ends.
-use Rattle.std.proofs.Common.{◌≡◌, ℕ, ◌+◌, ◌<◌, Bool, true, false, List, [], ◌++◌, length, take, refl, sym, ap, ◌∙◌, append_assoc, append-nil, arith, inl, inr, Option, Ok, Err, subst, length-append}
-use Rattle.std.specs.Io.KnownBytes.{Appends, Consumes, IsAtEnd}
+use Rattle.std.proofs.Common.{◌≡◌, ℕ, ◌+◌, ◌≤◌, true, false, List, [], refl, sym, append-nil, inl, inr, Option, Ok, Err, subst}
+use Rattle.std.specs.Io.KnownBytes.{Appends}
 use Rattle.std.specs.List.{concat}
 use Rattle.std.specs.Prelude.{Result}
 use Rattle.std.proofs.KnownBytes.{Appends-nil}
-use Rattle.std.proofs.Math.Seq.{take-append_seam}
 use Rattle.std.proofs.lemmas.Bool.{false≢true}
 use Rattle.th_lines.specs.Answering.{Answers, Breaks, Turned}
 use Rattle.th_lines.specs.Device.{kept_count}
-use Rattle.th_lines.specs.Feeding.{Feeding, IsFull, Settles, Stands, Takes, Underway}
-use Rattle.th_lines.specs.Intake.{lines_after}
-use Rattle.th_lines.specs.Lines.{Line, lines_from, lines_of}
+use Rattle.th_lines.specs.Feeding.{Feeding, Settles, Stands, Takes}
+use Rattle.th_lines.specs.Lines.{Line}
 use Rattle.th_lines.specs.Output.{Output, AddsOrFails, Flushes, WritesAll, WritesFront, output}
 use Rattle.th_lines.specs.Tally.{Tally}
 use Rattle.th_lines.specs.declared.feeder.Fed.{Fed}
 use Rattle.th_lines.specs.declared.feeder.Fed.TheVariants.{Ended, Stopped, Full, Failed, Spent}
 use Rattle.th_lines.specs.declared.fault.WriteFailed.{WriteFailed}
 use Rattle.th_lines.proofs.AnsweringLemmas.{answers_line, answers_on, breaks_after, breaks_at, breaks_here, wrote_all, wrote_front}
-use Rattle.th_lines.proofs.LineLemmas.{last_line-none, lines_from-some}
 use Rattle.th_lines.proofs.OutputLemmas.{adds_none, flushed_adds, waiting_front}
 use Rattle.th_registry.specs.Pictures.{SeenTopics}
-use Rattle.th_replay.specs.Outcome.{AllAnswered, BrokenOff, Comes, Devices, PastLines}
+use Rattle.th_session.specs.Ending.{AppendsFront, Devices, FirstAnswered}
+use Rattle.th_session.proofs.Endings.{all_answered, appended, first_halted, first_whole, first_within, fronts, past_lines, whole_answered}
+use Rattle.th_replay.specs.Outcome.{Comes, HasText}
 use Rattle.th_replay.specs.Progress.{Progress, IsBroken, Took, beginning, end_by, may_wait, stands}
 use Rattle.th_replay.specs.Schedule.{Hub, answers, seen_start}
-use Rattle.th_replay.specs.Session.{Turns, session_end, session_text}
-use Rattle.th_replay.proofs.SessionLemmas.{session_text-append}
+use Rattle.th_replay.specs.Session.{Turns}
 use Rattle.th_replay.proofs.Turning.{turned_text}
 
--- the first items of a list in two parts
-front_of : {X : Type 0} (xs ys : List X) (n : ℕ) → n ≡ length xs → take n (xs ++ ys) ≡ xs
-front_of xs ys n e = ap (λ (k : ℕ). take k (xs ++ ys)) e ∙ take-append_seam xs ys
+-- lines that were answered in turn have a session text
+told : (lines : List Line) (texts : List (List ℕ)) (now : Hub SeenTopics) → Turned (Turns answers) lines seen_start texts now →
+    HasText answers seen_start lines (concat texts)
+told lines texts now t = let r = turned_text answers lines seen_start texts now t in (r.marks, sym r.text)
 
 module _ {W D : Type 0} (contents : W → Option (List ℕ)) where
   -- one line was answered
@@ -57,141 +56,75 @@ module _ {W D : Type 0} (contents : W → Option (List ℕ)) where
       (waiting_front (adds_none (stands contents old).1) f))))
 
   -- A run from its beginning on, its devices before and after it, and where it stands.
-  module _ (old new : Devices) (w : Tally W) (d : D) (before : old.contents ≡ contents w.device) where
+  module _ (old new : Devices) (w : Tally W) (d : D) (before : old.contents ≡ contents w.device) (f : Feeding)
+      (now : Progress × D × Tally W) (few : f.taken ≤ f.limit) where
     abbrev first : Progress × D × Tally W
     first = (beginning, d, w)
 
     abbrev out : Output
     out = output contents w []
 
-    -- what was written is the session text of the lines that were answered
-    texts : (lines : List Line) (now : Hub SeenTopics × Output) (after : Output) → Answers (Turns answers) (stands contents first) lines now
-        → WritesAll now.1.waiting now.1 after → new.contents ≡ after.written
-        → (marks : List Bool) × (length marks ≡ length lines)
-        × Appends old.contents new.contents (session_text answers seen_start lines marks)
-    texts lines now after a f same =
-        let t = turned_text answers lines seen_start a.texts now.0 a.turned in
-        let all = wrote_all refl a.said f in (
-          t.marks,
-          t.each,
-          subst (λ (x : Option (List ℕ)). Appends x new.contents (session_text answers seen_start lines t.marks)) (sym before)
-              (subst (λ (x : Option (List ℕ)). Appends (contents w.device) x (session_text answers seen_start lines t.marks)) (sym same)
-              (subst (λ (l : List ℕ). Appends (contents w.device) after.written l) (sym t.text) all.wrote)),
-        )
+    abbrev at : Hub SeenTopics × Output
+    at = stands contents now
 
-    -- the writer failed within the texts of these lines
-    broken_off : (input : List ℕ) (ended : Bool) (done later : List Line) (said : List (List ℕ)) (s : Hub SeenTopics) (after : Output)
-        → Consumes old.remaining new.remaining input → (ended ≡ true → IsAtEnd new.remaining) → lines_from ended [] input ≡ done ++ later
-        → Turned (Turns answers) done seen_start said s → WritesFront (concat said) out after → new.contents ≡ after.written →
-        BrokenOff answers seen_start old new
-    broken_off input ended done later said s after read whole lines turned front same =
-        let t = turned_text answers done seen_start said s turned in
-        let rest : List ℕ = session_text answers (session_end answers seen_start done t.marks) later [] in
-        let text : session_text answers seen_start (lines_from ended [] input) (t.marks ++ []) ≡ concat said ++ rest =
-        ap (λ (l : List Line). session_text answers seen_start l (t.marks ++ [])) lines
-        ∙ session_text-append answers seen_start done later t.marks [] t.each
-        ∙ ap (λ (l : List ℕ). l ++ rest) t.text in
-        record {
-          input = input;
-          read = read;
-          ended = ended;
-          whole = whole;
-          marks = t.marks ++ [];
-          shown = front.shown;
-          unsaid = front.unsaid ++ rest;
-          wrote = subst (λ (x : Option (List ℕ)). Appends x new.contents front.shown) (sym before)
-              (subst (λ (x : Option (List ℕ)). Appends (contents w.device) x front.shown) (sym same) front.wrote);
-          text = sym (append_assoc front.shown front.unsaid rest) ∙ ap (λ (l : List ℕ). l ++ rest) front.text ∙ sym text;
-        }
+    abbrev By : List Line → List ℕ → Type 0
+    By = HasText answers seen_start
 
-    module _ (n : ℕ) (f : Feeding) (now : Progress × D × Tally W)
-        (u : Underway (Took contents) (IsBroken contents) old.remaining new.remaining first n f now) (after : Output)
-        (same : new.contents ≡ after.written) where
-      part : lines_from false [] u.input ≡ u.done ++ lines_after false f.came []
-      part = ap (λ (l : List ℕ). lines_from false [] l) (sym (append-nil u.input)) ∙ u.lines false []
+    module _ (after : Output) (same : new.contents ≡ after.written) where
+      -- all replies to lines that were taken are written, or a front of them
+      shown : WritesAll at.1.waiting at.1 after → (lines : List Line) → Took contents first lines now
+          → (text : List ℕ) × By lines text × Appends old.contents new.contents text
+      shown g lines a =
+          let text : List ℕ = concat a.texts in
+          let all = wrote_all refl a.said g in
+          (text, told lines a.texts at.0 a.turned, appended old new out after before same text all.wrote)
 
-      all_answered : f.came.ahead ≡ [] → WritesAll now.0.waiting (stands contents now).1 after → AllAnswered answers seen_start old new
-      all_answered none wrote =
-          let t = texts u.done (stands contents now) after u.stands wrote same in
-          let all : lines_from false [] u.input ≡ u.done =
-          part ∙ ap (λ (l : List ℕ). u.done ++ lines_from false f.came.begun (l ++ [])) none
-          ∙ ap (λ (l : List Line). u.done ++ l) (last_line-none f.came.begun) ∙ append-nil u.done in
-          record {
-            input = u.input;
-            read = u.read;
-            marks = t.0;
-            wrote = subst (λ (l : List Line). Appends old.contents new.contents (session_text answers seen_start l t.0)) (sym all) t.2;
-          }
+      shown_front : WritesFront at.1.waiting at.1 after → (lines : List Line) → Took contents first lines now
+          → (text : List ℕ) × By lines text × AppendsFront old.contents new.contents text
+      shown_front g lines a =
+          let text : List ℕ = concat a.texts in
+          (text, told lines a.texts at.0 a.turned, fronts old new out after before same text (wrote_front refl a.said g))
 
-      past_lines : IsFull f → WritesAll now.0.waiting (stands contents now).1 after → PastLines answers seen_start f.limit old new
-      past_lines full wrote =
-          let t = texts u.done (stands contents now) after u.stands wrote same in
-          let rest : List Line = lines_after true f.came [] in
-          let all : lines_of u.input ≡ u.done ++ rest = ap (λ (l : List ℕ). lines_from true [] l) (sym (append-nil u.input))
-          ∙ u.lines true [] in
-          let count : f.limit ≡ length u.done = omega (arith, u.counted, full.bound) in
-          let more : 0 < length rest = lines_from-some f.came.begun (f.came.ahead ++ [])
-          (omega (arith, full.beyond, length-append f.came.ahead [])) in
-          let front : take f.limit (lines_of u.input) ≡ u.done =
-          ap (λ (l : List Line). take f.limit l) all ∙ front_of u.done rest f.limit count in
-          record {
-            input = u.input;
-            read = u.read;
-            beyond = omega (arith, ap (λ (l : List Line). length l) all, length-append u.done rest, count, more);
-            marks = t.0;
-            wrote = subst (λ (l : List Line). Appends old.contents new.contents (session_text answers seen_start l t.0)) (sym front) t.2;
-          }
-
-      broken_within : WritesFront now.0.waiting (stands contents now).1 after → BrokenOff answers seen_start old new
-      broken_within front =
-          broken_off u.input false u.done (lines_after false f.came []) u.stands.texts now.0.hub after u.read (λ e. absurd (false≢true e))
-          part u.stands.turned (wrote_front refl u.stands.said front) same
-
-    module _ (reads : ℕ) (f : Feeding) (now : Progress × D × Tally W) where
+    module _ (reads : ℕ) where
       abbrev spent : Type 0
       spent = kept_count new.calls ≡ kept_count (old.calls + reads)
 
+      abbrev Here : Fed WriteFailed → Type 0
+      Here fed = Stands (Took contents) (IsBroken contents) old.remaining new.remaining first (λ p. p.0.waiting ≡ []) spent reads
+          fed f now
+
       -- it ended with no reply left
-      pub comes_at_once : (fed : Fed WriteFailed) → Stands (Took contents) (IsBroken contents) old.remaining new.remaining first
-          (λ p. p.0.waiting ≡ []) spent reads fed f now
-          → new.contents ≡ (stands contents now).1.written → may_wait (end_by fed f.taken) ≡ false →
+      pub comes_at_once : (fed : Fed WriteFailed) → Here fed → new.contents ≡ at.1.written → may_wait (end_by fed f.taken) ≡ false →
           Comes answers seen_start f.limit reads old new (end_by fed f.taken)
       comes_at_once Ended s same e = absurd (false≢true (sym e))
       comes_at_once (Stopped why) s same e =
           let b = s.stands in
-          let more = s.lines f.ended [] (λ h. (h, refl)) in
-          broken_off s.input f.ended b.done (b.later ++ more.0) b.texts now.0.hub (stands contents now).1 s.read s.whole
-          (ap (λ (l : List ℕ). lines_from f.ended [] l) (sym (append-nil s.input)) ∙ more.1 ∙ ap (λ (l : List Line). l ++ more.0) b.parts
-          ∙ append_assoc b.done b.later more.0)
-          b.turned b.said same
+          let text : List ℕ = concat b.texts in
+          first_halted By old new first now f few AppendsFront why s b.done b.later b.parts text (told b.done b.texts at.0 b.turned)
+          (fronts old new out at.1 before same text b.said)
       comes_at_once Full s same e = absurd (false≢true (sym e))
-      comes_at_once Failed s same e = all_answered reads f now s.0 (stands contents now).1 same s.1
-          (subst (λ (l : List ℕ). WritesAll l (stands contents now).1 (stands contents now).1) (sym s.2)
-          (record { wrote = Appends-nil (stands contents now).1.written; same = refl }))
+      comes_at_once Failed s same e =
+          let all : WritesAll at.1.waiting at.1 at.1 = subst (λ (l : List ℕ). WritesAll l at.1 at.1) (sym s.2)
+          (record { wrote = Appends-nil at.1.written; same = refl }) in
+          all_answered By old new first now f few reads s.0 s.1 (shown at.1 same all)
       comes_at_once Spent s same e = absurd (false≢true (sym e))
 
-      -- and then all replies were written
-      pub comes_written : (fed : Fed WriteFailed) (after : Output) →
-          Stands (Took contents) (IsBroken contents) old.remaining new.remaining first (λ p. p.0.waiting ≡ []) spent reads fed f now
-          → WritesAll now.0.waiting (stands contents now).1 after → new.contents ≡ after.written → may_wait (end_by fed f.taken) ≡ true
-          → Comes answers seen_start f.limit reads old new (end_by fed f.taken)
-      comes_written Ended after s wrote same e =
-          let t = texts (lines_of s.input) (stands contents now) after s.stands wrote same in
-          (record { input = s.input; read = s.read; whole = s.whole; counted = s.counted; marks = t.0; wrote = t.2 }, s.within)
-      comes_written (Stopped why) after s wrote same e = absurd (false≢true e)
-      comes_written Full after s wrote same e = inl (past_lines reads f now s.0 after same s.1 wrote)
-      comes_written Failed after s wrote same e = absurd (false≢true e)
-      comes_written Spent after s wrote same e = inr (all_answered reads f now s.0 after same s.1 wrote, s.2)
+      module _ (after : Output) (same : new.contents ≡ after.written) where
+        -- and then all replies were written
+        pub comes_written : (fed : Fed WriteFailed) → Here fed → WritesAll at.1.waiting at.1 after
+            → may_wait (end_by fed f.taken) ≡ true → Comes answers seen_start f.limit reads old new (end_by fed f.taken)
+        unfolding whole_answered
+        comes_written Ended s g e = ((whole_answered By old new first now f few s (shown after same g), s.counted), few)
+        comes_written (Stopped why) s g e = absurd (false≢true e)
+        comes_written Full s g e = inl (past_lines By old new first now f few reads s.0 s.1 (shown after same g))
+        comes_written Failed s g e = absurd (false≢true e)
+        comes_written Spent s g e = inr (all_answered By old new first now f few reads s.0 s.1 (shown after same g), s.2)
 
-      -- or the writer failed
-      pub comes_broken : (fed : Fed WriteFailed) (after : Output) →
-          Stands (Took contents) (IsBroken contents) old.remaining new.remaining first (λ p. p.0.waiting ≡ []) spent reads fed f now
-          → WritesFront now.0.waiting (stands contents now).1 after → new.contents ≡ after.written → may_wait (end_by fed f.taken) ≡ true →
-          BrokenOff answers seen_start old new
-      comes_broken Ended after s front same e =
-          broken_off s.input true (lines_of s.input) [] s.stands.texts now.0.hub after s.read (λ _. s.whole)
-          (sym (append-nil (lines_of s.input))) s.stands.turned (wrote_front refl s.stands.said front) same
-      comes_broken (Stopped why) after s front same e = absurd (false≢true e)
-      comes_broken Full after s front same e = broken_within reads f now s.0 after same front
-      comes_broken Failed after s front same e = absurd (false≢true e)
-      comes_broken Spent after s front same e = broken_within reads f now s.0 after same front
+        -- or the writer failed
+        pub comes_broken : (fed : Fed WriteFailed) → Here fed → WritesFront at.1.waiting at.1 after
+            → may_wait (end_by fed f.taken) ≡ true → FirstAnswered By f.limit old new AppendsFront
+        comes_broken Ended s g e = first_whole By old new first now f few s AppendsFront (shown_front after same g)
+        comes_broken (Stopped why) s g e = absurd (false≢true e)
+        comes_broken Full s g e = first_within By old new first now f few reads s.0 AppendsFront (shown_front after same g)
+        comes_broken Failed s g e = absurd (false≢true e)
+        comes_broken Spent s g e = first_within By old new first now f few reads s.0 AppendsFront (shown_front after same g)

@@ -27,12 +27,12 @@ use Rattle.th_registry.specs.Live.{Handle}
 use Rattle.th_session.specs.Held.{Holding, handles_at}
 use Rattle.th_session.specs.Laws.{Lacks}
 use Rattle.th_session.specs.Live.{Has, AllIsLive}
-use Rattle.th_session.specs.Script.{Answer, Replied, reply_of}
+use Rattle.th_session.specs.Script.{Answer, Replied, has_quit, reply_of}
 use Rattle.th_session.specs.Table.{is_for}
 use Rattle.th_session.proofs.Live.{what_is_lacking_is_exact}
 use Rattle.th_session.proofs.Living.{AreSound, Lives, IsOthers, Keeps, has-nothing, lives-nothing, command_keeps}
 use Rattle.th_replay.specs.Session.{turn, session_end, first_mark, later_marks}
-use Rattle.th_replay.specs.Schedule.{Hub, Actors, machine, start, by_step, by_place, by_holding, started, has_quit, most_actors, most_entries, place_of, endless_step, answer_to}
+use Rattle.th_replay.specs.Schedule.{Hub, Actors, machine, start, by_step, by_place, by_holding, started, most_actors, most_entries, place_of, endless_step, answer_to}
 use Rattle.th_replay.specs.Live.{MayAct, holding_at, held_at, held_by}
 use Rattle.th_replay.specs.Laws.{WhatIsHeldIsLive, WhatIsHeldIsNotShared, NotHeldIsExact}
 

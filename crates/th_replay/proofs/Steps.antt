@@ -10,9 +10,9 @@ use Rattle.th_registry.specs.Receipts.{ChannelReceipt}
 use Rattle.th_session.specs.declared.session.Answer.TheVariants as answers
 use Rattle.th_session.specs.Held.{Holding}
 use Rattle.th_session.specs.Kept.{IsKept, Kept, told, with_receipt, with_segment}
-use Rattle.th_session.specs.Script.{Answer, Replied, Told, Traced}
+use Rattle.th_session.specs.Script.{Answer, Replied, Told, Traced, has_quit}
 use Rattle.th_session.specs.Step.{Steps}
-use Rattle.th_replay.specs.Schedule.{has_quit, most_entries, picture_asks, picture_step}
+use Rattle.th_replay.specs.Schedule.{most_entries, picture_asks, picture_step}
 
 -- The answer, what the actor holds and the topics afterwards are the hub's; or memory was refused where it is asked for,
 -- and nothing has changed.

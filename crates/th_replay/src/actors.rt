@@ -6,9 +6,9 @@ ghost use Rattle.th_lines.specs.declared.command.Command.TheVariants.{On};
 ghost use Rattle.th_session.specs.Kept.{told};
 ghost use Rattle.th_session.specs.Quiet.{action_of};
 ghost use Rattle.th_session.specs.Script as script;
-ghost use Rattle.th_session.specs.Script.{Replied};
+ghost use Rattle.th_session.specs.Script.{Replied, has_quit};
 ghost use Rattle.th_replay.specs.Session.{Turns};
-ghost use Rattle.th_replay.specs.Schedule.{PutsAnswer, PutsAt, answers, asks_by_place, by_place, has_quit, is_short, picture_asks, picture_step, place_of, seen_start};
+ghost use Rattle.th_replay.specs.Schedule.{PutsAnswer, PutsAt, answers, asks_by_place, by_place, is_short, picture_asks, picture_step, place_of, seen_start};
 
 use indexmap::IndexMap;
 use std::alloc::{AllocError, Global};

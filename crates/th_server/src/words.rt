@@ -1,5 +1,6 @@
 //! The words that ask to serve.
-ghost use Rattle.std.specs.Prelude.{◌≡◌, ◌≤◌, IfOk, IfSome, IsTrue, map, string_bytes};
+ghost use Rattle.std.specs.Prelude.{◌≡◌, ℕ, IfOk, IfSome, IsSome, IsTrue, codes, map, string_bytes};
+ghost use Rattle.th_program.specs.Words.{AreServe, AsksFor, arguments_by, text_of};
 ghost use Rattle.th_server.specs.Words.{asks_to_serve};
 
 use crate::serve::serve;
@@ -25,13 +26,21 @@ fn asks_to_serve(words: &[String]) -> bool
 
 // The path and the number of sessions, where the words say them rightly.
 fn asked_to_serve(alloc: Global, words: &[String]) -> Result<Option<(String, u64)>, AllocError>
-    ensures { IfOk result (λ found. IfSome found (λ asked. (1 ≤ asked.1) × (asked.1 ≤ 64))) }
+    ensures asked { let rows = arguments_by (map string_bytes words.now) in
+        IfOk result (λ found. IfSome found (λ asked.
+        (string_bytes asked.0 ≡ text_of (codes "PATH") rows)
+        × AsksFor (text_of (codes "N") rows) asked.1)) }
+    ensures rightly { (n : ℕ) → AreServe (map string_bytes words.now) n →
+        IfOk result (λ found. IsSome found) }
 {
     let words = texts(alloc, words)?;
     match mode(alloc, words.as_slice()) {
         Ok(Mode::Serve { path, sessions }) => Ok(Some((path, sessions))),
+        Ok(Mode::Replay) => Ok(None),
+        Ok(Mode::Check) => Ok(None),
         Err(ModeFault::Short) => Err(AllocError),
-        _ => Ok(None),
+        Err(ModeFault::Usage(_)) => Ok(None),
+        Err(ModeFault::Help(_)) => Ok(None),
     }
 }
 
@@ -41,6 +50,8 @@ pub fn serve_by_words<
     R: Threads + Wait + Clock + Clone + Send + Sync + Print + Eprint + Files + Net + AllocGlobal,
 >(rt: &R, words: &[String]) -> Option<ExitCode>
     ensures only { IfSome result (λ _. IsTrue (asks_to_serve (map string_bytes words.now))) }
+    ensures rightly { IsTrue (asks_to_serve (map string_bytes words.now)) → (n : ℕ)
+        → AreServe (map string_bytes words.now) n → IsSome result }
 {
     if !asks_to_serve(words) {
         return None;

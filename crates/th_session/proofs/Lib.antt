@@ -8,5 +8,6 @@ mod Kept
 pub mod Live
 pub mod Living
 mod Telling
+pub mod Endings
 mod Running
 mod Unkept

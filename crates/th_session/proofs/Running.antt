@@ -1,57 +1,60 @@
 -- How a session's run goes on, and how it ends.
-use Rattle.std.proofs.Common.{◌≡◌, ◌⊎◌, inl, inr, ℕ, Bool, true, false, List, [], ◌∷◌, ◌++◌, refl, sym, ap, ◌∙◌, append_assoc, append-nil, Option, Some, None, Ok, Err, subst}
+use Rattle.std.proofs.Common.{◌≡◌, inl, inr, ℕ, ◌+◌, ◌≤◌, Bool, true, false, List, [], ◌∷◌, ◌++◌, refl, sym, ap, ◌∙◌, append-nil, arith, Option, Some, Ok, Err, subst}
 use Rattle.std.specs.List.{concat}
-use Rattle.std.specs.Io.KnownBytes.{Consumes, IsAtEnd}
+use Rattle.std.specs.Io.KnownBytes.{Appends}
 use Rattle.std.specs.Prelude.{Result}
 use Rattle.std.proofs.lemmas.Bool.{false≢true}
-use Rattle.std.proofs.lemmas.Option.{none-some}
-use Rattle.std.proofs.KnownBytes.{Appends-nil, Consumes-nil}
-use Rattle.th_lines.specs.Answering.{Answers, Ended, Says, Turned}
+use Rattle.std.proofs.KnownBytes.{Appends-nil}
+use Rattle.th_lines.specs.Answering.{Answers}
 use Rattle.th_lines.specs.Commands.{command_of}
-use Rattle.th_lines.specs.Feeding.{Feeding, Settles, Stands, Takes, Underway}
-use Rattle.th_lines.specs.Intake.{lines_after}
-use Rattle.th_lines.specs.Lines.{Line, Good, Long, lines_from, lines_of}
+use Rattle.th_lines.specs.Device.{kept_count, one_more}
+use Rattle.th_lines.specs.Feeding.{Feeding, Settles, Stands, Takes}
+use Rattle.th_lines.specs.Lines.{Line, Good, Long}
 use Rattle.th_lines.specs.Output.{Output, Adds, WritesAll, WritesFront, output}
-use Rattle.th_lines.specs.Replies.{spell}
 use Rattle.th_lines.specs.Tally.{Tally}
 use Rattle.th_lines.specs.declared.feeder.Fed.{Fed}
 use Rattle.th_lines.specs.declared.feeder.Fed.TheVariants as why
 use Rattle.th_lines.specs.declared.reply.Code.TheVariants as Codes
-use Rattle.th_lines.specs.declared.reply.Reply.TheVariants.{Bye, Refused}
-use Rattle.th_lines.proofs.AnsweringLemmas.{answers_line, answers_on, at_end, breaks_after, breaks_at, breaks_here, wrote_all, wrote_front}
+use Rattle.th_lines.specs.declared.reply.Reply.TheVariants.{Refused}
+use Rattle.th_lines.proofs.AnsweringLemmas.{answers_line, answers_on, breaks_after, breaks_at, breaks_here, wrote_all, wrote_front}
 use Rattle.th_lines.proofs.OutputLemmas.{adds_both, adds_none, flushed_adds, front_after, waiting_front}
 use Rattle.th_registry.specs.Hub.{Query, Said}
 use Rattle.th_session.specs.declared.fault.SessionFault.{SessionFault}
-use Rattle.th_session.specs.declared.fault.SessionFault.TheVariants.{Read, Write, TooLong, Short}
+use Rattle.th_session.specs.declared.fault.SessionFault.TheVariants.{Write, Short}
+use Rattle.th_session.specs.declared.fault.Stop.{Stop}
+use Rattle.th_session.specs.declared.fault.Stop.TheVariants as stop
 use Rattle.th_session.specs.declared.keeping.Keeping.{Keeping}
 use Rattle.th_session.specs.declared.session.Answer as session
-use Rattle.th_session.specs.declared.session.Answer.TheVariants as answers
 use Rattle.th_session.specs.Answer.{said}
+use Rattle.th_session.specs.Ending.{AppendsFront, Devices}
 use Rattle.th_session.specs.Kept.{IsKept, Kept, Tells, kept_by, told}
-use Rattle.th_session.specs.Run.{Progress, Halts, HasQuit, IsAnswered, IsOver, Ran, Served, Serves, Took, fault_by, beginning, is_whole, line_turn, nothing_had, stands}
-use Rattle.th_session.specs.Script.{Answer}
-use Rattle.th_session.proofs.Kept.{as-before, keeps_as, told_reply}
+use Rattle.th_session.specs.Run.{AnsweredBy, Enters, Progress, Halts, IsAnswered, IsOver, Ran, Served, Serves, Took, fault_by, beginning, line_turn, may_wait, nothing_had, quitting, stands, tells_bye, writer_failures}
+use Rattle.th_session.specs.Script.{Answer, Replied, Told, Traced, has_quit}
+use Rattle.th_session.proofs.Endings.{all_answered, appended, first_halted, first_whole, first_within, fronts, held_back, past_lines, whole_answered}
+use Rattle.th_session.proofs.Kept.{as-before, keeps_as}
 
--- a fault is there
-no_fault : (e : SessionFault) → Some e ≡ None → ⊥
-no_fault e h = none-some e (sym h)
-
-quits_after : (a b : List (List ℕ)) → HasQuit b → HasQuit (a ++ b)
-quits_after a b q = (a ++ q.0, ap (λ (l : List (List ℕ)). a ++ l) q.1 ∙ sym (append_assoc a q.0 (spell Bye ∷ [])))
+-- an answer that is told as BYE is that of QUIT
+tells_quit : (answer : Answer) → tells_bye (told answer) ≡ has_quit answer
+tells_quit (Replied reply) = refl
+tells_quit (Told n receipt) = refl
+tells_quit (Traced n segment) = refl
 
 module _ {D : Type 0} (keeping : Keeping) (says : D → (q : Query) → Said q → D → Type 0) where
-  -- it is to end before a line, or at it
-  halts_here : (old : (Kept × D) × Output) (ls : List Line) (e : SessionFault) (out : Output) → Says (is_whole (Some e)) [] old.1 out
-      → Halts keeping says old ls (Some e) (old.0, out)
-  halts_here old ls e out said = (breaks_here (is_whole (Some e)) old ls out said, λ h. absurd (no_fault e h))
+  -- it is to end before a line
+  halts_here : (line : Line) (at : Kept × D) (before after : Output) (why : Stop) → Enters {A = Unit {0}} before after (Err why)
+      → Halts keeping says (at, before) (line ∷ []) why (at, after)
+  unfolding breaks_here
+  halts_here line at before after stop.Quit never = absurd never
+  halts_here line at before after stop.Gate said = (breaks_here true ((at, false), before) (line ∷ []) after said, omega arith)
+  halts_here line at before after stop.Write said = (false, breaks_here false ((at, false), before) (line ∷ []) after said)
 
   -- a line was not let through
-  pub kept_out : (line : Line) (s : Kept) (d e : D) (before after : Output) (fault : SessionFault) → e ≡ d →
-      Says (is_whole (Some fault)) [] before after
-      → Halts keeping says ((s, d), before) (line ∷ []) (Some fault) ((s, e), after)
-  kept_out line s d e before after fault same said =
-      subst (λ (x : D). Halts keeping says ((s, d), before) (line ∷ []) (Some fault) ((s, x), after)) (sym same)
-      (halts_here ((s, d), before) (line ∷ []) fault after said)
+  pub kept_out : (line : Line) (s : Kept) (d e : D) (before after : Output) (why : Stop) → e ≡ d →
+      Enters {A = Unit {0}} before after (Err why)
+      → Halts keeping says ((s, d), before) (line ∷ []) why ((s, e), after)
+  kept_out line s d e before after why same said =
+      subst (λ (x : D). Halts keeping says ((s, d), before) (line ∷ []) why ((s, x), after)) (sym same)
+      (halts_here line (s, d) before after why said)
 
   -- what is kept after a line
   keeps_line : (line : Line) (old new : Kept × D) (answer : Answer) → IsAnswered says line old answer new → IsKept old.0 answer new.0
@@ -63,15 +66,24 @@ module _ {D : Type 0} (keeping : Keeping) (says : D → (q : Query) → Said q �
     where
       -- the writer failed before it was carried out
       pub in_time_broken : new ≡ (s, e) → WritesFront (entered.waiting ++ []) entered after →
-          Halts keeping says ((s, d), before) (line ∷ []) (Some Write) (new, after)
-      in_time_broken at f = subst (λ (x : Kept × D). Halts keeping says ((s, d), before) (line ∷ []) (Some Write) (x, after))
-          (sym (at ∙ ap (λ (x : D). (s, x)) same)) (halts_here ((s, d), before) (line ∷ []) Write after (front_after [] p f))
+          Halts keeping says ((s, d), before) (line ∷ []) stop.Write (new, after)
+      in_time_broken at f = subst (λ (x : Kept × D). Halts keeping says ((s, d), before) (line ∷ []) stop.Write (x, after))
+          (sym (at ∙ ap (λ (x : D). (s, x)) same)) (halts_here line (s, d) before after stop.Write (front_after [] p f))
 
       -- it was carried out
       module _ (mid : Output) (tells : session.Answer) (t : Tells tells (λ answer. IsAnswered says line (s, e) answer new))
           (q : Adds [] entered mid) (left : Kept) (is : left ≡ kept_by keeping new.0) where
-        turned : line_turn keeping says (s, d) line (said t.0) (left, new.1)
-        turned = (t.0, new.0, subst (λ (x : D). IsAnswered says line (s, x) t.0 new) same t.2, is, refl)
+        turned : (quit : Bool) → quit ≡ tells_bye tells →
+            line_turn keeping says ((s, d), false) line (said t.0) ((left, new.1), quit)
+        turned quit bye = (
+          t.0,
+          new.0,
+          subst (λ (x : D). IsAnswered says line (s, x) t.0 new) same t.2,
+          is,
+          refl,
+          refl,
+          bye ∙ ap tells_bye t.1 ∙ tells_quit t.0,
+        )
 
         kept : IsKept s t.0 new.0
         kept = keeps_line line (s, e) new t.0 t.2
@@ -80,200 +92,205 @@ module _ {D : Type 0} (keeping : Keeping) (says : D → (q : Query) → Said q �
           put_on : Adds (said t.0) before after
           put_on = adds_both p (adds_both q (put t.0 s t.1 kept))
 
-          pub carries : Serves keeping says {A = Unit {0}} line ((s, d), before) ((left, new.1), after) (Ok tt)
-          carries = (said t.0, turned, put_on)
+          pub carries : false ≡ tells_bye tells → Serves keeping says {A = Unit {0}} line ((s, d), before) ((left, new.1), after) (Ok tt)
+          carries stays = (said t.0, turned false stays, put_on)
 
-          pub quits : tells ≡ answers.Reply Bye → Halts keeping says ((s, d), before) (line ∷ []) None ((left, new.1), after)
-          unfolding breaks_at
-          quits bye = (
-            breaks_at true ((s, d), before) line (said t.0) ((left, new.1), after) turned put_on,
-            λ h. ([], ap (λ (l : List ℕ). l ∷ []) (told_reply t.0 Bye (sym bye ∙ t.1))),
-          )
+          pub quits : true ≡ tells_bye tells → Halts keeping says ((s, d), before) (line ∷ []) stop.Quit ((left, new.1), after)
+          quits bye = breaks_at true (((s, d), false), before) line (said t.0) (((left, new.1), true), after) (turned true bye) put_on
 
         pub carries_broken : ((answer : Answer) (had : Kept) → tells ≡ told answer → IsKept had answer new.0 →
             WritesFront (mid.waiting ++ said answer) mid after)
-            → Halts keeping says ((s, d), before) (line ∷ []) (Some Write) ((left, new.1), after)
-        carries_broken put = (
-          breaks_at false ((s, d), before) line (said t.0) ((left, new.1), after) turned
-              (front_after (said t.0) p (front_after (said t.0) q (put t.0 s t.1 kept))),
-          λ h. absurd (no_fault Write h),
-        )
+            → Halts keeping says ((s, d), before) (line ∷ []) stop.Write ((left, new.1), after)
+        carries_broken put =
+            let quit : Bool = tells_bye tells in (
+              quit,
+              breaks_at false (((s, d), false), before) line (said t.0) (((left, new.1), quit), after) (turned quit refl)
+                  (front_after (said t.0) p (front_after (said t.0) q (put t.0 s t.1 kept))),
+            )
+
+  -- it is to end behind lines that were answered
+  halts_after : (from old new : (Kept × D) × Output) (lines more : List Line) (why : Stop)
+      → Answers (line_turn keeping says) (quitting false from) lines (quitting false old)
+      → Halts keeping says old more why new → Halts keeping says from (lines ++ more) why new
+  unfolding breaks_after
+  halts_after from old new lines more stop.Quit a b = breaks_after a b
+  halts_after from old new lines more stop.Gate a b = (breaks_after a b.0, b.1)
+  halts_after from old new lines more stop.Write a b = (b.0, breaks_after a b.1)
 
 module _ {W D : Type 0} (says : D → (q : Query) → Said q → D → Type 0) (contents : W → Option (List ℕ)) where
   -- a run takes a line
-  pub takes_on : (line : Line) (old new : Progress × D × Tally W) (r : Result (Unit {0}) (Option SessionFault)) →
+  pub takes_on : (line : Line) (old new : Progress × D × Tally W) (r : Result (Unit {0}) Stop) →
       new.0.keeping ≡ old.0.keeping
       → Serves old.0.keeping says line (stands contents old) (stands contents new) r →
       Takes (Took says contents) (IsOver says contents) line old r new
-  unfolding breaks_after
   takes_on line old new (Ok x) same s = λ from lines t.
       let s' = subst (λ (k : Keeping). Serves k says line (stands contents old) (stands contents new) (Ok x)) t.0 s in
-      (same ∙ t.0, answers_line t.1 line s'.0 (stands contents new) s'.1 s'.2)
+      (same ∙ t.0, answers_line t.1 line s'.0 (quitting false (stands contents new)) s'.1 s'.2)
   takes_on line old new (Err why) same s = λ from lines t.
-      let s' = subst (λ (k : Keeping). Halts k says (stands contents old) (line ∷ []) why (stands contents new)) t.0 s in
-      let b = breaks_after t.1 s'.0 in
-      (b, λ h. quits_after t.1.texts s'.0.texts (s'.1 h))
+      halts_after from.0.keeping says (stands contents from) (stands contents old) (stands contents new) lines (line ∷ []) why t.1
+      (subst (λ (k : Keeping). Halts k says (stands contents old) (line ∷ []) why (stands contents new)) t.0 s)
 
   -- it settles
   pub settles_on : (old new : Progress × D × Tally W) → new.0.keeping ≡ old.0.keeping → new.0.kept ≡ old.0.kept → new.1 ≡ old.1
       → WritesAll old.0.waiting (stands contents old).1 (stands contents new).1 × (new.0.waiting ≡ [])
-      → Settles (Took says contents) (IsOver says contents) {A = Unit {0}} (λ p. Unit {0}) old (Ok tt) new
+      → Settles (Took says contents) (IsOver says contents) {A = Unit {0}} (λ p. p.0.waiting ≡ []) old (Ok tt) new
   settles_on old new same actor desk f = (
     λ from lines t. (
       same ∙ t.0,
-      subst (λ (x : Kept × D). Answers (line_turn from.0.keeping says) (stands contents from) lines (x, (stands contents new).1))
+      subst (λ (x : Kept × D). Answers (line_turn from.0.keeping says) (quitting false (stands contents from)) lines
+          ((x, false), (stands contents new).1))
           (λ i. (sym actor i, sym desk i)) (answers_on t.1 (stands contents new).1 (flushed_adds f.0 f.1)),
     ),
-    tt,
+    f.1,
   )
 
   pub settles_broken : (old new : Progress × D × Tally W) → new.0.kept ≡ old.0.kept → new.1 ≡ old.1
       → WritesFront old.0.waiting (stands contents old).1 (stands contents new).1
       → (from : Progress × D × Tally W) (lines : List Line) → Took says contents from lines old →
-      IsOver says contents from lines (Some Write) new
+      IsOver says contents from lines stop.Write new
   settles_broken old new actor desk f from lines t =
+      let at = (stands contents old).0 in
       let out = (stands contents new).1 in
-      let b = breaks_after t.1 (breaks_here false (stands contents old) [] out (waiting_front (adds_none (stands contents old).1) f)) in
-      subst (λ (x : Kept × D). Halts from.0.keeping says (stands contents from) lines (Some Write) (x, out))
+      let front = waiting_front (adds_none (stands contents old).1) f in
+      let b = breaks_after t.1 (breaks_here false ((at, false), (stands contents old).1) [] out front) in
+      subst (λ (x : Kept × D). Halts from.0.keeping says (stands contents from) lines stop.Write (x, out))
       (λ i. (sym actor i, sym desk i))
-      (subst (λ (ls : List Line). Halts from.0.keeping says (stands contents from) ls (Some Write) ((stands contents old).0, out))
-      (append-nil lines) (b, λ h. absurd (no_fault Write h)))
+      (subst (λ (ls : List Line). Halts from.0.keeping says (stands contents from) ls stop.Write (at, out)) (append-nil lines) (false, b))
 
--- how a run has ended, and what waits still
-pub record Ends {D : Type 0} (turn : Kept × D → Line → List ℕ → Kept × D → Type 0) (r r' : Option (List ℕ)) (d : D) (before : Output)
-    (fault : Option SessionFault)
-    (s : Kept × D) (out : Output) : Type 0 where
-  pub input : List ℕ
-  pub read : Consumes r r' input
-  pub ended : Bool
-  pub whole : ended ≡ true → IsAtEnd r'
-  pub done : List Line
-  pub later : List Line
-  pub lines : lines_from ended [] input ≡ done ++ later
-  pub texts : List (List ℕ)
-  pub turned : Turned turn done (nothing_had, d) texts s
-  pub said : Says (is_whole fault) (concat texts) before out
-  pub over : fault ≡ None → HasQuit texts ⊎ ((later ≡ []) × (ended ≡ true))
-
+-- A run from its beginning on, its devices before and after it, and where it stands.
 module _ {W D : Type 0} (keeping : Keeping) (says : D → (q : Query) → Said q → D → Type 0) (contents : W → Option (List ℕ))
-    (r r' : Option (List ℕ)) (d : D)
-    (w : Tally W) where
-  abbrev start : Progress × D × Tally W
-  start = (beginning keeping, d, w)
+    (old new : Devices) (d : D) (w : Tally W) (before : old.contents ≡ contents w.device) (f : Feeding)
+    (now : Progress × D × Tally W) (few : f.taken ≤ f.limit) where
+  abbrev first : Progress × D × Tally W
+  first = (beginning keeping, d, w)
 
-  abbrev before : Output
-  before = output contents w []
+  abbrev out : Output
+  out = output contents w []
 
-  -- lines may come still
-  ends_within : (reads : ℕ) (f : Feeding) (now : Progress × D × Tally W) (e : SessionFault) → is_whole (Some e) ≡ true
-      → Underway (Took says contents) (IsOver says contents) r r' start reads f now
-      → Ends (line_turn keeping says) r r' d before (Some e) (stands contents now).0 (stands contents now).1
-  ends_within reads f now e whole u = record {
-    input = u.input;
-    read = u.read;
-    ended = false;
-    whole = λ h. absurd (false≢true h);
-    done = u.done;
-    later = lines_after false f.came [];
-    lines = ap (λ (l : List ℕ). lines_from false [] l) (sym (append-nil u.input)) ∙ u.lines false [];
-    texts = u.stands.1.texts;
-    turned = u.stands.1.turned;
-    said = subst (λ (b : Bool). Says b (concat u.stands.1.texts) before (stands contents now).1) (sym whole) u.stands.1.said;
-    over = λ h. absurd (no_fault e h);
-  }
+  abbrev at : (Kept × D) × Output
+  at = stands contents now
 
-  -- by why no further line is fed
-  pub ends_by : (spent : Type 0) (reads : ℕ) (fed : Fed (Option SessionFault)) (f : Feeding) (now : Progress × D × Tally W)
-      → Stands (Took says contents) (IsOver says contents) r r' start (λ p. Unit {0}) spent reads fed f now
-      → Ends (line_turn keeping says) r r' d before (fault_by fed) (stands contents now).0 (stands contents now).1
-  ends_by spent reads why.Ended f now q = record {
-    input = q.input;
-    read = q.read;
-    ended = true;
-    whole = λ _. q.whole;
-    done = lines_of q.input;
-    later = [];
-    lines = sym (append-nil (lines_of q.input));
-    texts = q.stands.1.texts;
-    turned = q.stands.1.turned;
-    said = q.stands.1.said;
-    over = λ _. inr (refl, refl);
-  }
-  ends_by spent reads (why.Stopped fault) f now q =
-      let b = q.stands.0 in
-      let first = q.lines f.ended [] (λ e. (e, refl)) in
-      record {
-        input = q.input;
-        read = q.read;
-        ended = f.ended;
-        whole = q.whole;
-        done = b.done;
-        later = b.later ++ first.0;
-        lines = ap (λ (l : List ℕ). lines_from f.ended [] l) (sym (append-nil q.input)) ∙ first.1
-            ∙ ap (λ (l : List Line). l ++ first.0) b.parts
-            ∙ append_assoc b.done b.later first.0;
-        texts = b.texts;
-        turned = b.turned;
-        said = b.said;
-        over = λ h. inl (q.stands.1 h);
-      }
-  ends_by spent reads why.Full f now q = ends_within reads f now TooLong refl q.0
-  ends_by spent reads why.Failed f now q = ends_within reads f now Read refl q.0
-  ends_by spent reads why.Spent f now q = ends_within reads f now TooLong refl q.0
+  -- these lines were answered by this text, and whether the last one by BYE
+  abbrev By : Bool → List Line → List ℕ → Type 0
+  By quit = AnsweredBy keeping says d at.0 quit
 
-  -- and what was written at the end
-  module _ (fault : Option SessionFault) (s : Kept × D) (out : Output) (q : Ends (line_turn keeping says) r r' d before fault s out) where
-    ran : (end : Option SessionFault) (after : Output) → Ended (is_whole end) (concat q.texts) before after → (end ≡ None → fault ≡ None)
-        → Ran keeping says r r' before (record after { waiting = [] }) d s end
-    ran end after wrote same = record {
-      input = q.input;
-      read = q.read;
-      ended = q.ended;
-      whole = q.whole;
-      done = q.done;
-      later = q.later;
-      lines = q.lines;
-      texts = q.texts;
-      turned = q.turned;
-      wrote = at_end (is_whole end) (concat q.texts) before after wrote;
-      over = λ e. q.over (same e);
-    }
+  -- how the run has ended, and how often the writer has failed
+  abbrev pub Comes : (reads failures : ℕ) → Option SessionFault → Type 0
+  Comes reads failures fault = Ran keeping says f.limit reads old new d at.0 fault × (failures ≡ writer_failures w.failures fault)
 
-    module _ (e : is_whole fault ≡ true) where
-      adds : Adds (concat q.texts) before out
-      adds = subst (λ (b : Bool). Says b (concat q.texts) before out) e q.said
+  module _ (after : Output) (same : new.contents ≡ after.written) where
+    -- so much of a text was written
+    wrote : (text : List ℕ) → WritesAll text out after → Appends old.contents new.contents text
+    wrote text g = appended old new out after before same text g.wrote
 
-      pub ran_whole : (after : Output) → WritesAll out.waiting out after →
-          Ran keeping says r r' before (record after { waiting = [] }) d s fault
-      ran_whole after f = ran fault after (subst (λ (b : Bool). Ended b (concat q.texts) before after) (sym e) (wrote_all refl adds f))
-          (λ h. h)
+    wrote_part : (text : List ℕ) → WritesFront text out after → AppendsFront old.contents new.contents text
+    wrote_part text g = fronts old new out after before same text g
 
-      pub ran_broken : (after : Output) → WritesFront out.waiting out after →
-          Ran keeping says r r' before (record after { waiting = [] }) d s (Some Write)
-      ran_broken after f = ran (Some Write) after (wrote_front refl adds f) (λ h. absurd (no_fault Write h))
+    -- all replies of lines that were taken are written, or a front of them
+    shown : WritesAll at.1.waiting at.1 after → (lines : List Line) → Took says contents first lines now
+        → (text : List ℕ) × By false lines text × Appends old.contents new.contents text
+    shown g lines t =
+        let text : List ℕ = concat t.1.texts in
+        (text, (t.1.texts, t.1.turned, refl), wrote text (wrote_all refl t.1.said g))
 
-    pub ran_failed : is_whole fault ≡ false → Ran keeping says r r' before (record out { waiting = [] }) d s fault
-    ran_failed e = ran fault out (subst (λ (b : Bool). Ended b (concat q.texts) before out) (sym e)
-        (subst (λ (b : Bool). Says b (concat q.texts) before out) e q.said)) (λ h. h)
+    shown_front : WritesFront at.1.waiting at.1 after → (lines : List Line) → Took says contents first lines now
+        → (text : List ℕ) × By false lines text × AppendsFront old.contents new.contents text
+    shown_front g lines t =
+        let text : List ℕ = concat t.1.texts in
+        (text, (t.1.texts, t.1.turned, refl), wrote_part text (wrote_front refl t.1.said g))
+
+  module _ (reads : ℕ) where
+    abbrev spent : Type 0
+    spent = kept_count new.calls ≡ kept_count (old.calls + reads)
+
+    abbrev Here : Fed Stop → Type 0
+    Here fed = Stands (Took says contents) (IsOver says contents) old.remaining new.remaining first (λ p. p.0.waiting ≡ []) spent reads
+        fed f now
+
+    -- it ended with no reply left
+    pub ends_at_once : (fed : Fed Stop) → Here fed → new.contents ≡ at.1.written → may_wait (fault_by fed) ≡ false →
+        Comes reads at.1.failures (fault_by fed)
+    ends_at_once why.Ended s same e = absurd (false≢true (sym e))
+    ends_at_once (why.Stopped stop.Quit) s same e = absurd (false≢true (sym e))
+    ends_at_once (why.Stopped stop.Gate) s same e = absurd (false≢true (sym e))
+    ends_at_once (why.Stopped stop.Write) s same e =
+        let b = s.stands.1 in
+        let text : List ℕ = concat b.texts in
+        let ran = first_halted (By s.stands.0) old new first now f few AppendsFront stop.Write s b.done b.later b.parts text
+        (b.texts, b.turned, refl) (wrote_part at.1 same text b.said) in
+        ((s.stands.0, ran), b.said.failed)
+    ends_at_once why.Full s same e = absurd (false≢true (sym e))
+    ends_at_once why.Failed s same e =
+        let all : WritesAll at.1.waiting at.1 at.1 = subst (λ (l : List ℕ). WritesAll l at.1 at.1) (sym s.2)
+        (record { wrote = Appends-nil at.1.written; same = refl }) in
+        (all_answered (By false) old new first now f few reads s.0 s.1 (shown at.1 same all), s.0.stands.1.said.same)
+    ends_at_once why.Spent s same e = absurd (false≢true (sym e))
+
+    module _ (after : Output) (same : new.contents ≡ after.written) where
+      -- and then all replies were written
+      pub ends_written : (fed : Fed Stop) → Here fed → WritesAll at.1.waiting at.1 after → may_wait (fault_by fed) ≡ true →
+          Comes reads after.failures (fault_by fed)
+      ends_written why.Ended s g e =
+          (inl (whole_answered (By false) old new first now f few s (shown after same g)), g.same ∙ s.stands.1.said.same)
+      ends_written (why.Stopped stop.Quit) s g e =
+          let b = s.stands in
+          let text : List ℕ = concat b.texts in
+          let all = wrote_all refl b.said g in
+          let ran = first_halted (By true) old new first now f few Appends stop.Quit s b.done b.later b.parts text
+          (b.texts, b.turned, refl) (wrote after same text all) in
+          (inr ran, all.same)
+      ends_written (why.Stopped stop.Gate) s g e =
+          let b = s.stands.0 in
+          let text : List ℕ = concat b.texts in
+          let all = wrote_all refl b.said g in
+          let ran = held_back (By false) old new first now f few Appends stop.Gate s b.done b.later b.parts text
+          (b.texts, b.turned, refl) (wrote after same text all) s.stands.1 in
+          (ran, all.same)
+      ends_written (why.Stopped stop.Write) s g e = absurd (false≢true e)
+      ends_written why.Full s g e =
+          (inl (past_lines (By false) old new first now f few reads s.0 s.1 (shown after same g)), g.same ∙ s.0.stands.1.said.same)
+      ends_written why.Failed s g e = absurd (false≢true e)
+      ends_written why.Spent s g e =
+          (inr (all_answered (By false) old new first now f few reads s.0 s.1 (shown after same g), s.2), g.same ∙ s.0.stands.1.said.same)
+
+      -- or the writer failed
+      pub ends_broken : (fed : Fed Stop) → Here fed → WritesFront at.1.waiting at.1 after → may_wait (fault_by fed) ≡ true →
+          Comes reads after.failures (Some Write)
+      ends_broken why.Ended s g e = (
+        (false, first_whole (By false) old new first now f few s AppendsFront (shown_front after same g)),
+        g.failed ∙ ap one_more s.stands.1.said.same,
+      )
+      ends_broken (why.Stopped stop.Quit) s g e =
+          let b = s.stands in
+          let text : List ℕ = concat b.texts in
+          let front = wrote_front refl b.said g in
+          let ran = first_halted (By true) old new first now f few AppendsFront stop.Quit s b.done b.later b.parts text
+          (b.texts, b.turned, refl) (wrote_part after same text front) in
+          ((true, ran), front.failed)
+      ends_broken (why.Stopped stop.Gate) s g e =
+          let b = s.stands.0 in
+          let text : List ℕ = concat b.texts in
+          let front = wrote_front refl b.said g in
+          let ran = first_halted (By false) old new first now f few AppendsFront stop.Gate s b.done b.later b.parts text
+          (b.texts, b.turned, refl) (wrote_part after same text front) in
+          ((false, ran), front.failed)
+      ends_broken (why.Stopped stop.Write) s g e = absurd (false≢true e)
+      ends_broken why.Full s g e = (
+        (false, first_within (By false) old new first now f few reads s.0 AppendsFront (shown_front after same g)),
+        g.failed ∙ ap one_more s.0.stands.1.said.same,
+      )
+      ends_broken why.Failed s g e = absurd (false≢true e)
+      ends_broken why.Spent s g e = (
+        (false, first_within (By false) old new first now f few reads s.0 AppendsFront (shown_front after same g)),
+        g.failed ∙ ap one_more s.0.stands.1.said.same,
+      )
 
 -- there was no memory for the buffers
-pub served_short : {D : Type 0} (keeping : Keeping) (says : D → (q : Query) → Said q → D → Type 0) (r : Option (List ℕ)) (before : Output)
-    (d : D) (left : Kept) → left ≡ nothing_had → Served keeping says r r before before d d left (Some Short)
-served_short keeping says r before d left e = record {
+pub served_short : {D : Type 0} (keeping : Keeping) (says : D → (q : Query) → Said q → D → Type 0) (lines reads : ℕ) (here : Devices)
+    (d : D) (left : Kept) → left ≡ nothing_had → Served keeping says lines reads here here d d left (Some Short)
+served_short keeping says lines reads here d left e = record {
   last = (nothing_had, d);
-  ran = record {
-    input = [];
-    read = Consumes-nil r;
-    ended = false;
-    whole = λ h. absurd (false≢true h);
-    done = [];
-    later = [];
-    lines = refl;
-    texts = [];
-    turned = refl;
-    wrote = record { wrote = Appends-nil before.written; same = refl };
-    over = λ h. absurd (no_fault Short h);
-  };
+  ran = (refl, refl);
   spent = (refl, refl, refl);
   kept = e;
 }

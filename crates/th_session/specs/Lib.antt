@@ -8,4 +8,5 @@ pub mod Laws
 pub mod Answer
 pub mod Quiet
 pub mod Pieces
+pub mod Ending
 pub mod Run

@@ -1,11 +1,11 @@
 -- A session's run: its lines are answered one after another at a desk, until it ends, and then its handles are spent.
-use Rattle.std.specs.Prelude.{◌≡◌, ◌⊎◌, ℕ, Bool, true, false, List, [], ◌∷◌, ◌++◌, Option, Some, None, Result, Ok, Err}
-use Rattle.std.specs.Io.KnownBytes.{Consumes, IsAtEnd}
+use Rattle.std.specs.Prelude.{◌≡◌, ◌⊎◌, ℕ, ◌<◌, Bool, true, false, List, [], ◌∷◌, ◌++◌, length, Option, Some, None, Result, Ok, Err}
+use Rattle.std.specs.Io.KnownBytes.{Appends}
 use Rattle.std.specs.List.{concat}
-use Rattle.th_lines.specs.Answering.{Answers, Breaks, Ended, Says, Turned}
-use Rattle.th_lines.specs.Lines.{Line, Good, Long, lines_from}
+use Rattle.th_lines.specs.Answering.{Answers, Breaks, Turned}
+use Rattle.th_lines.specs.Device.{one_more}
+use Rattle.th_lines.specs.Lines.{Line, Good, Long}
 use Rattle.th_lines.specs.Output.{Output, Adds, WritesFront, output}
-use Rattle.th_lines.specs.Replies.{spell}
 use Rattle.th_lines.specs.Tally.{Tally}
 use Rattle.th_lines.specs.declared.feeder.Fed.{Fed}
 use Rattle.th_lines.specs.declared.feeder.Fed.TheVariants as why
@@ -14,12 +14,16 @@ use Rattle.th_lines.specs.declared.reply.Reply.TheVariants.{Bye, Refused}
 use Rattle.th_registry.specs.Hub.{Query, Said}
 use Rattle.th_session.specs.declared.keeping.Keeping.{Keeping}
 use Rattle.th_session.specs.declared.session.Answer as session
+use Rattle.th_session.specs.declared.session.Answer.TheVariants as answers
 use Rattle.th_session.specs.declared.fault.SessionFault.{SessionFault}
-use Rattle.th_session.specs.declared.fault.SessionFault.TheVariants.{Read, Write, TooLong}
+use Rattle.th_session.specs.declared.fault.SessionFault.TheVariants.{Read, Write, TooLong, Gate, Short}
+use Rattle.th_session.specs.declared.fault.Stop.{Stop}
+use Rattle.th_session.specs.declared.fault.Stop.TheVariants as stop
 use Rattle.th_session.specs.Answer as desk
 use Rattle.th_session.specs.Answer.{said}
+use Rattle.th_session.specs.Ending.{AllAnswered, AppendsFront, Devices, FirstAnswered, WasTooLong, WholeAnswered}
 use Rattle.th_session.specs.Kept.{Kept, Tells, kept_by}
-use Rattle.th_session.specs.Script.{Answer, Plays, Replied, spend_all}
+use Rattle.th_session.specs.Script.{Answer, Plays, Replied, has_quit, spend_all}
 
 -- an actor that has nothing
 abbrev pub nothing_had : Kept
@@ -40,30 +44,47 @@ abbrev pub stands : {W D : Type 0} → (W → Option (List ℕ)) → Progress ×
     (Kept × D) × Output
 stands contents p = ((p.0.kept, p.1), output contents p.2 p.0.waiting)
 
--- the last of these texts is the reply to QUIT
-abbrev pub HasQuit : List (List ℕ) → Type 0
-HasQuit texts = (front : List (List ℕ)) × (texts ≡ front ++ spell Bye ∷ [])
-
--- whether all texts are written, where a run ended so
-abbrev pub is_whole : Option SessionFault → Bool
-is_whole (Some Write) = false
-is_whole fault = true
+-- the same, of an actor that has quit, or has not
+abbrev pub quitting : {D : Type 0} → Bool → (Kept × D) × Output → ((Kept × D) × Bool) × Output
+quitting quit at = ((at.0, quit), at.1)
 
 -- the fault by which a run ends, by why no further line is fed
-abbrev pub fault_by : Fed (Option SessionFault) → Option SessionFault
+abbrev pub fault_by : Fed Stop → Option SessionFault
 fault_by why.Ended = None
-fault_by (why.Stopped fault) = fault
+fault_by (why.Stopped stop.Quit) = None
+fault_by (why.Stopped stop.Gate) = Some Gate
+fault_by (why.Stopped stop.Write) = Some Write
 fault_by why.Full = Some TooLong
 fault_by why.Failed = Some Read
 fault_by why.Spent = Some TooLong
 
-abbrev pub fault_of : {A : Type 0} → Result A SessionFault → Option SessionFault
-fault_of (Ok a) = None
-fault_of (Err e) = Some e
+-- whether replies may wait still where a run ends so: none does after the settling before a read, or a failed write
+abbrev pub may_wait : Option SessionFault → Bool
+may_wait (Some Read) = false
+may_wait (Some Write) = false
+may_wait fault = true
 
--- a line was let through, and nothing was said; or there was a fault
-abbrev pub Enters : {A : Type 0} → Output → Output → Result A SessionFault → Type 0
-Enters before after result = Says (is_whole (fault_of result)) [] before after
+-- the reader's failures, and the writer's, after a run that ended so
+abbrev pub reader_failures : ℕ → Option SessionFault → ℕ
+reader_failures n (Some Read) = one_more n
+reader_failures n fault = n
+
+abbrev pub writer_failures : ℕ → Option SessionFault → ℕ
+writer_failures n (Some Write) = one_more n
+writer_failures n fault = n
+
+-- whether an answer that is told so is BYE
+abbrev pub tells_bye : session.Answer → Bool
+tells_bye (answers.Reply reply) = has_quit (Replied reply)
+tells_bye answers.Event = false
+tells_bye answers.Trace = false
+
+-- a line was let through, and nothing was said; or it was not, or the writer failed
+abbrev pub Enters : {A : Type 0} → Output → Output → Result A Stop → Type 0
+Enters before after (Ok a) = Adds [] before after
+Enters before after (Err stop.Gate) = Adds [] before after
+Enters before after (Err stop.Write) = WritesFront (before.waiting ++ []) before after
+Enters before after (Err stop.Quit) = ⊥
 
 module _ {D : Type 0} (says : D → (q : Query) → Said q → D → Type 0) where
   -- the answer to a line; what is too long is answered 23, and nothing has changed
@@ -81,59 +102,72 @@ module _ {D : Type 0} (says : D → (q : Query) → Said q → D → Type 0) whe
 
 -- where a run keeps so much of its answers
 module _ {D : Type 0} (keeping : Keeping) (says : D → (q : Query) → Said q → D → Type 0) where
-  -- a line was answered, by this text; and of what the actor has then, that is left which the run keeps
-  abbrev pub line_turn : Kept × D → Line → List ℕ → Kept × D → Type 0
+  -- A line was answered by this text, by an actor that had not quit; it has quit then where the answer is BYE. Of what the
+  -- actor has then, that is left which the run keeps.
+  abbrev pub line_turn : (Kept × D) × Bool → Line → List ℕ → (Kept × D) × Bool → Type 0
   line_turn old line text new =
-      (answer : Answer) × (has : Kept) × IsAnswered says line old answer (has, new.1)
-      × (new.0 ≡ kept_by keeping has) × (text ≡ said answer)
+      (answer : Answer) × (has : Kept) × IsAnswered says line old.0 answer (has, new.0.1)
+      × (new.0.0 ≡ kept_by keeping has) × (text ≡ said answer)
+      × (old.1 ≡ false) × (new.1 ≡ has_quit answer)
 
-  -- These lines were answered, as far as they were done, and the run is to end: without a fault after BYE.
-  abbrev pub Halts : (Kept × D) × Output → List Line → Option SessionFault →
-      (Kept × D) × Output → Type 0
-  Halts old lines fault new = (b : Breaks line_turn (is_whole fault) old lines new)
-      × (fault ≡ None → HasQuit b.texts)
+  -- These lines were answered, as far as they were done, and no further one is: the last was answered BYE; or one of them was
+  -- not let through; or the writer failed.
+  abbrev pub Halts : (Kept × D) × Output → List Line → Stop → (Kept × D) × Output → Type 0
+  Halts old lines stop.Quit new =
+      Breaks line_turn true (quitting false old) lines (quitting true new)
+  Halts old lines stop.Gate new =
+      (b : Breaks line_turn true (quitting false old) lines (quitting false new))
+      × (0 < length b.later)
+  Halts old lines stop.Write new =
+      (quit : Bool) × Breaks line_turn false (quitting false old) lines (quitting quit new)
 
-  -- a line was answered by this text, or the run is to end
+  -- a line was answered by this text, and the actor has not quit; or the run is to end
   abbrev pub Serves : {A : Type 0} → Line → (Kept × D) × Output → (Kept × D) × Output →
-      Result A (Option SessionFault) → Type 0
+      Result A Stop → Type 0
   Serves line old new (Ok a) =
-      (text : List ℕ) × line_turn old.0 line text new.0 × Adds text old.1 new.1
-  Serves line old new (Err fault) = Halts old (line ∷ []) fault new
+      (text : List ℕ) × line_turn (old.0, false) line text (new.0, false) × Adds text old.1 new.1
+  Serves line old new (Err why) = Halts old (line ∷ []) why new
 
-  -- A run has ended. This was read, and its first lines are those that were done. Each was answered in turn, from an
-  -- actor that has nothing on; and what was written are the texts of the answers, or a front of them where the writer
-  -- failed. Without a fault the last line was answered BYE, or all were answered and the reader is at its end.
-  pub record Ran (reader reader' : Option (List ℕ)) (before after : Output) (desk : D)
-      (last : Kept × D) (fault : Option SessionFault) : Type 0 where
-    pub input : List ℕ
-    pub read : Consumes reader reader' input
-    pub ended : Bool
-    pub whole : ended ≡ true → IsAtEnd reader'
-    pub done : List Line
-    pub later : List Line
-    pub lines : lines_from ended [] input ≡ done ++ later
-    pub texts : List (List ℕ)
-    pub turned : Turned line_turn done (nothing_had, desk) texts last
-    pub wrote : Ended (is_whole fault) (concat texts) before after
-    pub over : fault ≡ None → HasQuit texts ⊎ ((later ≡ []) × (ended ≡ true))
+  -- From an actor that has nothing on, these lines were answered in turn by this text; and whether the last was answered BYE.
+  abbrev pub AnsweredBy : D → Kept × D → Bool → List Line → List ℕ → Type 0
+  AnsweredBy desk last quit lines text = (texts : List (List ℕ))
+      × Turned line_turn lines ((nothing_had, desk), false) texts (last, quit)
+      × (text ≡ concat texts)
+
+  -- at most so many lines and reads; where the devices and the desk stood, and where they and the actor stand then
+  module _ (lines reads : ℕ) (old new : Devices) (desk : D) (last : Kept × D) where
+    -- How a run ends. Without a fault the whole input was read and its lines are answered, or the last answer was BYE. At Read
+    -- all lines that came are answered. At TooLong a line beyond the bound began, or all reads were made and the input had
+    -- not ended. At Gate the line behind those that are answered was not let through. At Short nothing was read.
+    abbrev pub Ran : Option SessionFault → Type 0
+    Ran None =
+        WholeAnswered (AnsweredBy desk last false) lines old new
+        ⊎ FirstAnswered (AnsweredBy desk last true) lines old new Appends
+    Ran (Some Read) = AllAnswered (AnsweredBy desk last false) lines old new
+    Ran (Some Write) = (quit : Bool)
+        × FirstAnswered (AnsweredBy desk last quit) lines old new AppendsFront
+    Ran (Some TooLong) = WasTooLong (AnsweredBy desk last false) lines old new reads
+    Ran (Some Gate) = (f : FirstAnswered (AnsweredBy desk last false) lines old new Appends)
+        × (0 < length f.later)
+    Ran (Some Short) = (new ≡ old) × (last ≡ (nothing_had, desk))
 
   -- And then every handle was spent, in the order of QUIT, whatever was said of it.
-  pub record Served (reader reader' : Option (List ℕ)) (before after : Output) (old new : D)
-      (left : Kept) (fault : Option SessionFault) : Type 0 where
+  pub record Served (lines reads : ℕ) (old new : Devices) (desk desk' : D) (left : Kept)
+      (fault : Option SessionFault) : Type 0 where
     pub last : Kept × D
-    pub ran : Ran reader reader' before after old last fault
-    pub spent : Plays says (spend_all last.0.handles) last.1 (Replied Bye) [] new
+    pub ran : Ran lines reads old new desk last fault
+    pub spent : Plays says (spend_all last.0.handles) last.1 (Replied Bye) [] desk'
     pub kept : left ≡ record last.0 { handles = [] }
 
--- a run took these lines
-abbrev pub Took : {W D : Type 0} → (D → (q : Query) → Said q → D → Type 0) → (W → Option (List ℕ)) →
-    Progress × D × Tally W → List Line → Progress × D × Tally W → Type 0
-Took says contents old lines new = (new.0.keeping ≡ old.0.keeping)
-    × Answers (line_turn old.0.keeping says) (stands contents old) lines (stands contents new)
+module _ {W D : Type 0} (says : D → (q : Query) → Said q → D → Type 0)
+    (contents : W → Option (List ℕ)) where
+  -- a run took these lines
+  abbrev pub Took : Progress × D × Tally W → List Line → Progress × D × Tally W → Type 0
+  Took old lines new = (new.0.keeping ≡ old.0.keeping)
+      × Answers (line_turn old.0.keeping says)
+      (quitting false (stands contents old)) lines (quitting false (stands contents new))
 
--- or it is to end
-abbrev pub IsOver : {W D : Type 0} → (D → (q : Query) → Said q → D → Type 0) →
-    (W → Option (List ℕ)) →
-    Progress × D × Tally W → List Line → Option SessionFault → Progress × D × Tally W → Type 0
-IsOver says contents old lines fault new =
-    Halts old.0.keeping says (stands contents old) lines fault (stands contents new)
+  -- or no further one is taken
+  abbrev pub IsOver : Progress × D × Tally W → List Line → Stop → Progress × D × Tally W → Type 0
+  IsOver old lines why new =
+      Halts old.0.keeping says (stands contents old) lines why (stands contents new)

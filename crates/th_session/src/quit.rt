@@ -1,4 +1,5 @@
-//! The end of all that an actor holds.
+//! The end of all that an actor holds. What a desk does not spend is let go: a desk refuses the last event only of a handle that is
+//! not live, and then its share came back when it was spent.
 ghost use Rattle.std.specs.Prelude.{◌≡◌, []};
 ghost use Rattle.std.specs.Option.{option_map};
 ghost use Rattle.th_session.specs.Held.{Holding, held, numbers};

@@ -6,7 +6,7 @@ ghost use Rattle.th_lines.specs.Output.{AddsOrFails, Flushes, output};
 ghost use Rattle.th_session.specs.Answer.{PutsTold};
 ghost use Rattle.th_session.specs.Run.{Enters};
 
-use crate::fault::SessionFault;
+use crate::fault::Stop;
 use crate::gate::Gate;
 use crate::sends_ahead::SendsAhead;
 use crate::session::{Answer, Session};
@@ -252,7 +252,7 @@ impl<'a, C: Clock, G: Gate> Replies<'a, C, G> {
         desk: &mut D,
         writer: &mut Counted<W>,
         answered: u64,
-    ) -> Result<(), SessionFault>
+    ) -> Result<(), Stop>
         ensures desk { desk.new ≡ desk.old }
         ensures wrote { Enters
             (output W.contents writer.old self.old) (output W.contents writer.new self.new) result }
@@ -264,14 +264,14 @@ impl<'a, C: Clock, G: Gate> Replies<'a, C, G> {
         for _ in 1..MOST_ASKS {
             match self.settle(desk, writer, answered) {
                 Ok(()) => {}
-                Err(_) => return Err(SessionFault::Write),
+                Err(_) => return Err(Stop::Write),
             }
             sleep(self.clock, Duration::from_millis(PAUSE));
             if self.gate.may(self.session, line) {
                 return Ok(());
             }
         }
-        Err(SessionFault::Gate)
+        Err(Stop::Gate)
     }
 
     /// Puts the text of the answer that the session was given last behind what waits. Where that may write, who waits for

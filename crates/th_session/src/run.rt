@@ -1,12 +1,15 @@
 //! A session's run: lines are read, carried out one by one, and answered.
-ghost use Rattle.std.specs.Prelude.{◌≡◌, [], IfOk, true};
+ghost use Rattle.std.specs.Prelude.{◌≡◌, ◌≤◌, ◌+◌, ◌^◌, ℕ, IfOk};
 ghost use Rattle.th_lines.specs.Feeding as feeding;
+ghost use Rattle.th_lines.specs.Feeding.{failures_by};
 ghost use Rattle.th_lines.specs.Intake.{line_given};
 ghost use Rattle.th_lines.specs.Output.{output};
-ghost use Rattle.th_session.specs.Run.{AnswersInTime, Ran, Served, Serves, beginning, fault_by, is_whole};
+ghost use Rattle.th_session.specs.Ending.{devices};
+ghost use Rattle.th_session.specs.Run.{AnswersInTime, Ran, Served, Serves, beginning, fault_by, may_wait, reader_failures, tells_bye, writer_failures};
+ghost use Rattle.th_session.specs.Script.{Replied, has_quit};
 
 use crate::answer::refused;
-use crate::fault::SessionFault;
+use crate::fault::{SessionFault, Stop};
 use crate::gate::Gate;
 use crate::keeping::Keeping;
 use crate::replies::Replies;
@@ -45,10 +48,24 @@ impl<'a, D: Desk, C, G> Model for Run<'a, D, C, G> {
 }
 
 // Whether this is the reply to `QUIT`.
-fn is_bye(answer: &Answer) -> bool
-    ensures { result ≡ true → answer.now ≡ Answer.Reply Reply.Bye }
+fn is_bye(reply: &Reply) -> bool
+    ensures { result ≡ has_quit (Replied reply.now) }
 {
-    matches!(answer, Answer::Reply(Reply::Bye))
+    match reply {
+        Reply::Bye => true,
+        _ => false,
+    }
+}
+
+// Whether the actor has quit who is answered so.
+fn tells_bye(answer: &Answer) -> bool
+    ensures { result ≡ tells_bye answer.now }
+{
+    match answer {
+        Answer::Reply(reply) => is_bye(reply),
+        Answer::Event => false,
+        Answer::Trace => false,
+    }
 }
 
 // Carries out a line, and settles before one that would wait. So many lines were answered. The line is lent from the intake,
@@ -83,7 +100,7 @@ fn answer_in_time<C: Clock, G: Gate, D: Desk, W: Write>(
 }
 
 // Carries out the next line once the gate lets it through, puts its reply behind those that wait, and lets go of what is
-// not kept. The run is to end without a fault where the reply is `BYE`. So many lines were answered.
+// not kept. So many lines were answered.
 #[inline(always)]
 fn serve<C: Clock, G: Gate, D: Desk, W: Write>(
     session: &mut Session<D>,
@@ -95,53 +112,49 @@ fn serve<C: Clock, G: Gate, D: Desk, W: Write>(
     answered: u64,
     line: Option<&[u8]>,
     intake: &Intake,
-) -> Result<(), Option<SessionFault>>
+) -> Result<(), Stop>
     ensures { Serves keeping D.says (line_given line.entry)
         ((session.old, desk.old), output W.contents writer.old replies.old)
         ((session.new, desk.new), output W.contents writer.new replies.new) result }
 {
     match replies.enter(desk, writer, answered) {
         Ok(()) => {}
-        Err(e) => return Err(Some(e)),
+        Err(e) => return Err(e),
     }
     match answer_in_time(
         session, replies, alloc, desk, writer, answered, line, intake,
     ) {
         Ok(answer) => {
-            let quits = is_bye(&answer);
+            let quits = tells_bye(&answer);
             let put = replies.put(session, answer, desk, writer);
             session.let_go(keeping);
             match put {
-                Ok(()) if quits => Err(None),
+                Ok(()) if quits => Err(Stop::Quit),
                 Ok(()) => Ok(()),
-                Err(_) => Err(Some(SessionFault::Write)),
+                Err(_) => Err(Stop::Write),
             }
         }
-        Err(_) => Err(Some(SessionFault::Write)),
+        Err(_) => Err(Stop::Write),
     }
 }
 
 impl<'a, D: Desk, C: Clock, G: Gate, W: Write> TakesLines<D, Counted<W>> for Run<'a, D, C, G> {
+    ghost use Rattle.std.specs.Prelude.{◌≡◌, []};
     ghost use Rattle.th_session.specs.Run.{IsOver, Took};
 
-    type Stop = Option<SessionFault>;
+    type Stop = Stop;
 
     ghost took = { Took D.says W.contents };
 
     ghost halts = { IsOver D.says W.contents };
 
-    ghost is_settled = { λ p. Unit {0} };
+    ghost is_settled = { λ p. p.0.waiting ≡ [] };
 
     // Wakes who waits, writes all that waits, and tells the gate.
-    fn settle(
-        &mut self,
-        desk: &mut D,
-        writer: &mut Counted<W>,
-        taken: u64,
-    ) -> Result<(), Option<SessionFault>> {
+    fn settle(&mut self, desk: &mut D, writer: &mut Counted<W>, taken: u64) -> Result<(), Stop> {
         match self.replies.settle(desk, writer, taken) {
             Ok(()) => Ok(()),
-            Err(_) => Err(Some(SessionFault::Write)),
+            Err(_) => Err(Stop::Write),
         }
     }
 
@@ -155,7 +168,7 @@ impl<'a, D: Desk, C: Clock, G: Gate, W: Write> TakesLines<D, Counted<W>> for Run
         taken: u64,
         line: Option<&[u8]>,
         intake: &Intake,
-    ) -> Result<(), Option<SessionFault>> {
+    ) -> Result<(), Stop> {
         serve(
             &mut self.session,
             &mut self.replies,
@@ -210,16 +223,21 @@ impl<'a, D: Desk, C: Clock, G: Gate> Run<'a, D, C, G> {
     ) -> Option<SessionFault>
         requires feeder { feeder.old ≡ feeding.beginning feeder.old.limit }
         requires run { self.old ≡ beginning self.old.keeping }
-        ensures { Ran self.old.keeping D.says
-            (R.remaining reader.old.device) (R.remaining reader.new.device)
-            (output W.contents writer.old []) (output W.contents writer.new [])
-            desk.old (self.new.kept, desk.new) result }
+        ensures ran { Ran self.old.keeping D.says feeder.old.limit reads
+            (devices R.remaining reader.old W.contents writer.old)
+            (devices R.remaining reader.new W.contents writer.new)
+            desk.old (self.new.kept, desk.new) result
+            × (writer.new.failures ≡ writer_failures writer.old.failures result) }
+        ensures reads { reader.new.calls ≤ reader.old.calls + reads }
+        ensures reader { reader.new.failures ≡ reader_failures reader.old.failures result }
     {
-        let fault = fault_by(feeder.feed(self, alloc, desk, writer, reader, reads));
-        if !is_whole(fault) {
+        let fed = feeder.feed(self, alloc, desk, writer, reader, reads);
+        let taken = feeder.taken();
+        let fault = fault_by(fed);
+        if !may_wait(fault) {
             return fault;
         }
-        let answered = answered_of(fault, feeder.taken());
+        let answered = answered_of(fault, taken);
         match self.replies.settle(desk, writer, answered) {
             Ok(()) => fault,
             Err(_) => Some(SessionFault::Write),
@@ -228,12 +246,15 @@ impl<'a, D: Desk, C: Clock, G: Gate> Run<'a, D, C, G> {
 }
 
 // The fault by which a run ends, by why no further line is fed.
-fn fault_by(fed: Fed<Option<SessionFault>>) -> Option<SessionFault>
-    ensures { result ≡ fault_by fed }
+fn fault_by(fed: Fed<Stop>) -> Option<SessionFault>
+    ensures fault { result ≡ fault_by fed }
+    ensures reader { (n : ℕ) → failures_by n fed ≡ reader_failures n result }
 {
     match fed {
         Fed::Ended => None,
-        Fed::Stopped(fault) => fault,
+        Fed::Stopped(Stop::Quit) => None,
+        Fed::Stopped(Stop::Gate) => Some(SessionFault::Gate),
+        Fed::Stopped(Stop::Write) => Some(SessionFault::Write),
         Fed::Failed => Some(SessionFault::Read),
         Fed::Full | Fed::Spent => Some(SessionFault::TooLong),
     }
@@ -247,11 +268,12 @@ fn answered_of(fault: Option<SessionFault>, taken: u64) -> u64 {
     }
 }
 
-// Whether the writer has not failed where a run ended so.
-fn is_whole(fault: Option<SessionFault>) -> bool
-    ensures { result ≡ is_whole fault }
+// Whether replies may wait still where a run ended so.
+fn may_wait(fault: Option<SessionFault>) -> bool
+    ensures { result ≡ may_wait fault }
 {
     match fault {
+        Some(SessionFault::Read) => false,
         Some(SessionFault::Write) => false,
         _ => true,
     }
@@ -278,7 +300,7 @@ fn is_whole(fault: Option<SessionFault>) -> bool
 ///
 /// # Faults
 ///
-/// `Read` and `Write` where the reader and the writer failed; `Gate` at the 1,000th no to one line, some 10 seconds
+/// `Read` and `Write` exactly where the reader and the writer failed; `Gate` at the 1,000th no to one line, some 10 seconds
 /// after the first; `TooLong` where a line beyond the bound begins or one more read would be needed; `Short` where there
 /// is no memory for the buffers, before the first read. All lines that were carried out are answered, and but for `Write`
 /// all replies are written.
@@ -292,10 +314,13 @@ pub fn run_session<C: Clock, R: Read, W: Write, D: Desk, G: Gate>(
     number: u64,
     keeping: Keeping,
 ) -> (Session<D>, Option<SessionFault>)
-    ensures { Served keeping D.says
-        (R.remaining reader.old.device) (R.remaining reader.new.device)
-        (output W.contents writer.old []) (output W.contents writer.new [])
+    ensures served { Served keeping D.says 1000000 (2 ^ 32)
+        (devices R.remaining reader.old W.contents writer.old)
+        (devices R.remaining reader.new W.contents writer.new)
         desk.old desk.new result.0 result.1 }
+    ensures reads { reader.new.calls ≤ reader.old.calls + 2 ^ 32 }
+    ensures reader { reader.new.failures ≡ reader_failures reader.old.failures result.1 }
+    ensures writer { writer.new.failures ≡ writer_failures writer.old.failures result.1 }
 {
     let Ok(mut feeder) = Feeder::new(alloc, MOST_LINES) else {
         return (Session::new(alloc), Some(SessionFault::Short));

@@ -1,5 +1,5 @@
 //! A thread for each connection.
-ghost use Rattle.std.specs.Prelude.{◌≤◌};
+ghost use Rattle.std.specs.Prelude.{◌≡◌, ◌≤◌, IfOk, None, vec_capacity, vec_len};
 
 use crate::desk::SharedDesk;
 use crate::observer::Observer;
@@ -117,7 +117,72 @@ fn start<'s, E, R: Wait + Clock + Clone + Send + Sync, G: Gate + Sync, O: Observ
     }
 }
 
-// Accepts so many connections, starts a session for each, and waits until all that began have ended.
+// Accepts so many connections, and starts a session for each; and why there are fewer, where there are.
+fn start_all<
+    's,
+    E,
+    R: Threads + Wait + Clock + Clone + Send + Sync,
+    G: Gate + Sync,
+    O: Observer + Sync,
+>(
+    scope: &Scope<'s, E>,
+    rt: &'s R,
+    alloc: Global,
+    shared: &SharedDesk<R>,
+    listener: &UnixListener,
+    sessions: u64,
+    gate: &'s G,
+    observer: &'s O,
+    keeping: Keeping,
+) -> (Vec<JoinHandle<Attended>>, Option<Stop>)
+    ensures all { result.1 ≡ None → vec_len result.0 ≡ sessions }
+    ensures most { vec_len result.0 ≤ sessions }
+{
+    let Ok(mut threads) = Vec::with_capacity(alloc, sessions as usize) else {
+        return (Vec::new(alloc), Some(Stop::Short));
+    };
+    for before in 0..sessions {
+        let Ok(theirs) = shared.another() else {
+            return (threads, Some(Stop::Short));
+        };
+        let Ok((stream, _)) = listener.accept() else {
+            return (threads, Some(Stop::Accept));
+        };
+        let connection = Connection {
+            rt,
+            alloc,
+            stream,
+            gate,
+            observer,
+            number: before + 1,
+            keeping,
+        };
+        let Some(handle) = start(scope, connection, theirs) else {
+            return (threads, Some(Stop::Start));
+        };
+        threads.push_reserved(handle);
+    }
+    (threads, None)
+}
+
+// Waits until all of these have ended. There is room for what they leave.
+fn join_all<R: Threads>(
+    rt: &R,
+    threads: Vec<JoinHandle<Attended>>,
+    ended: Vec<Attended>,
+) -> Vec<Attended>
+    requires room { vec_len threads ≤ vec_capacity ended }
+    requires none { vec_len ended ≡ 0 }
+    ensures { vec_len result ≡ vec_len threads }
+{
+    let mut ended = ended;
+    for handle in threads {
+        ended.push_reserved(handle.join(rt));
+    }
+    ended
+}
+
+// Serves so many connections, and waits until all sessions that began have ended; and why there are fewer, where there are.
 fn serve_all<
     's,
     E,
@@ -134,48 +199,17 @@ fn serve_all<
     gate: &'s G,
     observer: &'s O,
     keeping: Keeping,
-) -> (Vec<Attended>, Option<Stop>) {
-    let mut ended = Vec::new(alloc);
-    let mut threads = Vec::new(alloc);
-    let mut stop = None;
-    if ended.reserve(sessions as usize).is_err() || threads.reserve(sessions as usize).is_err() {
-        return (ended, Some(Stop::Short));
-    }
-    for before in 0..sessions {
-        let number = before.saturating_add(1);
-        let Ok(theirs) = shared.another() else {
-            stop = Some(Stop::Short);
-            break;
-        };
-        let Ok((stream, _)) = listener.accept() else {
-            stop = Some(Stop::Accept);
-            break;
-        };
-        let connection = Connection {
-            rt,
-            alloc,
-            stream,
-            gate,
-            observer,
-            number,
-            keeping,
-        };
-        let Some(handle) = start(scope, connection, theirs) else {
-            stop = Some(Stop::Start);
-            break;
-        };
-        let Ok(()) = threads.push(handle) else {
-            stop = Some(Stop::Short);
-            break;
-        };
-    }
-    for handle in threads {
-        let Ok(()) = ended.push(handle.join(rt)) else {
-            stop = Some(Stop::Short);
-            break;
-        };
-    }
-    (ended, stop)
+) -> (Vec<Attended>, Option<Stop>)
+    ensures all { result.1 ≡ None → vec_len result.0 ≡ sessions }
+    ensures most { vec_len result.0 ≤ sessions }
+{
+    let Ok(ended) = Vec::with_capacity(alloc, sessions as usize) else {
+        return (Vec::new(alloc), Some(Stop::Short));
+    };
+    let (threads, stop) = start_all(
+        scope, rt, alloc, shared, listener, sessions, gate, observer, keeping,
+    );
+    (join_all(rt, threads, ended), stop)
 }
 
 /// Accepts so many connections, 1 to 64, one after another, and serves each as a session in a thread of its own: they are
@@ -202,6 +236,7 @@ pub fn serve_on<
 ) -> Result<Served<R>, ServeFault<R>>
     requires least { 1 ≤ sessions }
     requires most { sessions ≤ 64 }
+    ensures all { IfOk result (λ served. vec_len served.sessions ≡ sessions) }
 {
     let Ok(own) = rt.clone() else {
         return Err(ServeFault::Short(None));

@@ -2,7 +2,7 @@ use Rattle.std.proofs.Common.{ap, ap₂, refl, sym, subst, inl, inr, ◌≡◌, 
 use Rattle.clap.specs.Words.{HasKind, Kinds, fault_of, is_simple_and_free}
 use Rattle.clap.specs.declared.error.kind.ErrorKind.TheVariants as kind
 use Rattle.th_program.specs.Words.{GivesCheck, GivesReplay, asked_of, command_line}
-use Rattle.th_program.proofs.CommandLine.{check_named, check_passes, help_fails, is_plain, name_is, none_fails, replay_named, replay_passes, version_fails}
+use Rattle.th_program.proofs.CommandLine.{check_named, check_passes, help_fails, is_plain, mode_by, name_is, none_fails, number_by, replay_named, replay_passes, version_fails}
 use Rattle.th_program.proofs.words.mode.Goals as goal
 use Rattle.th_program.proofs.words.mode.Goals.{After-refused}
 
@@ -99,3 +99,19 @@ pub returns-in-Ok-try_get_matches_from-clause-taken : goal.returns-in-Ok-try_get
 returns-in-Ok-try_get_matches_from-clause-taken c = λ passes other.
     c.taken.ensures.other (λ serves. other (sym (ap asked_of
     (name_is c.in-Ok-try_get_matches_from.matches _ _ c.in-Ok.ensures c.in-Ok-try_get_matches_from.ensures.matches [])) ∙ serves))
+
+-- the mode is the one that was asked for
+pub returns-in-Ok-try_get_matches_from-clause-mode : goal.returns-in-Ok-try_get_matches_from-clause-mode
+returns-in-Ok-try_get_matches_from-clause-mode c =
+    mode_by c.in-Ok-try_get_matches_from.matches _ _ c.in-Ok.ensures c.in-Ok-try_get_matches_from.ensures.matches _ c.taken.ensures.mode
+
+pub returns-in-Ok-try_get_matches_from-clause-serve : goal.returns-in-Ok-try_get_matches_from-clause-serve
+returns-in-Ok-try_get_matches_from-clause-serve c = λ n words.
+    c.taken.ensures.number n
+    (number_by c.in-Ok-try_get_matches_from.matches _ _ c.in-Ok.ensures c.in-Ok-try_get_matches_from.ensures.matches n words)
+
+pub returns-in-Err-clause-serve : goal.returns-in-Err-clause-serve
+returns-in-Err-clause-serve c = λ n words. elim (failed c [] words.taken) [
+  | inl short ↦ c.refused.ensures.short short
+  | inr none ↦ absurd none
+]

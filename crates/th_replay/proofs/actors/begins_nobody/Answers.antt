@@ -1,7 +1,7 @@
 use Rattle.std.proofs.Common.{◌≡◌, ◌∙◌, Bool, true, false, ap, refl, sym}
 use Rattle.std.specs.Prelude.{◌||◌}
-use Rattle.th_session.specs.Script.{Answer}
-use Rattle.th_replay.specs.Schedule.{has_quit, is_short}
+use Rattle.th_session.specs.Script.{Answer, has_quit}
+use Rattle.th_replay.specs.Schedule.{is_short}
 use Rattle.th_replay.proofs.Steps.{told_reply, told_event, told_trace}
 use Rattle.th_replay.proofs.actors.begins_nobody.Goals as goal
 

@@ -1,31 +1,38 @@
-use Rattle.std.proofs.Common.{◌≡◌, ◌∙◌, [], ap, subst}
-use Rattle.th_lines.specs.Output.{output}
+use Rattle.std.proofs.Common.{◌≡◌, ◌∙◌, ◌^◌, [], ap, subst, ℕ}
+use Rattle.th_lines.specs.Feeding.{Feeding}
 use Rattle.th_lines.specs.declared.reply.Reply.TheVariants.{Bye}
 use Rattle.th_session.specs.declared.keeping.Keeping.{Keeping}
+use Rattle.th_session.specs.Ending.{Devices, devices}
 use Rattle.th_session.specs.Kept.{Kept}
 use Rattle.th_session.specs.Run.{Progress, Ran}
 use Rattle.th_session.specs.Script.{Plays, Replied, spend_all}
 use Rattle.th_session.proofs.Running.{served_short}
 use Rattle.th_session.proofs.run.run_session.Goals as goal
 
-pub returns-in_default : goal.returns-in_default
-returns-in_default g c = served_short c.args.keeping g.D.Desk.says _ _ _ _ c.new-in_default.ensures
+pub returns-in_default-clause-served : goal.returns-in_default-clause-served
+returns-in_default-clause-served g c =
+    served_short c.args.keeping g.D.Desk.says 1000000 (2 ^ 32) _ _ _ c.new-in_default.ensures
 
-pub returns-in_default-new : goal.returns-in_default-new
-returns-in_default-new g c = served_short c.args.keeping g.D.Desk.says _ _ _ _ c.new-in_default-new.ensures
+pub returns-in_default-new-clause-served : goal.returns-in_default-new-clause-served
+returns-in_default-new-clause-served g c =
+    served_short c.args.keeping g.D.Desk.says 1000000 (2 ^ 32) _ _ _ c.new-in_default-new.ensures
 
-pub returns : goal.returns
-returns g c =
+pub returns-clause-served : goal.returns-clause-served
+returns-clause-served g c =
+    let says = g.D.Desk.says in
+    let old : Devices = devices g.R.Read.remaining c.args.reader.now g.W.Write.contents c.args.writer.now in
+    let new : Devices = devices g.R.Read.remaining c.go-fault.new.reader g.W.Write.contents c.go-fault.new.writer in
+    let last : Kept × g.row.D.Denot = (c.go-fault.new.self.kept, c.go-fault.new.desk) in
     let kept = c.into_session-session.ensures in
     let end = c.spend_all.ensures in
     let same : c.in-Ok-new.run'.keeping ≡ c.args.keeping = ap (λ (k : Progress). k.keeping) c.in-Ok-new.ensures in
+    let limit : c.in-Ok.feeder.limit ≡ 1000000 = ap (λ (f : Feeding). f.limit) c.in-Ok.ensures in
     rw c.wake.ensures (record {
-      last = (c.go-fault.new.self.kept, c.go-fault.new.desk);
-      ran = subst (λ (k : Keeping). Ran k g.D.Desk.says (g.R.Read.remaining c.args.reader.now.device)
-          (g.R.Read.remaining c.go-fault.new.reader.device)
-          (output g.W.Write.contents c.args.writer.now []) (output g.W.Write.contents c.go-fault.new.writer []) c.args.desk.now
-          (c.go-fault.new.self.kept, c.go-fault.new.desk) c.go-fault.result) same c.go-fault.ensures;
-      spent = subst (λ (k : Kept). Plays g.D.Desk.says (spend_all k.handles) c.go-fault.new.desk (Replied Bye) [] c.spend_all.new.desk) kept
+      last = last;
+      ran = subst (λ (n : ℕ). Ran c.args.keeping says n (2 ^ 32) old new c.args.desk.now last c.go-fault.result) limit
+          (subst (λ (k : Keeping). Ran k says c.in-Ok.feeder.limit (2 ^ 32) old new c.args.desk.now last c.go-fault.result) same
+          c.go-fault.ensures.ran.0);
+      spent = subst (λ (k : Kept). Plays says (spend_all k.handles) c.go-fault.new.desk (Replied Bye) [] c.spend_all.new.desk) kept
           end.spent;
       kept = end.none ∙ ap (λ (k : Kept). record k { handles = [] }) kept;
     })

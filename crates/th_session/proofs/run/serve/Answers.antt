@@ -1,3 +1,4 @@
+use Rattle.std.proofs.Common.{◌∙◌, sym}
 use Rattle.th_lines.specs.Intake.{line_given}
 use Rattle.th_session.proofs.Running.{carries, carries_broken, in_time_broken, kept_out, quits}
 use Rattle.th_session.proofs.run.serve.Goals as goal
@@ -19,14 +20,15 @@ returns-in-Ok-put g c =
     rw c.in-Ok-put.ensures.desk (quits c.args.keeping g.D.Desk.says (line_given c.args.line) c.args.session.now c.args.desk.now
     c.enter.new.desk _ _ _ _ c.in-Ok.ensures.desk c.in-Ok.ensures.wrote _
     c.in-Ok-answer_in_time.answer answered.0 answered.1 c.let_go.new.self c.let_go.ensures c.in-Ok-put.ensures.told
-    (c.is_bye-quits.ensures c.if-quits.true))
+    (sym c.if-quits.true ∙ c.tells_bye-quits.ensures))
 
 pub returns-in-Ok-2 : goal.returns-in-Ok-2
 returns-in-Ok-2 g c =
     let answered = c.in-Ok-answer_in_time.ensures in
     rw c.in-Ok-2.ensures.desk (carries c.args.keeping g.D.Desk.says (line_given c.args.line) c.args.session.now c.args.desk.now
     c.enter.new.desk _ _ _ _ c.in-Ok.ensures.desk c.in-Ok.ensures.wrote _
-    c.in-Ok-answer_in_time.answer answered.0 answered.1 c.let_go.new.self c.let_go.ensures c.in-Ok-2.ensures.told)
+    c.in-Ok-answer_in_time.answer answered.0 answered.1 c.let_go.new.self c.let_go.ensures c.in-Ok-2.ensures.told
+    (sym c.if-quits.false ∙ c.tells_bye-quits.ensures))
 
 pub returns-in-Err-put : goal.returns-in-Err-put
 returns-in-Err-put g c =

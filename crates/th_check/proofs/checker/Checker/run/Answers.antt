@@ -16,7 +16,7 @@ conclude-requires g c = λ e.
     c.args.self.now.spot c.feed-fed.result c.requires.spot c.feed-fed.ensures.fed in
     let within = counted_within _ _ A c.args.reader.now.calls c.feed-fed.new.reader.calls c.args.reads f now c.requires.reads most
     c.feed-fed.result s e in
-    omega (arith, within, limit, c.taken-self.ensures)
+    omega (arith, within, limit, c.taken-self.ensures.taken)
 
 pub returns-in-Ok-clause-verdict : goal.returns-in-Ok-clause-verdict
 returns-in-Ok-clause-verdict g c =
@@ -29,8 +29,8 @@ returns-in-Ok-clause-verdict g c =
     c.args.self.now.spot c.feed-fed.result c.requires.spot c.feed-fed.ensures.fed in
     says_so _ _ A c.args.reader.now.calls c.feed-fed.new.reader.calls c.args.reads f now c.requires.reads most c.feed-fed.result
     (Ok (c.in-Ok.verdict, c.in-Ok.expected)) s
-    (subst (λ (n : ℕ). Concludes c.feed-fed.result c.feed-fed.new.taker n (Ok (c.in-Ok.verdict, c.in-Ok.expected))) c.taken-self.ensures
-    c.in-Ok.ensures.concludes)
+    (subst (λ (n : ℕ). Concludes c.feed-fed.result c.feed-fed.new.taker n (Ok (c.in-Ok.verdict, c.in-Ok.expected)))
+    c.taken-self.ensures.taken c.in-Ok.ensures.concludes)
 
 pub returns-in-Err-clause-fault : goal.returns-in-Err-clause-fault
 returns-in-Err-clause-fault g c =
@@ -43,5 +43,5 @@ returns-in-Err-clause-fault g c =
     c.args.self.now.spot c.feed-fed.result c.requires.spot c.feed-fed.ensures.fed in
     stops_so _ _ A c.args.reader.now.calls c.feed-fed.new.reader.calls c.args.reads f now c.requires.reads most c.feed-fed.result
     (Err c.in-Err.fault) s
-    (subst (λ (n : ℕ). Concludes c.feed-fed.result c.feed-fed.new.taker n (Err c.in-Err.fault)) c.taken-self.ensures
+    (subst (λ (n : ℕ). Concludes c.feed-fed.result c.feed-fed.new.taker n (Err c.in-Err.fault)) c.taken-self.ensures.taken
     c.in-Err.ensures.concludes)

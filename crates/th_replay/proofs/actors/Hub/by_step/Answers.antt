@@ -8,9 +8,9 @@ use Rattle.th_lines.specs.declared.reply.Code.TheVariants as Codes
 use Rattle.th_lines.specs.declared.reply.Reply.TheVariants.{Refused}
 use Rattle.th_registry.specs.Pictures.{SeenTopics}
 use Rattle.th_session.specs.Kept.{told}
-use Rattle.th_session.specs.Script.{Replied}
+use Rattle.th_session.specs.Script.{Replied, has_quit}
 use Rattle.th_session.specs.declared.session.Answer.TheVariants as answers
-use Rattle.th_replay.specs.Schedule.{Actors, Hub, PutsAt, has_quit, holdings}
+use Rattle.th_replay.specs.Schedule.{Actors, Hub, PutsAt, holdings}
 use Rattle.th_replay.proofs.Holdings.{at-held, handles, set-held}
 use Rattle.th_replay.proofs.Orders.{goes_on, gone, lacks, stays}
 use Rattle.th_replay.proofs.Steps.{ends_so, keeps, only_replies_quit, told_reply}

@@ -11,9 +11,9 @@ use Rattle.th_lines.specs.declared.reply.Reply.TheVariants.{Refused}
 use Rattle.th_registry.specs.Pictures.{SeenTopics, pictures}
 use Rattle.th_session.specs.Held.{Holding}
 use Rattle.th_session.specs.Kept.{Kept}
-use Rattle.th_session.specs.Script.{Replied}
+use Rattle.th_session.specs.Script.{Replied, has_quit}
 use Rattle.th_session.specs.Step.{Steps}
-use Rattle.th_replay.specs.Schedule.{Actors, Hub, PutsAnswer, asks_by_place, by_place, has_quit, holdings, is_short, picture_asks, picture_step, place_of}
+use Rattle.th_replay.specs.Schedule.{Actors, Hub, PutsAnswer, asks_by_place, by_place, holdings, is_short, picture_asks, picture_step, place_of}
 use Rattle.th_replay.proofs.Holdings.{All, append-held, handles, keys-held, length-held}
 use Rattle.th_replay.proofs.Orders.{begins, insert-new, is_over, no_room, too_many}
 use Rattle.th_replay.proofs.Steps.{ends_so, keeps}

@@ -1,4 +1,4 @@
-use Rattle.std.proofs.Common.{◌≡◌, ◌∙◌, ◌+◌, [], List, Some, ap, refl, subst, sym, true, ℕ}
+use Rattle.std.proofs.Common.{◌≡◌, ◌∙◌, ◌+◌, ◌≤◌, [], Some, ap, arith, refl, subst, sym, true, ℕ}
 use Rattle.std.specs.Prelude.{Option}
 use Rattle.th_lines.specs.Device.{kept_count}
 use Rattle.th_lines.specs.Feeding.{Stands}
@@ -7,64 +7,69 @@ use Rattle.th_lines.specs.Tally.{Tally}
 use Rattle.th_lines.proofs.AnsweringLemmas.{answers_none}
 use Rattle.th_session.specs.declared.fault.SessionFault.{SessionFault}
 use Rattle.th_session.specs.declared.fault.SessionFault.TheVariants.{Write}
-use Rattle.th_session.specs.Run.{Progress, IsOver, Ran, Took, beginning, fault_by, is_whole, stands}
-use Rattle.th_session.proofs.Running.{ends_by, ran_broken, ran_failed, ran_whole}
+use Rattle.th_session.specs.Ending.{Devices, devices}
+use Rattle.th_session.specs.Run.{Progress, IsOver, Ran, Took, beginning, fault_by, may_wait, writer_failures}
+use Rattle.th_session.proofs.Running.{ends_at_once, ends_broken, ends_written}
 use Rattle.th_session.proofs.run.Run.go.Goals.{in-Ok, in-Err}
 use Rattle.th_session.proofs.run.Run.go.Goals as goal
 
-pub returns-then-not-is_whole : goal.returns-then-not-is_whole
-returns-then-not-is_whole g c =
+pub returns-then-not-may_wait-clause-ran : goal.returns-then-not-may_wait-clause-ran
+returns-then-not-may_wait-clause-ran g c =
     let says = g.D.Desk.says in
     let contents = g.W.Write.contents in
-    let r : Option (List ℕ) = g.R.Read.remaining c.args.reader.now.device in
-    let r' : Option (List ℕ) = g.R.Read.remaining c.feed.new.reader.device in
     let keeping = c.args.self.now.keeping in
-    let now : Progress × g.row.D.Denot × Tally g.row.W.Denot = (c.feed.new.taker, c.feed.new.desk, c.feed.new.writer) in
-    let spent = kept_count c.feed.new.reader.calls ≡ kept_count (c.args.reader.now.calls + c.args.reads) in
-    let fed = subst (λ (k : Progress). Took says contents (k, c.args.desk.now, c.args.writer.now) [] (k, c.args.desk.now, c.args.writer.now)
-    → Stands (Took says contents) (IsOver says contents) r r' (k, c.args.desk.now, c.args.writer.now) (λ p. Unit {0}) spent c.args.reads
-    c.feed.result c.feed.new.self now) c.requires.run c.feed.ensures.fed in
-    let q = ends_by keeping says contents r r' c.args.desk.now c.args.writer.now spent c.args.reads c.feed.result c.feed.new.self now
-    (fed (refl, answers_none _)) in
-    let e : fault_by c.feed.result ≡ c.fault_by-fault.result = sym c.fault_by-fault.ensures in
-    subst (λ (fault : Option SessionFault). Ran keeping says r r' (output contents c.args.writer.now [])
-    (output contents c.feed.new.writer []) c.args.desk.now (c.feed.new.taker.kept, c.feed.new.desk) fault) e
-    (ran_failed keeping says contents r r' c.args.desk.now c.args.writer.now (fault_by c.feed.result)
-    (c.feed.new.taker.kept, c.feed.new.desk) (stands contents now).1 q
-    (ap is_whole e ∙ sym c.is_whole.ensures ∙ c.if-not-is_whole.true))
+    let old : Devices = devices g.R.Read.remaining c.args.reader.now contents c.args.writer.now in
+    let new : Devices = devices g.R.Read.remaining c.feed-fed.new.reader contents c.feed-fed.new.writer in
+    let f = c.feed-fed.new.self in
+    let now : Progress × g.row.D.Denot × Tally g.row.W.Denot = (c.feed-fed.new.taker, c.feed-fed.new.desk, c.feed-fed.new.writer) in
+    let few : f.taken ≤ f.limit = omega (arith, c.taken-taken.ensures.taken, c.taken-taken.ensures.within) in
+    let spent = kept_count c.feed-fed.new.reader.calls ≡ kept_count (c.args.reader.now.calls + c.args.reads) in
+    let s = subst (λ (k : Progress). Took says contents (k, c.args.desk.now, c.args.writer.now) [] (k, c.args.desk.now, c.args.writer.now)
+    → Stands (Took says contents) (IsOver says contents) old.remaining new.remaining (k, c.args.desk.now, c.args.writer.now)
+    (λ p. p.0.waiting ≡ []) spent c.args.reads c.feed-fed.result f now) c.requires.run c.feed-fed.ensures.fed (refl, answers_none _) in
+    let e : fault_by c.feed-fed.result ≡ c.fault_by-fault.result = sym c.fault_by-fault.ensures.fault in
+    let P : ℕ → Option SessionFault → Type 0 = λ n fault.
+    Ran keeping says n c.args.reads old new c.args.desk.now (c.feed-fed.new.taker.kept, c.feed-fed.new.desk) fault
+    × (c.feed-fed.new.writer.failures ≡ writer_failures c.args.writer.now.failures fault) in
+    subst (λ (n : ℕ). P n c.fault_by-fault.result) c.feed-fed.ensures.limit
+    (subst (λ (fault : Option SessionFault). P f.limit fault) e
+    (ends_at_once keeping says contents old new c.args.desk.now c.args.writer.now refl f now few c.args.reads c.feed-fed.result s refl
+    (ap may_wait e ∙ sym c.may_wait.ensures ∙ c.if-not-may_wait.true)))
 
-pub returns : goal.returns
-returns g c =
+pub returns-clause-ran : goal.returns-clause-ran
+returns-clause-ran g c =
     let says = g.D.Desk.says in
     let contents = g.W.Write.contents in
-    let r : Option (List ℕ) = g.R.Read.remaining c.args.reader.now.device in
-    let r' : Option (List ℕ) = g.R.Read.remaining c.feed.new.reader.device in
     let keeping = c.args.self.now.keeping in
+    let old : Devices = devices g.R.Read.remaining c.args.reader.now contents c.args.writer.now in
+    let new : Devices = devices g.R.Read.remaining c.feed-fed.new.reader contents c.settle.new.writer in
+    let f = c.feed-fed.new.self in
     let i = c.self.inside in
     let at : Progress = record { kept = i.session; waiting = i.replies; keeping = i.keeping } in
-    let now : Progress × g.row.D.Denot × Tally g.row.W.Denot = (at, c.feed.new.desk, c.feed.new.writer) in
-    let spent = kept_count c.feed.new.reader.calls ≡ kept_count (c.args.reader.now.calls + c.args.reads) in
+    let now : Progress × g.row.D.Denot × Tally g.row.W.Denot = (at, c.feed-fed.new.desk, c.feed-fed.new.writer) in
+    let few : f.taken ≤ f.limit = omega (arith, c.taken-taken.ensures.taken, c.taken-taken.ensures.within) in
+    let spent = kept_count c.feed-fed.new.reader.calls ≡ kept_count (c.args.reader.now.calls + c.args.reads) in
     let fed = subst (λ (k : Progress). Took says contents (k, c.args.desk.now, c.args.writer.now) [] (k, c.args.desk.now, c.args.writer.now)
-    → Stands (Took says contents) (IsOver says contents) r r' (k, c.args.desk.now, c.args.writer.now) (λ p. Unit {0}) spent c.args.reads
-    c.feed.result c.feed.new.self
-    (c.feed.new.taker, c.feed.new.desk, c.feed.new.writer)) c.requires.run c.feed.ensures.fed in
-    let q = ends_by keeping says contents r r' c.args.desk.now c.args.writer.now spent c.args.reads c.feed.result c.feed.new.self now
-    (subst (λ (k : Progress). Stands (Took says contents) (IsOver says contents) r r'
-    (beginning keeping, c.args.desk.now, c.args.writer.now)
-    (λ p. Unit {0}) spent c.args.reads
-    c.feed.result c.feed.new.self (k, c.feed.new.desk, c.feed.new.writer)) (sym c.self.view_is) (fed (refl, answers_none _))) in
-    let e : fault_by c.feed.result ≡ c.fault_by-fault.result = sym c.fault_by-fault.ensures in
-    let whole : is_whole (fault_by c.feed.result) ≡ true = ap is_whole e ∙ sym c.is_whole.ensures ∙ c.if-not-is_whole.false in
+    → Stands (Took says contents) (IsOver says contents) old.remaining new.remaining (k, c.args.desk.now, c.args.writer.now)
+    (λ p. p.0.waiting ≡ []) spent c.args.reads c.feed-fed.result f (c.feed-fed.new.taker, c.feed-fed.new.desk, c.feed-fed.new.writer))
+    c.requires.run c.feed-fed.ensures.fed (refl, answers_none _) in
+    let s = subst (λ (k : Progress). Stands (Took says contents) (IsOver says contents) old.remaining new.remaining
+    (beginning keeping, c.args.desk.now, c.args.writer.now) (λ p. p.0.waiting ≡ []) spent c.args.reads c.feed-fed.result f
+    (k, c.feed-fed.new.desk, c.feed-fed.new.writer)) (sym c.self.view_is) fed in
+    let e : fault_by c.feed-fed.result ≡ c.fault_by-fault.result = sym c.fault_by-fault.ensures.fault in
+    let wait : may_wait (fault_by c.feed-fed.result) ≡ true = ap may_wait e ∙ sym c.may_wait.ensures ∙ c.if-not-may_wait.false in
     let after : Output = output contents c.settle.new.writer c.settle.new.self in
-    let P : g.row.D.Denot → Option SessionFault → Type 0 = λ d fault.
-    Ran keeping says r r' (output contents c.args.writer.now []) (record after { waiting = [] }) c.args.desk.now (i.session, d) fault in
-    elim c.match-settle.branch [
-      | in-Ok w ↦ subst (λ (fault : Option SessionFault). P c.settle.new.desk fault) (e ∙ sym w.result-is)
-          (subst (λ (d : g.row.D.Denot). P d (fault_by c.feed.result)) (sym w.in-Ok.ensures.desk)
-          (ran_whole keeping says contents r r' c.args.desk.now c.args.writer.now (fault_by c.feed.result) (i.session, c.feed.new.desk)
-          (stands contents now).1 q whole after w.in-Ok.ensures.wrote.0))
-      | in-Err w ↦ subst (λ (fault : Option SessionFault). P c.settle.new.desk fault) (sym w.result-is)
-          (subst (λ (d : g.row.D.Denot). P d (Some Write)) (sym w.in-Err.ensures.desk)
-          (ran_broken keeping says contents r r' c.args.desk.now c.args.writer.now (fault_by c.feed.result) (i.session, c.feed.new.desk)
-          (stands contents now).1 q whole after w.in-Err.ensures.wrote))
-    ]
+    let P : ℕ → g.row.D.Denot → Option SessionFault → Type 0 = λ n d fault.
+    Ran keeping says n c.args.reads old new c.args.desk.now (i.session, d) fault
+    × (c.settle.new.writer.failures ≡ writer_failures c.args.writer.now.failures fault) in
+    subst (λ (n : ℕ). P n c.settle.new.desk c.match-settle.result) c.feed-fed.ensures.limit
+    (elim c.match-settle.branch [
+      | in-Ok w ↦ subst (λ (fault : Option SessionFault). P f.limit c.settle.new.desk fault) (e ∙ sym w.result-is)
+          (subst (λ (d : g.row.D.Denot). P f.limit d (fault_by c.feed-fed.result)) (sym w.in-Ok.ensures.desk)
+          (ends_written keeping says contents old new c.args.desk.now c.args.writer.now refl f now few c.args.reads after refl
+          c.feed-fed.result s w.in-Ok.ensures.wrote.0 wait))
+      | in-Err w ↦ subst (λ (fault : Option SessionFault). P f.limit c.settle.new.desk fault) (sym w.result-is)
+          (subst (λ (d : g.row.D.Denot). P f.limit d (Some Write)) (sym w.in-Err.ensures.desk)
+          (ends_broken keeping says contents old new c.args.desk.now c.args.writer.now refl f now few c.args.reads after refl
+          c.feed-fed.result s w.in-Err.ensures.wrote wait))
+    ])

@@ -1,7 +1,7 @@
-use Rattle.std.proofs.Common.{refl, subst, sym}
-use Rattle.std.specs.Prelude.{Option, Result}
+use Rattle.std.proofs.Common.{◌≡◌, [], refl, subst, sym}
+use Rattle.std.specs.Prelude.{Result}
 use Rattle.th_lines.specs.Feeding as feeding
-use Rattle.th_session.specs.declared.fault.SessionFault.{SessionFault}
+use Rattle.th_session.specs.declared.fault.Stop.{Stop}
 use Rattle.th_session.specs.Run.{Progress, IsOver, Took}
 use Rattle.th_session.proofs.Running.{settles_broken, settles_on}
 use Rattle.th_session.proofs.run.RunTakesLinesCounted.settle.Goals.{in-Ok, in-Err}
@@ -12,15 +12,15 @@ returns g c =
     let i = c.self.inside in
     let old : Progress = record { kept = i.session; waiting = i.replies; keeping = i.keeping } in
     let new : Progress = record { kept = i.session; waiting = c.settle.new.self; keeping = i.keeping } in
-    let P : Progress → Result (Unit {0}) (Option SessionFault) → Type 0 =
-    λ k r. feeding.Settles (Took g.D.Desk.says g.W.Write.contents) (IsOver g.D.Desk.says g.W.Write.contents) (λ p. Unit {0})
+    let P : Progress → Result (Unit {0}) Stop → Type 0 =
+    λ k r. feeding.Settles (Took g.D.Desk.says g.W.Write.contents) (IsOver g.D.Desk.says g.W.Write.contents) (λ p. p.0.waiting ≡ [])
     (k, c.args.desk.now, c.args.writer.now) r (new, c.settle.new.desk, c.settle.new.writer) in
     subst (λ (k : Progress). P k c.match-settle.result) c.self.view_is
     (elim c.match-settle.branch [
-      | in-Ok w ↦ subst (λ (r : Result (Unit {0}) (Option SessionFault)). P old r) (sym w.result-is)
+      | in-Ok w ↦ subst (λ (r : Result (Unit {0}) Stop). P old r) (sym w.result-is)
           (settles_on g.D.Desk.says g.W.Write.contents (old, c.args.desk.now, c.args.writer.now)
           (new, c.settle.new.desk, c.settle.new.writer) refl refl w.in-Ok.ensures.desk w.in-Ok.ensures.wrote)
-      | in-Err w ↦ subst (λ (r : Result (Unit {0}) (Option SessionFault)). P old r) (sym w.result-is)
+      | in-Err w ↦ subst (λ (r : Result (Unit {0}) Stop). P old r) (sym w.result-is)
           (settles_broken g.D.Desk.says g.W.Write.contents (old, c.args.desk.now, c.args.writer.now)
           (new, c.settle.new.desk, c.settle.new.writer) refl w.in-Err.ensures.desk w.in-Err.ensures.wrote)
     ])
