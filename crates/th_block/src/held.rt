@@ -1,5 +1,5 @@
 //! What a channel's lock keeps.
-ghost use Rattle.std.specs.Prelude.{◌≡◌, ◌↔◌, not, true, IfOk, IfErr, IsOk, OnOk, OnErr, MatchResult};
+ghost use Rattle.std.specs.Prelude.{◌≡◌, ◌↔◌, not, true, IfOk, IfErr, IfSome, IsNone, IsOk, IsSome, OnOk, OnErr, MatchResult};
 ghost use Rattle.th_log.specs.History.{IsLegal, live_after, next_of};
 ghost use Rattle.th_log.specs.Outcome.{IsSame, added, ticked, with_share};
 ghost use Rattle.th_block.specs.Handles.{IsBack, unused};
@@ -191,5 +191,19 @@ impl<O: Kind> Held<O> {
         // What a segment always is.
         let _entries = segment.len();
         Ok(segment)
+    }
+    /// The same, where the channel has this key. Of another one nothing is cut.
+    pub(crate) fn cut_of(&mut self, key: u64) -> Option<Result<Segment<O>, Short<()>>>
+        requires { O.lawful }
+        ensures cut { IsSome result ↔ (self.old.piece.key ≡ key) }
+        ensures segment { IfSome result (λ said. IfOk said (λ s. s ≡ self.old.piece)) }
+        ensures legal { IfSome result (λ said. IfOk said (λ s. IsLegal O.machine O.is_sound s)) }
+        ensures other { IsNone result → self.new ≡ self.old }
+        ensures tally { self.new.tally ≡ self.old.tally }
+    {
+        if self.posted.log().key() != key {
+            return None;
+        }
+        Some(self.cut())
     }
 }

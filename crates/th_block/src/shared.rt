@@ -1,5 +1,5 @@
 //! A channel that is owned in common by its handles.
-ghost use Rattle.std.specs.Prelude.{IfOk};
+ghost use Rattle.std.specs.Prelude.{◌≡◌, IfOk, IfSome};
 ghost use Rattle.th_log.specs.History.{IsLegal};
 
 use crate::held::Held;
@@ -62,6 +62,17 @@ impl<O: Kind> Shared<O> {
     {
         let mut held = self.room.held.lock(rt);
         held.cut()
+    }
+
+    /// As `cut`, of the channel with this key: the key is compared under the same lock. `None` where the channel has another
+    /// one, and then nothing is cut.
+    pub fn cut_of<R: Wait>(&self, rt: &R, key: u64) -> Option<Result<Segment<O>, Short<()>>>
+        requires { O.lawful }
+        ensures key { IfSome result (λ said. IfOk said (λ s. s.key ≡ key)) }
+        ensures legal { IfSome result (λ said. IfOk said (λ s. IsLegal O.machine O.is_sound s)) }
+    {
+        let mut held = self.room.held.lock(rt);
+        held.cut_of(key)
     }
 
     /// Wakes who waits, after calls that left it to their caller. It takes the lock for a moment.

@@ -225,6 +225,13 @@ pub fn keep(
     (shared.another(), shared.cut(rt))
 }
 
+pub fn cut_of(
+    rt: &impl Wait,
+    shared: &Shared<Light>,
+) -> Option<Result<Segment<Light>, Short<()>>> {
+    shared.cut_of(rt, 1)
+}
+
 pub fn finish(shared: Shared<Light>) -> Result<Logged<Light>, Shared<Light>> {
     shared.finish()
 }

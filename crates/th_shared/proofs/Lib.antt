@@ -1,2 +1,4 @@
+pub mod Doing
 pub mod Named
+pub mod Opened
 pub mod Tables

@@ -1,8 +1,8 @@
--- The numbers of a topic's handles.
+-- The numbers of a topic's handles, and what they know of their channels.
 use Rattle.std.specs.Prelude.{ℕ}
 use Rattle.th_model.specs.declared.handles.TxId.{TxId}
 use Rattle.th_model.specs.declared.handles.RxId.{RxId}
-use Rattle.th_block.specs.Handles.{Holder}
+use Rattle.th_block.specs.Handles.{Holder, Known}
 use Rattle.th_registry.specs.declared.channel.Channel.{Channel}
 use Rattle.th_registry.specs.declared.channel.Channel.TheVariants.{Broadcast, Watch}
 use Rattle.th_shared.specs.declared.handles.TopicReceiver.{TopicReceiver}
@@ -12,6 +12,11 @@ use Rattle.th_shared.specs.declared.handles.TopicReceiver.TheVariants.{Live, Spe
 abbrev pub number_of : Channel Holder Holder → ℕ
 number_of (Broadcast h) = h.number
 number_of (Watch h) = h.number
+
+-- its share, and its eye
+abbrev pub known_of : Channel Holder Holder → Known
+known_of (Broadcast h) = h.known
+known_of (Watch h) = h.known
 
 abbrev pub sender : Channel Holder Holder → TxId
 sender h = record { 0 = number_of h }

@@ -1,21 +1,27 @@
 //! The desk that threads share.
 
+ghost use Rattle.std.specs.Prelude.{◌≡◌, IfOk};
+ghost use Rattle.std.specs.Arc.{arc_value};
+
+use crate::cut::cut;
 use crate::deferred_wake::{DeferredWake, defer, is_deferred, wake};
 use crate::ended::{Ended, end_of};
 use crate::handles::{TopicReceiver, TopicSender};
 use crate::receipts_ahead::ReceiptsAhead;
-use crate::registry::{Topics, another_owner, ask, bind, end, open, subscribe};
+use crate::registry::{another_owner, ask, bind, end, find, open, subscribe};
+use crate::shared_topics::SharedTopics;
 use crate::shares::Shares;
 use crate::told;
 use crate::topic_cache::TopicCache;
 use std::alloc::Global;
 use std::marker::Model;
 use std::mem::replace;
-use std::sync::{Arc, Mutex, Wait};
+use std::sync::{Arc, Wait};
 use th_model::{
     Listing, Making, NameRef, Question, ReceiverVerb, RxId, SenderVerb, Short, Start, Value, WCall,
 };
 use th_registry::channel::{TopicReceipt, TopicSegment};
+use th_registry::topics::list;
 use th_registry::{Channel, Desk, Found, Made, NoEvent, Refusal, TopicId, Unspent};
 use th_seats::Share;
 
@@ -36,7 +42,7 @@ use th_seats::Share;
 pub struct SharedDesk<R: Wait + Clone> {
     // By which it waits.
     rt: R,
-    topics: Arc<Mutex<Topics>>,
+    hub: Arc<SharedTopics>,
     // Of the handles that were made through this desk.
     shares: Shares,
     // The topic of which it made events that woke nobody yet.
@@ -50,10 +56,15 @@ pub struct SharedDesk<R: Wait + Clone> {
 }
 
 impl<R: Wait + Clone> Model for SharedDesk<R> {
-    // What other threads do is not seen at it, so contracts see nothing of it.
-    ghost Value = { Unit {0} };
+    ghost use Rattle.std.specs.Arc.{arc_value};
+    ghost use denote.RawPtr.{Ptr, coded_ptr};
 
-    ghost view = { λ d. tt };
+    // What other threads do is not seen at it, so contracts see no more of it than which hub it is of: where its seal lies.
+    ghost Value = { Ptr };
+
+    ghost coded = { coded_ptr };
+
+    ghost view = { λ d. (arc_value d.hub).seal.ptr };
 }
 
 impl<R: Wait + Clone> SharedDesk<R> {
@@ -63,17 +74,19 @@ impl<R: Wait + Clone> SharedDesk<R> {
     ///
     /// There was no memory.
     pub fn new(rt: R, alloc: Global) -> Result<SharedDesk<R>, Short<()>> {
-        match Arc::new(alloc, Mutex::new(Topics::new(alloc))) {
-            Ok(topics) => Ok(SharedDesk::owning(rt, alloc, topics)),
+        match Arc::new(alloc, SharedTopics::new(alloc)?) {
+            Ok(hub) => Ok(SharedDesk::owning(rt, alloc, hub)),
             Err(_) => Err(Short { call: () }),
         }
     }
 
-    // An owner of these topics.
-    fn owning(rt: R, alloc: Global, topics: Arc<Mutex<Topics>>) -> SharedDesk<R> {
+    // An owner of this hub's topics.
+    fn owning(rt: R, alloc: Global, hub: Arc<SharedTopics>) -> SharedDesk<R>
+        ensures { result ≡ (arc_value hub).seal.ptr }
+    {
         SharedDesk {
             rt,
-            topics,
+            hub,
             shares: Shares::new(alloc),
             deferred: None,
             cache: TopicCache::new(alloc),
@@ -82,17 +95,19 @@ impl<R: Wait + Clone> SharedDesk<R> {
         }
     }
 
-    /// One more owner, for another thread.
+    /// One more owner of the same topics, for another thread.
     ///
     /// # Errors
     ///
     /// There was no memory.
-    pub fn another(&self) -> Result<SharedDesk<R>, Short<()>> {
+    pub fn another(&self) -> Result<SharedDesk<R>, Short<()>>
+        ensures { IfOk result (λ desk. desk ≡ self.now) }
+    {
         let Ok(rt) = self.rt.clone() else {
             return Err(Short { call: () });
         };
-        match Arc::try_clone(&self.topics) {
-            Ok(topics) => Ok(SharedDesk::owning(rt, self.shares.allocator(), topics)),
+        match Arc::try_clone(&self.hub) {
+            Ok(hub) => Ok(SharedDesk::owning(rt, self.shares.allocator(), hub)),
             Err(_) => Err(Short { call: () }),
         }
     }
@@ -106,8 +121,8 @@ impl<R: Wait + Clone> SharedDesk<R> {
 
     // An empty list with room for what is left of each topic; `None` where another owner is left, or there was no memory.
     fn room_for_ends(&mut self, alloc: Global) -> Option<Vec<Ended>> {
-        let lock = Arc::get_mut(&mut self.topics)?;
-        match Vec::with_capacity(alloc, lock.get_mut().rows.len()) {
+        let hub = Arc::get_mut(&mut self.hub)?;
+        match Vec::with_capacity(alloc, hub.topics.get_mut().len()) {
             Ok(list) => Some(list),
             Err(_) => None,
         }
@@ -129,24 +144,24 @@ impl<R: Wait + Clone> SharedDesk<R> {
         };
         let SharedDesk {
             rt,
-            topics,
+            hub,
             shares,
             deferred,
             cache,
             received,
             sent,
         } = self;
-        match Arc::try_unwrap(topics) {
-            Ok(lock) => {
-                let Topics { rows, .. } = lock.into_inner();
-                for (name, topic) in rows {
+        match Arc::try_unwrap(hub) {
+            Ok(shared) => {
+                let SharedTopics { topics, .. } = shared;
+                for (name, topic) in topics.into_inner() {
                     let _ = list.push(end_of(name, topic));
                 }
                 Ok((list, shares.into_vec()))
             }
-            Err(topics) => Err(SharedDesk {
+            Err(hub) => Err(SharedDesk {
                 rt,
-                topics,
+                hub,
                 shares,
                 deferred,
                 cache,
@@ -157,17 +172,39 @@ impl<R: Wait + Clone> SharedDesk<R> {
     }
 }
 
+// What a sender's event is to those who wait: they are woken later.
+#[inline(always)]
+fn deferred_after<R: Wait>(
+    rt: &R,
+    deferred: &mut Option<DeferredWake>,
+    topic: TopicId,
+    sender: &TopicSender,
+    said: &Result<TopicReceipt, NoEvent>,
+) {
+    if said.is_ok() && !is_deferred(deferred, topic) {
+        if let Ok(owner) = told::owner_of(sender) {
+            defer(rt, deferred, topic, owner);
+        }
+    }
+}
+
 impl<R: Wait + Clone> Desk for SharedDesk<R> {
-    ghost use Rattle.th_shared.specs.Numbers.{receiver, sender};
+    ghost use Rattle.std.specs.Option.{option_map};
+    ghost use Rattle.std.specs.Prelude.{IfErr};
+    ghost use Rattle.th_registry.specs.Events.{Asks, DropsRx, DropsTx, Own, Receives, Sends, Subscribes, any_sender};
+    ghost use Rattle.th_registry.specs.Hub.{On};
+    ghost use Rattle.th_registry.specs.Typed.{made_rx, replied, spent};
+    ghost use Rattle.th_shared.specs.Doing.{DoesOrDid, OwnDoes, ReceiverDoes};
+    ghost use Rattle.th_shared.specs.Numbers.{receiver as rx_of, sender as tx_of};
     ghost use Rattle.th_shared.specs.Saying.{Says};
 
     type Tx = TopicSender;
 
     type Rx = TopicReceiver;
 
-    ghost tx = { sender };
+    ghost tx = { tx_of };
 
-    ghost rx = { receiver };
+    ghost rx = { rx_of };
 
     ghost says = { Says };
 
@@ -175,32 +212,34 @@ impl<R: Wait + Clone> Desk for SharedDesk<R> {
         match self.cache.find(name) {
             Some(found) => Some(found),
             None => {
-                let topics = self.topics.lock(&self.rt);
-                topics.find(name)
+                let topics = self.hub.topics.lock(&self.rt);
+                find(&*topics, name)
             }
         }
     }
 
     fn list(&self) -> Result<Listing, Short<()>> {
-        let topics = self.topics.lock(&self.rt);
-        topics.list()
+        let topics = self.hub.topics.lock(&self.rt);
+        list(&*topics)
     }
 
     fn open_topic(&mut self, name: NameRef<'_>, making: Making) -> Result<u64, Refusal> {
-        let mut topics = self.topics.lock(&self.rt);
+        let mut topics = self.hub.topics.lock(&self.rt);
         open(&mut *topics, &name, making)
     }
 
     fn bind(&mut self, topic: TopicId) -> Result<Made<TopicSender>, NoEvent> {
         let SharedDesk {
             rt,
-            topics,
+            hub,
             shares,
             cache,
             ..
         } = self;
-        shares.make_room()?;
-        let mut topics = topics.lock(rt);
+        let Ok(()) = shares.make_room() else {
+            return Err(NoEvent::Short);
+        };
+        let mut topics = hub.topics.lock(rt);
         cache.add(&*topics, topic);
         let made = bind(rt, &mut *topics, topic);
         shares.count(&made);
@@ -212,19 +251,27 @@ impl<R: Wait + Clone> Desk for SharedDesk<R> {
         topic: TopicId,
         start: Start,
         sender: &mut Option<TopicSender>,
-    ) -> Result<Made<TopicReceiver>, NoEvent> {
+    ) -> Result<Made<TopicReceiver>, NoEvent>
+        ensures event { let by = any_sender (option_map tx_of sender.old) in
+            Says self.old (On topic.0 (Subscribes start by)) (made_rx rx_of result) self.new }
+        ensures sender { option_map tx_of sender.new ≡ option_map tx_of sender.old }
+        ensures does { let by = any_sender (option_map tx_of sender.old) in
+            OwnDoes topic.0 (Subscribes start by) sender.old sender.new (made_rx rx_of result) }
+    {
         let SharedDesk {
             rt,
-            topics,
+            hub,
             shares,
             cache,
             ..
         } = self;
-        shares.make_room()?;
+        let Ok(()) = shares.make_room() else {
+            return Err(NoEvent::Short);
+        };
         let made = match sender {
             Some(sender) => told::subscribe(rt, topic, start, sender),
             None => {
-                let mut topics = topics.lock(rt);
+                let mut topics = hub.topics.lock(rt);
                 cache.add(&*topics, topic);
                 subscribe(rt, &mut *topics, topic, start)
             }
@@ -239,7 +286,13 @@ impl<R: Wait + Clone> Desk for SharedDesk<R> {
         topic: TopicId,
         sender: &mut TopicSender,
         verb: SenderVerb<Value>,
-    ) -> Result<TopicReceipt, NoEvent> {
+    ) -> Result<TopicReceipt, NoEvent>
+        ensures event { let event = Sends (tx_of sender.old) verb in
+            Says self.old (On topic.0 event) (replied result) self.new }
+        ensures sender { tx_of sender.new ≡ tx_of sender.old }
+        ensures does { let event = Sends (tx_of sender.old) verb in
+            DoesOrDid topic.0 event sender.old sender.new (replied result) }
+    {
         let SharedDesk {
             rt,
             deferred,
@@ -250,13 +303,9 @@ impl<R: Wait + Clone> Desk for SharedDesk<R> {
         if let Some(receipt) = told::sent(topic, sent, sender, &verb) {
             return Ok(receipt);
         }
-        let receipt = told::send(rt, topic, sender, verb)?;
-        if !is_deferred(deferred, topic) {
-            if let Ok(owner) = told::owner_of(sender) {
-                defer(rt, deferred, topic, owner);
-            }
-        }
-        Ok(receipt)
+        let said = told::send(rt, topic, sender, verb);
+        deferred_after(rt, deferred, topic, sender, &said);
+        said
     }
 
     fn ask(
@@ -264,12 +313,18 @@ impl<R: Wait + Clone> Desk for SharedDesk<R> {
         topic: TopicId,
         sender: &mut Option<TopicSender>,
         question: Question,
-    ) -> Result<TopicReceipt, NoEvent> {
-        let SharedDesk { rt, topics, .. } = self;
+    ) -> Result<TopicReceipt, NoEvent>
+        ensures event { let by = any_sender (option_map tx_of sender.old) in
+            Says self.old (On topic.0 (Asks by question)) (replied result) self.new }
+        ensures sender { option_map tx_of sender.new ≡ option_map tx_of sender.old }
+        ensures does { let by = any_sender (option_map tx_of sender.old) in
+            OwnDoes topic.0 (Asks by question) sender.old sender.new (replied result) }
+    {
+        let SharedDesk { rt, hub, .. } = self;
         match sender {
             Some(sender) => told::ask(rt, topic, sender, question),
             None => {
-                let mut topics = topics.lock(rt);
+                let mut topics = hub.topics.lock(rt);
                 ask(rt, &mut *topics, topic, question)
             }
         }
@@ -281,7 +336,13 @@ impl<R: Wait + Clone> Desk for SharedDesk<R> {
         topic: TopicId,
         receiver: &mut TopicReceiver,
         verb: ReceiverVerb,
-    ) -> Result<TopicReceipt, NoEvent> {
+    ) -> Result<TopicReceipt, NoEvent>
+        ensures event { let event = Receives (rx_of receiver.old) verb in
+            Says self.old (On topic.0 event) (replied result) self.new }
+        ensures receiver { rx_of receiver.new ≡ rx_of receiver.old }
+        ensures does { let event = Receives (rx_of receiver.old) verb in
+            ReceiverDoes topic.0 event receiver.old receiver.new (replied result) }
+    {
         let SharedDesk {
             rt,
             deferred,
@@ -309,7 +370,9 @@ impl<R: Wait + Clone> Desk for SharedDesk<R> {
             received,
             ..
         } = self;
-        shares.make_room()?;
+        let Ok(()) = shares.make_room() else {
+            return Err(NoEvent::Short);
+        };
         let (after, said) = match replace(receiver, TopicReceiver::Spent(0)) {
             TopicReceiver::Live(old) => {
                 received.forget(&old);
@@ -318,18 +381,27 @@ impl<R: Wait + Clone> Desk for SharedDesk<R> {
             TopicReceiver::Spent(number) => (TopicReceiver::Spent(number), Err(NoEvent::NotLive)),
         };
         *receiver = after;
-        let (made, share) = said?;
-        if let Some(share) = share {
-            shares.replace(topic, share);
+        match said {
+            Ok((made, share)) => {
+                if let Some(share) = share {
+                    shares.replace(topic, share);
+                }
+                Ok(made)
+            }
+            Err(why) => Err(why),
         }
-        Ok(made)
     }
 
     fn spend_sender(
         &mut self,
         topic: TopicId,
         sender: TopicSender,
-    ) -> Result<(), Unspent<TopicSender>> {
+    ) -> Result<(), Unspent<TopicSender>>
+        ensures event { let event = DropsTx (Own (tx_of sender)) in
+            Says self.old (On topic.0 event) (spent result) self.new }
+        ensures back { IfErr result (λ unspent. tx_of unspent.handle ≡ tx_of sender) }
+        ensures same { IfErr result (λ unspent. unspent.handle ≡ sender) }
+    {
         let SharedDesk {
             rt,
             shares,
@@ -350,7 +422,12 @@ impl<R: Wait + Clone> Desk for SharedDesk<R> {
         &mut self,
         topic: TopicId,
         receiver: TopicReceiver,
-    ) -> Result<(), Unspent<TopicReceiver>> {
+    ) -> Result<(), Unspent<TopicReceiver>>
+        ensures event { let event = DropsRx (rx_of receiver) in
+            Says self.old (On topic.0 event) (spent result) self.new }
+        ensures back { IfErr result (λ unspent. rx_of unspent.handle ≡ rx_of receiver) }
+        ensures same { IfErr result (λ unspent. unspent.handle ≡ receiver) }
+    {
         let SharedDesk {
             rt,
             shares,
@@ -376,26 +453,20 @@ impl<R: Wait + Clone> Desk for SharedDesk<R> {
     }
 
     fn end(&mut self, topic: TopicId) -> Result<(), NoEvent> {
-        let SharedDesk { rt, topics, .. } = self;
-        let mut topics = topics.lock(rt);
+        let SharedDesk { rt, hub, .. } = self;
+        let mut topics = hub.topics.lock(rt);
         end(rt, &mut *topics, topic)
     }
 
     fn cut(&mut self, topic: TopicId) -> Result<TopicSegment, NoEvent> {
-        let SharedDesk { rt, topics, .. } = self;
+        let SharedDesk { rt, hub, .. } = self;
         let owner = {
-            let topics = topics.lock(rt);
-            another_owner(&*topics, topic)?
+            let topics = hub.topics.lock(rt);
+            another_owner(&*topics, topic)
         };
         match owner {
-            Channel::Broadcast(owner) => match owner.cut(rt) {
-                Ok(segment) => Ok(Channel::Broadcast(segment)),
-                Err(_) => Err(NoEvent::Short),
-            },
-            Channel::Watch(owner) => match owner.cut(rt) {
-                Ok(segment) => Ok(Channel::Watch(segment)),
-                Err(_) => Err(NoEvent::Short),
-            },
+            Ok(owner) => cut(rt, &owner, topic),
+            Err(why) => Err(why),
         }
     }
 

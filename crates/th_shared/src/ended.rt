@@ -1,8 +1,9 @@
 //! What is left of a topic once nobody serves it any more.
 ghost use Rattle.std.specs.Prelude.{◌≡◌, is_some, not};
 
-use crate::topic::{Own, Topic};
-use th_log::Logged;
+use crate::topic::{AnyTopic, Own, Topic};
+use th_block::Shared;
+use th_log::{Kind, Logged};
 use th_model::Name;
 use th_registry::Channel;
 use th_registry::channel::{HubBroadcast, HubWatch};
@@ -20,14 +21,11 @@ pub enum Ended {
 }
 
 // The share of the hub's own sender.
-fn own_share(own: Option<Own>, share: Option<Share>) -> Share
+fn own_share<O: Kind>(own: Option<Own<O>>, share: Option<Share>) -> Share
     requires { is_some share ≡ not (is_some own) }
 {
     match own {
-        Some(Own { sender }) => match sender {
-            Channel::Broadcast(sender) => sender.release(),
-            Channel::Watch(sender) => sender.release(),
-        },
+        Some(Own { sender }) => sender.release(),
         None => match share {
             Some(share) => share,
             None => unreachable!(),
@@ -35,18 +33,28 @@ fn own_share(own: Option<Own>, share: Option<Share>) -> Share
     }
 }
 
-/// What is left of the topic of this name: its log too, where no handle is left elsewhere.
-pub(crate) fn end_of(name: Name, topic: Topic) -> Ended {
+// An owner of a topic's channel, and the share of the hub's own sender.
+fn parts<O: Kind>(topic: Topic<O>) -> (Shared<O>, Share) {
     let Topic { owner, own, share } = topic;
-    let share = own_share(own, share);
-    match owner {
-        Channel::Broadcast(owner) => match owner.finish() {
-            Ok(log) => Ended::Broadcast(name, log, share),
-            Err(_) => Ended::Held(name, share),
-        },
-        Channel::Watch(owner) => match owner.finish() {
-            Ok(log) => Ended::Watch(name, log, share),
-            Err(_) => Ended::Held(name, share),
-        },
+    (owner, own_share(own, share))
+}
+
+/// What is left of the topic of this name: its log too, where no handle is left elsewhere.
+pub(crate) fn end_of(name: Name, topic: AnyTopic) -> Ended {
+    match topic {
+        Channel::Broadcast(topic) => {
+            let (owner, share) = parts(topic);
+            match owner.finish() {
+                Ok(log) => Ended::Broadcast(name, log, share),
+                Err(_) => Ended::Held(name, share),
+            }
+        }
+        Channel::Watch(topic) => {
+            let (owner, share) = parts(topic);
+            match owner.finish() {
+                Ok(log) => Ended::Watch(name, log, share),
+                Err(_) => Ended::Held(name, share),
+            }
+        }
     }
 }

@@ -1,7 +1,10 @@
 //! The events of handles of any kind of channel, each on the topic that is named.
-ghost use Rattle.std.specs.Prelude.{◌≡◌, ◌+◌, IfErr, IfOk, IsTrue, Some};
+ghost use Rattle.std.specs.Prelude.{◌≡◌, ◌+◌, IfErr, IfOk, IsTrue, OnOk, Some};
 ghost use Rattle.th_log.specs.CallLaws.{IsBy};
+ghost use Rattle.th_log.specs.Outcome.{counted};
 ghost use Rattle.th_block.specs.Handles.{rx, tx};
+ghost use Rattle.th_shared.specs.Doing.{Enters, HasEnded};
+ghost use Rattle.th_shared.specs.Reasons.{reason};
 ghost use Rattle.th_shared.specs.Saying.{IsOf};
 
 use std::sync::Wait;
@@ -12,7 +15,9 @@ use th_registry::{NoEvent, TopicId};
 use th_seats::Share;
 
 /// Why a call was no event.
-pub(crate) fn why<C: Drop>(refused: Refused<C>) -> NoEvent {
+pub(crate) fn why<C: Drop>(refused: Refused<C>) -> NoEvent
+    ensures { result ≡ reason refused }
+{
     match refused {
         Refused::Foreign(_) => NoEvent::NotLive,
         Refused::Short(_) => NoEvent::Short,
@@ -27,10 +32,10 @@ pub(crate) fn is_on<O: Kind, S: Side<O>>(handle: &Handle<O, S>, topic: TopicId) 
     topic.0.checked_add(1) == Some(handle.key())
 }
 
-// One event of a handle that neither makes nor spends one, if the kind has the call. Nobody is woken by it. It waits until
-// the call is ready.
+/// One event of a handle that neither makes nor spends one, if the kind has the call. Nobody is woken by it. It waits until
+/// the call is ready.
 #[inline(always)]
-fn event<O: Kind, S: Side<O>, R: Wait>(
+pub(crate) fn event<O: Kind, S: Side<O>, R: Wait>(
     rt: &R,
     topic: TopicId,
     handle: &mut Handle<O, S>,
@@ -39,7 +44,7 @@ fn event<O: Kind, S: Side<O>, R: Wait>(
     requires lawful { O.lawful }
     requires own { IsBy S.caller handle.old.number call }
     ensures number { handle.new.number ≡ handle.old.number }
-    ensures receipt { IfOk result (IsOf topic.0 call) }
+    ensures enters { Enters topic.0 call handle.old.known handle.new.known result }
 {
     let Some(call) = call else {
         return Err(NoEvent::WrongKind);
@@ -63,7 +68,8 @@ pub(crate) fn send<O: Kind, R: Wait>(
 ) -> Result<Receipt<O>, NoEvent>
     requires { O.lawful }
     ensures number { sender.new.number ≡ sender.old.number }
-    ensures receipt { IfOk result (IsOf topic.0 (O.by_sender verb (tx sender.old))) }
+    ensures enters { Enters topic.0 (O.by_sender verb (tx sender.old))
+        sender.old.known sender.new.known result }
 {
     let call = O::by_sender(verb, TxId(sender.number()));
     event(rt, topic, sender, call)
@@ -78,7 +84,8 @@ pub(crate) fn ask<O: Kind, R: Wait>(
 ) -> Result<Receipt<O>, NoEvent>
     requires { O.lawful }
     ensures number { sender.new.number ≡ sender.old.number }
-    ensures receipt { IfOk result (IsOf topic.0 (O.asked question (tx sender.old))) }
+    ensures enters { Enters topic.0 (O.asked question (tx sender.old))
+        sender.old.known sender.new.known result }
 {
     let call = O::asked(question, TxId(sender.number()));
     event(rt, topic, sender, call)
@@ -94,14 +101,15 @@ pub(crate) fn receive<O: Kind, R: Wait>(
 ) -> Result<Receipt<O>, NoEvent>
     requires { O.lawful }
     ensures number { receiver.new.number ≡ receiver.old.number }
-    ensures receipt { IfOk result (IsOf topic.0 (O.by_receiver verb (rx receiver.old))) }
+    ensures enters { Enters topic.0 (O.by_receiver verb (rx receiver.old))
+        receiver.old.known receiver.new.known result }
 {
     let call = O::by_receiver(verb, RxId(receiver.number()));
     event(rt, topic, receiver, call)
 }
 
-/// The last event of a handle. Where there was none the handle comes back.
-pub(crate) fn spend<O: Kind, S: Side<O>, R: Wait>(
+// The last event of a handle. Where there was none the handle comes back: it is not live on the topic.
+fn spend<O: Kind, S: Side<O>, R: Wait>(
     rt: &R,
     topic: TopicId,
     handle: Handle<O, S>,
@@ -109,7 +117,8 @@ pub(crate) fn spend<O: Kind, S: Side<O>, R: Wait>(
     requires { O.lawful }
     ensures receipt { IfOk result (λ r. IsOf topic.0 (Some (S.last handle.number)) r.1) }
     ensures done { IfOk result (λ r. r.1.reply ≡ O.done) }
-    ensures back { IfErr result (λ e. e.0 ≡ handle) }
+    ensures share { IfOk result (λ r. r.0 ≡ counted handle.known.share) }
+    ensures back { IfErr result (λ e. (e.0 ≡ handle) × (e.1 ≡ NoEvent.NotLive)) }
 {
     if !is_on(&handle, topic) {
         return Err((handle, NoEvent::NotLive));
@@ -117,5 +126,29 @@ pub(crate) fn spend<O: Kind, S: Side<O>, R: Wait>(
     match handle.spend_told(rt) {
         Ok(spent) => Ok(spent),
         Err((handle, refused)) => Err((handle, why(refused))),
+    }
+}
+
+// A receipt that is not handed out.
+fn let_go<O: Kind>(_receipt: Receipt<O>) {}
+
+/// The last event of a handle, whose receipt is given up. Where there was none the handle comes back: it is not live on the
+/// topic.
+pub(crate) fn end<O: Kind, S: Side<O>, R: Wait>(
+    rt: &R,
+    topic: TopicId,
+    handle: Handle<O, S>,
+) -> Result<Share, Handle<O, S>>
+    requires { O.lawful }
+    ensures event { OnOk result (HasEnded topic.0 (S.last handle.number) O.done) }
+    ensures share { IfOk result (λ share. share ≡ counted handle.known.share) }
+    ensures back { IfErr result (λ back. back ≡ handle) }
+{
+    match spend(rt, topic, handle) {
+        Ok((share, receipt)) => {
+            let_go(receipt);
+            Ok(share)
+        }
+        Err((handle, _)) => Err(handle),
     }
 }

@@ -22,6 +22,8 @@
 //! ```
 #![tactic(auto)]
 
+mod by_hub;
+mod cut;
 mod deferred_wake;
 pub mod desk;
 pub mod ended;
@@ -31,7 +33,9 @@ mod new_handle;
 pub mod observer;
 mod receipts_ahead;
 mod registry;
+mod said;
 pub mod serve;
+mod shared_topics;
 mod shares;
 mod told;
 mod topic;

@@ -2,13 +2,14 @@
 ghost use Rattle.std.specs.Prelude.{◌≡◌, IfOk, IfSome, Some};
 ghost use Rattle.th_log.specs.Replies.{made_by};
 ghost use Rattle.th_block.specs.Handles.{rx, tx};
-ghost use Rattle.th_shared.specs.Saying.{Makes};
+ghost use Rattle.th_shared.specs.Doing.{Enters, Moves};
+ghost use Rattle.th_shared.specs.Saying.{IsNumbered, first};
 
 use crate::event::{is_on, why};
 use std::sync::Wait;
 use th_block::{Handle, Receives, Replaced, Sends};
 use th_log::{Kind, Receipt};
-use th_model::{RxId, Start};
+use th_model::{RxId, Start, TxId};
 use th_registry::{NoEvent, TopicId};
 use th_seats::Share;
 
@@ -23,8 +24,10 @@ pub(crate) fn bind<O: Kind, R: Wait>(
 ) -> Result<New<O, Sends>, NoEvent>
     requires { O.lawful }
     ensures number { sender.new.number ≡ sender.old.number }
-    ensures made { IfOk result
-        (Makes topic.0 (Some (O.cloning (tx sender.old))) (made_by O.made_tx O.made_rx)) }
+    ensures enters { Enters topic.0 (Some (O.cloning (tx sender.old)))
+        sender.old.known sender.new.known (first result) }
+    ensures made { IfOk result (λ new.
+        IsNumbered (made_by O.made_tx O.made_rx new.0.reply) new.1) }
 {
     if !is_on(sender, topic) {
         return Err(NoEvent::NotLive);
@@ -44,9 +47,14 @@ pub(crate) fn subscribe<O: Kind, R: Wait>(
 ) -> Result<New<O, Receives>, NoEvent>
     requires { O.lawful }
     ensures number { sender.new.number ≡ sender.old.number }
-    ensures made { IfOk result
-        (Makes topic.0 (O.subscribing start (tx sender.old)) (made_by O.made_tx O.made_rx)) }
+    ensures enters { Enters topic.0 (O.subscribing start (tx sender.old))
+        sender.old.known sender.new.known (first result) }
+    ensures made { IfOk result (λ new.
+        IsNumbered (made_by O.made_tx O.made_rx new.0.reply) new.1) }
 {
+    let Some(_call) = O::subscribing(start, TxId(sender.number())) else {
+        return Err(NoEvent::WrongKind);
+    };
     if !is_on(sender, topic) {
         return Err(NoEvent::NotLive);
     }
@@ -71,9 +79,9 @@ pub(crate) fn resubscribe<O: Kind, R: Wait>(
     old: Handle<O, Receives>,
 ) -> Moved<O>
     requires { O.lawful }
-    ensures number { IfSome result.0 (λ left. left.number ≡ old.number) }
+    ensures moves { Moves topic.0 (O.resubscribing (rx old)) old result.0 result.1 }
     ensures made { IfOk result.1 (λ r.
-        Makes topic.0 (O.resubscribing (rx old)) (made_by O.made_tx O.made_rx) r.0) }
+        IsNumbered (made_by O.made_tx O.made_rx r.0.0.reply) r.0.1) }
 {
     let Some(call) = O::resubscribing(RxId(old.number())) else {
         return (Some(old), Err(NoEvent::WrongKind));

@@ -1,7 +1,8 @@
 //! Events that were made before they are asked for.
-ghost use Rattle.std.specs.Prelude.{◌≡◌, ◌+◌, true, IfSome, Some};
+ghost use Rattle.std.specs.Prelude.{◌≡◌, ◌+◌, ◌∷◌, ◌++◌, [], true, MatchOption, Some};
 ghost use Rattle.th_log.specs.Calls.{broadcast_by_receiver, broadcast_by_sender};
 ghost use Rattle.th_registry.specs.Calls.{Bytes};
+ghost use Rattle.th_shared.specs.Doing.{HoldsBack};
 ghost use Rattle.th_shared.specs.Saying.{IsOf};
 
 use crate::event::is_on;
@@ -88,15 +89,19 @@ impl ReceiptsAhead {
         receiver: RxId,
         verb: ReceiverVerb,
     ) -> Option<Receipt<HubBroadcast>>
-        ensures { IfSome result (IsOf topic.0 (broadcast_by_receiver {T = Bytes} verb receiver)) }
+        ensures { let call = broadcast_by_receiver {T = Bytes} verb receiver in
+            let held = self.old.receipts.items in
+            let left = self.new.receipts.items in
+            MatchOption result (left ≡ held)
+            (λ r. IsOf topic.0 call r × (held ≡ left ++ r ∷ [])) }
     {
-        let receipt = self.receipts.pop()?;
-        if is_of(&receipt, topic) && is_received(receipt.call(), receiver, verb) {
-            return Some(receipt);
+        let Some(next) = self.receipts.last() else {
+            return None;
+        };
+        if !(is_of(next, topic) && is_received(next.call(), receiver, verb)) {
+            return None;
         }
-        // It is another receiver's. There is room where it stood.
-        let _ = self.receipts.push(receipt);
-        None
+        self.receipts.pop()
     }
 
     /// The next receipt, where it is of what this sender does now.
@@ -107,14 +112,19 @@ impl ReceiptsAhead {
         sender: TxId,
         verb: &SenderVerb<Value>,
     ) -> Option<Receipt<HubBroadcast>>
-        ensures { IfSome result (IsOf topic.0 (broadcast_by_sender verb.now sender)) }
+        ensures { let call = broadcast_by_sender verb.now sender in
+            let held = self.old.receipts.items in
+            let left = self.new.receipts.items in
+            MatchOption result (left ≡ held)
+            (λ r. IsOf topic.0 call r × (held ≡ left ++ r ∷ [])) }
     {
-        let receipt = self.receipts.pop()?;
-        if is_of(&receipt, topic) && is_sent(receipt.call(), sender, verb) {
-            return Some(receipt);
+        let Some(next) = self.receipts.last() else {
+            return None;
+        };
+        if !(is_of(next, topic) && is_sent(next.call(), sender, verb)) {
+            return None;
         }
-        let _ = self.receipts.push(receipt);
-        None
+        self.receipts.pop()
     }
 
     /// Lets go of the receipts, if they are for this handle, which makes no call any more. Their events stand in the history,
@@ -137,7 +147,9 @@ impl ReceiptsAhead {
         receiver: &mut BReceiver<Value>,
         most: usize,
     ) -> usize
-        ensures { receiver.new.number ≡ receiver.old.number }
+        ensures number { receiver.new.number ≡ receiver.old.number }
+        ensures holds { HoldsBack self.old.receipts.items self.new.receipts.items
+            receiver.old.known receiver.new.known }
     {
         let call = BCall::Recv(RxId(receiver.number()));
         if !self.receipts.is_empty()
@@ -161,7 +173,9 @@ impl ReceiptsAhead {
         sender: &mut BSender<Value>,
         values: &[Value],
     )
-        ensures { sender.new.number ≡ sender.old.number }
+        ensures number { sender.new.number ≡ sender.old.number }
+        ensures holds { HoldsBack self.old.receipts.items self.new.receipts.items
+            sender.old.known sender.new.known }
     {
         if !self.receipts.is_empty()
             || !is_on(sender, topic)

@@ -1,144 +1,110 @@
 //! The topics that threads share, as they stand under their lock.
-ghost use Rattle.std.specs.Prelude.{◌≡◌, ◌⊎◌, Err, Ok, IfErr};
+ghost use Rattle.std.specs.Prelude.{◌≡◌, ◌⊎◌, false, is_some, IfErr};
 ghost use Rattle.th_registry.specs.Events.{Asks, Binds, DropsTx, Hub, Subscribes};
-ghost use Rattle.th_registry.specs.Hub.{On, Open};
+ghost use Rattle.th_registry.specs.Hub.{On, find};
 ghost use Rattle.th_registry.specs.Typed.{ended, made_rx, made_tx, replied};
-ghost use Rattle.th_shared.specs.Numbers.{number_of, receiver, sender};
+ghost use Rattle.th_shared.specs.Numbers.{receiver, sender};
+ghost use Rattle.th_shared.specs.Rows.{Opens};
 ghost use Rattle.th_shared.specs.Saying.{MaySay};
 
 use crate::handles::{TopicOwner, TopicReceiver, TopicSender};
-use crate::told;
-use crate::topic::{Own, Topic};
+use crate::said::{
+    broadcast_receivers, broadcast_senders, broadcast_told, watch_receivers, watch_senders,
+    watch_told,
+};
+use crate::topic::{AnyTopic, Topic};
+use indexmap::IndexMap;
 use std::alloc::Global;
-use std::collections::HashMap;
 use std::sync::Wait;
 use th_log::MOST_ENTRIES;
-use th_model::{Capacity, Listed, Listing, Making, Name, NameRef, Question, Short, Start, Value};
-use th_registry::channel::TopicReceipt;
-use th_registry::{Channel, Found, MOST_TOPICS, Made, NoEvent, Refusal, TopicId, Unspent};
+use th_model::{Capacity, Making, Name, NameRef, Question, Start, Value};
+use th_registry::channel::{HubBroadcast, HubWatch, TopicReceipt};
+use th_registry::{Channel, Found, MOST_TOPICS, Made, NoEvent, Refusal, TopicId};
 
-/// Topics in order of opening, and the number of each by its name.
-#[derive(Drop)]
-pub(crate) struct Topics {
-    pub(crate) rows: Vec<(Name, Topic)>,
-    numbers: HashMap<Name, u64>,
+/// At most 1,024 topics by their names, in order of opening.
+pub(crate) type Topics = IndexMap<Name, AnyTopic>;
+
+/// The topic of this name.
+pub(crate) fn find(topics: &Topics, name: &NameRef<'_>) -> Option<Found>
+    ensures { result ≡ find topics.now.entries name.now }
+{
+    match topics.get_full(name) {
+        Some((number, _, topic)) => Some(Found {
+            topic: TopicId(number as u64),
+            kind: topic.kind(),
+        }),
+        None => None,
+    }
 }
 
-impl Topics {
-    /// No topic.
-    pub(crate) fn new(alloc: Global) -> Topics {
-        Topics {
-            rows: Vec::new(alloc),
-            numbers: HashMap::new(alloc),
-        }
+// A topic with a new broadcast channel, if there is memory for it.
+fn broadcast_topic(
+    alloc: Global,
+    capacity: Capacity,
+    base: u64,
+    key: u64,
+) -> Option<Topic<HubBroadcast>> {
+    match th_block::broadcast_at::<Value>(alloc, capacity, base, MOST_ENTRIES, key) {
+        Ok(sender) => Topic::new(sender),
+        Err(_) => None,
     }
+}
 
-    /// The topic of this name.
-    pub(crate) fn find(&self, name: &NameRef<'_>) -> Option<Found> {
-        let number = *self.numbers.get(&name.to_name())?;
-        match self.rows.get(number as usize) {
-            Some((_, topic)) => Some(Found {
-                topic: TopicId(number),
-                kind: topic.owner.kind(),
-            }),
-            None => None,
-        }
-    }
-
-    /// The topics with their kinds. It takes memory for all of them at once.
-    pub(crate) fn list(&self) -> Result<Listing, Short<()>> {
-        let alloc = *self.rows.allocator();
-        let Ok(mut rows) = Vec::with_capacity(alloc, self.rows.len()) else {
-            return Err(Short { call: () });
-        };
-        for (name, topic) in &self.rows {
-            let Ok(name) = name.clone() else {
-                return Err(Short { call: () });
-            };
-            let kind = topic.owner.kind();
-            let Ok(()) = rows.push(Listed { name, kind }) else {
-                return Err(Short { call: () });
-            };
-        }
-        match Listing::from_vec(rows) {
-            Ok(listing) => Ok(listing),
-            Err(_) => Err(Short { call: () }),
-        }
-    }
-
-    // The key of a new topic's channel, if there may be one more topic.
-    fn next_key(&self) -> Result<u64, Refusal>
-        ensures { IfErr result (λ why. why ≡ Refusal.TooManyTopics) }
-    {
-        if self.rows.len() >= MOST_TOPICS {
-            return Err(Refusal::TooManyTopics);
-        }
-        Ok(self.rows.len() as u64 + 1)
-    }
-
-    // A topic at the end, under a name that is not there, behind the first sender of its channel, which is the hub's own.
-    // Answers the number that is told of it.
-    fn add(&mut self, name: Name, handle: TopicSender, told: u64) -> Result<u64, Refusal>
-        requires { number_of handle ≡ 1 }
-        ensures { (result ≡ Ok told) ⊎ (result ≡ Err Refusal.Short) }
-    {
-        let Ok(owner) = told::owner_of(&handle) else {
-            return Err(Refusal::Short);
-        };
-        let Ok(key) = name.clone() else {
-            return Err(Refusal::Short);
-        };
-        let Ok(()) = self.rows.reserve(1) else {
-            return Err(Refusal::Short);
-        };
-        let Ok(_) = self.numbers.insert(key, self.rows.len() as u64) else {
-            return Err(Refusal::Short);
-        };
-        let own = Some(Own { sender: handle });
-        let topic = Topic {
-            owner,
-            own,
-            share: None,
-        };
-        match self.rows.push((name, topic)) {
-            Ok(()) => Ok(told),
-            Err(_) => Err(Refusal::Short),
-        }
+// The same with a watch channel.
+fn watch_topic(alloc: Global, value: Value, key: u64) -> Option<Topic<HubWatch>> {
+    match th_block::watch::<Value>(alloc, value, MOST_ENTRIES, key) {
+        Ok(sender) => Topic::new(sender),
+        Err(_) => None,
     }
 }
 
 // A broadcast topic at the end, under a name that is not there: its capacity in force.
 fn open_broadcast(topics: &mut Topics, name: Name, asked: u64, base: u64) -> Result<u64, Refusal>
-    ensures { MaySay (Open name (Making.BroadcastAt asked base)) result }
+    requires { is_some (find topics.old.entries name) ≡ false }
+    ensures { Opens topics.old.entries name (Making.BroadcastAt asked base) result
+        topics.new.entries }
 {
     let Ok(capacity) = Capacity::new(asked) else {
         return Err(Refusal::BadCapacity);
     };
-    let key = topics.next_key()?;
-    let alloc = *topics.rows.allocator();
-    match th_block::broadcast_at::<Value>(alloc, capacity, base, MOST_ENTRIES, key) {
-        Ok(sender) => topics.add(name, Channel::Broadcast(sender), capacity.in_force()),
-        Err(_) => Err(Refusal::Short),
+    if topics.len() >= MOST_TOPICS {
+        return Err(Refusal::TooManyTopics);
     }
+    let key = topics.len() as u64 + 1;
+    let alloc = *topics.allocator();
+    let Some(topic) = broadcast_topic(alloc, capacity, base, key) else {
+        return Err(Refusal::Short);
+    };
+    let Ok(_) = topics.insert(name, Channel::Broadcast(topic)) else {
+        return Err(Refusal::Short);
+    };
+    Ok(capacity.in_force())
 }
 
 // The same of a watch topic, for which 1 is told.
 fn open_watch(topics: &mut Topics, name: Name, value: Value) -> Result<u64, Refusal>
-    ensures { MaySay (Open name (Making.Watch value)) result }
+    requires { is_some (find topics.old.entries name) ≡ false }
+    ensures { Opens topics.old.entries name (Making.Watch value) result topics.new.entries }
 {
-    let key = topics.next_key()?;
-    let alloc = *topics.rows.allocator();
-    match th_block::watch::<Value>(alloc, value, MOST_ENTRIES, key) {
-        Ok(sender) => topics.add(name, Channel::Watch(sender), 1),
-        Err(_) => Err(Refusal::Short),
+    if topics.len() >= MOST_TOPICS {
+        return Err(Refusal::TooManyTopics);
     }
+    let key = topics.len() as u64 + 1;
+    let alloc = *topics.allocator();
+    let Some(topic) = watch_topic(alloc, value, key) else {
+        return Err(Refusal::Short);
+    };
+    let Ok(_) = topics.insert(name, Channel::Watch(topic)) else {
+        return Err(Refusal::Short);
+    };
+    Ok(1)
 }
 
 /// Opens a topic, and answers the number that is told of it.
 pub(crate) fn open(topics: &mut Topics, name: &NameRef<'_>, making: Making) -> Result<u64, Refusal>
-    ensures { MaySay (Open name.now making) result }
+    ensures { Opens topics.old.entries name.now making result topics.new.entries }
 {
-    if topics.find(name).is_some() {
+    if find(&*topics, name).is_some() {
         return Err(Refusal::Exists);
     }
     let name = name.to_name();
@@ -157,12 +123,12 @@ pub(crate) fn bind<R: Wait>(
 ) -> Result<Made<TopicSender>, NoEvent>
     ensures { MaySay (On topic.0 Binds) (made_tx sender result) }
 {
-    match topics.rows.get_mut(topic.0 as usize) {
-        None => Err(NoEvent::NoTopic),
-        Some((_, at)) => match &mut at.own {
-            Some(own) => told::bind(rt, topic, &mut own.sender),
-            None => Err(NoEvent::NoSender),
-        },
+    let Some(at) = topics.get_index_mut(topic.0 as usize) else {
+        return Err(NoEvent::NoTopic);
+    };
+    match at {
+        Channel::Broadcast(at) => broadcast_senders(at.bind(rt, topic)),
+        Channel::Watch(at) => watch_senders(at.bind(rt, topic)),
     }
 }
 
@@ -175,12 +141,12 @@ pub(crate) fn subscribe<R: Wait>(
 ) -> Result<Made<TopicReceiver>, NoEvent>
     ensures { MaySay (On topic.0 (Subscribes start Hub)) (made_rx receiver result) }
 {
-    match topics.rows.get_mut(topic.0 as usize) {
-        None => Err(NoEvent::NoTopic),
-        Some((_, at)) => match &mut at.own {
-            Some(own) => told::subscribe(rt, topic, start, &mut own.sender),
-            None => Err(NoEvent::NoSender),
-        },
+    let Some(at) = topics.get_index_mut(topic.0 as usize) else {
+        return Err(NoEvent::NoTopic);
+    };
+    match at {
+        Channel::Broadcast(at) => broadcast_receivers(at.subscribe(rt, topic, start)),
+        Channel::Watch(at) => watch_receivers(at.subscribe(rt, topic, start)),
     }
 }
 
@@ -193,12 +159,12 @@ pub(crate) fn ask<R: Wait>(
 ) -> Result<TopicReceipt, NoEvent>
     ensures { MaySay (On topic.0 (Asks Hub question)) (replied result) }
 {
-    match topics.rows.get_mut(topic.0 as usize) {
-        None => Err(NoEvent::NoTopic),
-        Some((_, at)) => match &mut at.own {
-            Some(own) => told::ask(rt, topic, &mut own.sender, question),
-            None => Err(NoEvent::NoSender),
-        },
+    let Some(at) = topics.get_index_mut(topic.0 as usize) else {
+        return Err(NoEvent::NoTopic);
+    };
+    match at {
+        Channel::Broadcast(at) => broadcast_told(at.ask(rt, topic, question)),
+        Channel::Watch(at) => watch_told(at.ask(rt, topic, question)),
     }
 }
 
@@ -206,31 +172,34 @@ pub(crate) fn ask<R: Wait>(
 pub(crate) fn end<R: Wait>(rt: &R, topics: &mut Topics, topic: TopicId) -> Result<(), NoEvent>
     ensures { MaySay (On topic.0 (DropsTx Hub)) (ended result) }
 {
-    let Some((_, at)) = topics.rows.get_mut(topic.0 as usize) else {
+    let Some(at) = topics.get_index_mut(topic.0 as usize) else {
         return Err(NoEvent::NoTopic);
     };
-    let Some(Own { sender }) = at.own.take() else {
-        return Err(NoEvent::NoSender);
-    };
-    match told::end_sender(rt, topic, sender) {
-        Ok(share) => {
-            at.share = Some(share);
-            Ok(())
-        }
-        Err(Unspent { handle, why }) => {
-            at.own = Some(Own { sender: handle });
-            Err(why)
-        }
+    match at {
+        Channel::Broadcast(at) => at.end(rt, topic),
+        Channel::Watch(at) => at.end(rt, topic),
     }
 }
 
 /// An owner of a topic's channel, by which its log is cut.
-pub(crate) fn another_owner(topics: &Topics, topic: TopicId) -> Result<TopicOwner, NoEvent> {
-    match topics.rows.get(topic.0 as usize) {
-        Some((_, at)) => match told::another(&at.owner) {
-            Ok(owner) => Ok(owner),
-            Err(_) => Err(NoEvent::Short),
+pub(crate) fn another_owner(topics: &Topics, topic: TopicId) -> Result<TopicOwner, NoEvent>
+    ensures { IfErr result (λ why. (why ≡ NoEvent.NoTopic) ⊎ (why ≡ NoEvent.Short)) }
+{
+    let Some((_, at)) = topics.get_index(topic.0 as usize) else {
+        return Err(NoEvent::NoTopic);
+    };
+    let owner = match at {
+        Channel::Broadcast(at) => match at.owner.another() {
+            Ok(owner) => Some(Channel::Broadcast(owner)),
+            Err(_) => None,
         },
-        None => Err(NoEvent::NoTopic),
+        Channel::Watch(at) => match at.owner.another() {
+            Ok(owner) => Some(Channel::Watch(owner)),
+            Err(_) => None,
+        },
+    };
+    match owner {
+        Some(owner) => Ok(owner),
+        None => Err(NoEvent::Short),
     }
 }

@@ -103,17 +103,17 @@ impl TopicCache {
 
     /// Puts this topic into the cache; without memory for it, it is left out.
     pub(crate) fn add(&mut self, topics: &Topics, topic: TopicId)
-        ensures { MatchOption (slice_get topics.now.rows.items topic.0) (self.new ≡ self.old)
+        ensures { MatchOption (slice_get topics.now.entries topic.0) (self.new ≡ self.old)
             (λ row. Learns self.old self.new row.0
-            (record { topic = topic; kind = kind_of row.1.owner })) }
+            (record { topic = topic; kind = kind_of row.1 })) }
     {
-        let Some((name, at)) = topics.rows.get(topic.0 as usize) else {
+        let Some((name, at)) = topics.get_index(topic.0 as usize) else {
             return;
         };
         if find_among(self.few.as_slice(), name.as_bytes()).is_some() {
             return;
         }
-        let kind = at.owner.kind();
+        let kind = at.kind();
         if let Ok(name) = name.clone() {
             self.put(name, Found { topic, kind });
         }

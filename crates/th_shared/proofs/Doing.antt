@@ -1,0 +1,258 @@
+-- What is said of an event, by what the call of a handle came to.
+use Rattle.std.proofs.Common.{◌≡◌, ℕ, true, false, is_some, Option, Some, None, Result, Ok, Err, IfOk, refl, sym, ap, subst, ◌∙◌, inl, inr}
+use Rattle.th_block.specs.Handles.{Holder, Known}
+use Rattle.th_log.specs.Outcome.{Told}
+use Rattle.th_model.specs.declared.kind.Kind.TheVariants as Kinds
+use Rattle.th_model.specs.declared.handles.RxId.{RxId}
+use Rattle.th_model.specs.declared.broadcast.BCall.{BCall}
+use Rattle.th_model.specs.declared.broadcast.BCall.TheVariants as BCalls
+use Rattle.th_model.specs.declared.broadcast.BReply.{BReply}
+use Rattle.th_model.specs.declared.broadcast.BReply.TheVariants as BReplies
+use Rattle.th_model.specs.declared.watch.WCall.{WCall}
+use Rattle.th_model.specs.declared.watch.WCall.TheVariants as WCalls
+use Rattle.th_model.specs.declared.watch.WReply.{WReply}
+use Rattle.th_model.specs.declared.watch.WReply.TheVariants as WReplies
+use Rattle.th_registry.specs.declared.channel.Channel.{Channel}
+use Rattle.th_registry.specs.declared.channel.Channel.TheVariants.{Broadcast, Watch}
+use Rattle.th_registry.specs.declared.outcome.NoEvent.{NoEvent}
+use Rattle.th_registry.specs.declared.outcome.NoEvent.TheVariants.{NoTopic, WrongKind, NoSender, NotLive, Blocked, LogFull, Short}
+use Rattle.th_registry.specs.Calls.{Bytes, tx}
+use Rattle.th_registry.specs.Events.{By, DropsRx, DropsTx, Ended, Event, Hub, Subscribes, any_sender, broadcast_call, broadcast_outcome, ended_or, is_broadcast_done, is_by_hub, is_end, is_watch_done, sender_of, watch_call, watch_outcome}
+use Rattle.th_registry.specs.Typed.{ended}
+use Rattle.th_registry.specs.Hub.{Noted, On}
+use Rattle.th_registry.specs.Receipts.{BroadcastReceipt, ChannelReceipt, WatchReceipt}
+use Rattle.th_seats.specs.Tally.{Part}
+use Rattle.th_shared.specs.declared.handles.TopicReceiver.{TopicReceiver}
+use Rattle.th_shared.specs.declared.handles.TopicReceiver.TheVariants.{Live, Spent}
+use Rattle.th_shared.specs.Doing.{Declines, DeclinesHub, Does, EndsHub, Enters, EntersHub, HasEnded, HasMade, KnowsAfter, Moves, OwnDoes, ReceiverMoves, TellsKind, noted_of}
+use Rattle.std.specs.Option.{option_map}
+use Rattle.th_model.specs.declared.verb.Start.{Start}
+use Rattle.th_shared.specs.Numbers.{sender}
+use Rattle.th_shared.specs.Reasons.{through_hub}
+use Rattle.th_shared.specs.Saying.{MayRefuse, MaySay, first}
+
+-- of an event by a handle that stays
+module _ (n : ℕ) (e : Event) (own : is_by_hub e ≡ false) (stays : is_end e ≡ false) where
+  broadcast-refuses : (why : NoEvent) → Declines (broadcast_call e) why → MayRefuse e why
+  broadcast-refuses NoTopic bad = absurd bad
+  broadcast-refuses WrongKind none = inl none
+  broadcast-refuses NoSender bad = absurd bad
+  broadcast-refuses NotLive there = own
+  broadcast-refuses Blocked bad = absurd bad
+  broadcast-refuses LogFull there = stays
+  broadcast-refuses Short there = stays
+
+  broadcast-kind : (why : NoEvent) → Declines (broadcast_call e) why → TellsKind Kinds.Broadcast e (Err why)
+  broadcast-kind NoTopic bad = absurd bad
+  broadcast-kind WrongKind none = ap is_some none
+  broadcast-kind NoSender bad = absurd bad
+  broadcast-kind NotLive there = there
+  broadcast-kind Blocked bad = absurd bad
+  broadcast-kind LogFull there = there
+  broadcast-kind Short there = tt
+
+  watch-refuses : (why : NoEvent) → Declines (watch_call e) why → MayRefuse e why
+  watch-refuses NoTopic bad = absurd bad
+  watch-refuses WrongKind none = inr none
+  watch-refuses NoSender bad = absurd bad
+  watch-refuses NotLive there = own
+  watch-refuses Blocked bad = absurd bad
+  watch-refuses LogFull there = stays
+  watch-refuses Short there = stays
+
+  watch-kind : (why : NoEvent) → Declines (watch_call e) why → TellsKind Kinds.Watch e (Err why)
+  watch-kind NoTopic bad = absurd bad
+  watch-kind WrongKind none = ap is_some none
+  watch-kind NoSender bad = absurd bad
+  watch-kind NotLive there = there
+  watch-kind Blocked bad = absurd bad
+  watch-kind LogFull there = there
+  watch-kind Short there = tt
+
+  module _ (old new : Holder) (same : new.number ≡ old.number) where
+    broadcast-did : (said : Result BroadcastReceipt NoEvent) → Enters n (broadcast_call e) old.known new.known said →
+        Does n e (Broadcast old) (Broadcast new) (noted_of (broadcast_outcome e) (λ r. Broadcast r) said)
+    broadcast-did (Ok r) enters = record {
+      says = ((enters.0, refl), stays);
+      kind = ap is_some enters.0.0;
+      number = same;
+      knows = enters.1;
+    }
+    broadcast-did (Err why) enters = record {
+      says = (refl, broadcast-refuses why enters.0);
+      kind = broadcast-kind why enters.0;
+      number = same;
+      knows = enters.1;
+    }
+
+    watch-did : (said : Result WatchReceipt NoEvent) → Enters n (watch_call e) old.known new.known said →
+        Does n e (Watch old) (Watch new) (noted_of (watch_outcome e) (λ r. Watch r) said)
+    watch-did (Ok r) enters = record {
+      says = ((enters.0, refl), stays);
+      kind = ap is_some enters.0.0;
+      number = same;
+      knows = enters.1;
+    }
+    watch-did (Err why) enters = record {
+      says = (refl, watch-refuses why enters.0);
+      kind = watch-kind why enters.0;
+      number = same;
+      knows = enters.1;
+    }
+
+    pub broadcast-does : (said : Result BroadcastReceipt NoEvent) (noted : Noted) →
+        noted ≡ noted_of (broadcast_outcome e) (λ r. Broadcast r) said →
+        Enters n (broadcast_call e) old.known new.known said → Does n e (Broadcast old) (Broadcast new) noted
+    broadcast-does said noted is enters = subst (Does n e (Broadcast old) (Broadcast new)) (sym is) (broadcast-did said enters)
+
+    pub watch-does : (said : Result WatchReceipt NoEvent) (noted : Noted) →
+        noted ≡ noted_of (watch_outcome e) (λ r. Watch r) said →
+        Enters n (watch_call e) old.known new.known said → Does n e (Watch old) (Watch new) noted
+    watch-does said noted is enters = subst (Does n e (Watch old) (Watch new)) (sym is) (watch-did said enters)
+
+-- of an event by the hub's own sender, which stays
+module _ (n : ℕ) (e : Event) (hub : is_by_hub e ≡ true) (stays : is_end e ≡ false) where
+  hub-refuses-broadcast : (why : NoEvent) → DeclinesHub (broadcast_call e) why → MayRefuse e why
+  hub-refuses-broadcast NoTopic bad = absurd bad
+  hub-refuses-broadcast WrongKind none = inl none
+  hub-refuses-broadcast NoSender there = hub
+  hub-refuses-broadcast NotLive bad = absurd bad
+  hub-refuses-broadcast Blocked bad = absurd bad
+  hub-refuses-broadcast LogFull there = stays
+  hub-refuses-broadcast Short there = stays
+
+  hub-refuses-watch : (why : NoEvent) → DeclinesHub (watch_call e) why → MayRefuse e why
+  hub-refuses-watch NoTopic bad = absurd bad
+  hub-refuses-watch WrongKind none = inr none
+  hub-refuses-watch NoSender there = hub
+  hub-refuses-watch NotLive bad = absurd bad
+  hub-refuses-watch Blocked bad = absurd bad
+  hub-refuses-watch LogFull there = stays
+  hub-refuses-watch Short there = stays
+
+  hub-told-broadcast : (old new : Option Known) (said : Result BroadcastReceipt NoEvent) →
+      EntersHub n (broadcast_call e) old new said → MaySay (On n e) (noted_of (broadcast_outcome e) (λ r. Broadcast r) said)
+  hub-told-broadcast (Some k) (Some l) (Ok r) enters = ((enters.0, refl), stays)
+  hub-told-broadcast (Some k) None (Ok r) bad = absurd bad
+  hub-told-broadcast None new (Ok r) bad = absurd bad
+  hub-told-broadcast (Some k) new (Err why) enters = (refl, hub-refuses-broadcast why enters.0)
+  hub-told-broadcast None new (Err why) enters = (refl, hub-refuses-broadcast why enters.0)
+
+  hub-told-watch : (old new : Option Known) (said : Result WatchReceipt NoEvent) →
+      EntersHub n (watch_call e) old new said → MaySay (On n e) (noted_of (watch_outcome e) (λ r. Watch r) said)
+  hub-told-watch (Some k) (Some l) (Ok r) enters = ((enters.0, refl), stays)
+  hub-told-watch (Some k) None (Ok r) bad = absurd bad
+  hub-told-watch None new (Ok r) bad = absurd bad
+  hub-told-watch (Some k) new (Err why) enters = (refl, hub-refuses-watch why enters.0)
+  hub-told-watch None new (Err why) enters = (refl, hub-refuses-watch why enters.0)
+
+  pub hub-says-broadcast : (old new : Option Known) (said : Result BroadcastReceipt NoEvent) (noted : Noted) →
+      noted ≡ noted_of (broadcast_outcome e) (λ r. Broadcast r) said →
+      EntersHub n (broadcast_call e) old new said → MaySay (On n e) noted
+  hub-says-broadcast old new said noted is enters =
+      subst (MaySay (On n e)) (sym is) (hub-told-broadcast old new said enters)
+
+  pub hub-says-watch : (old new : Option Known) (said : Result WatchReceipt NoEvent) (noted : Noted) →
+      noted ≡ noted_of (watch_outcome e) (λ r. Watch r) said →
+      EntersHub n (watch_call e) old new said → MaySay (On n e) noted
+  hub-says-watch old new said noted is enters =
+      subst (MaySay (On n e)) (sym is) (hub-told-watch old new said enters)
+
+-- a call of the hub's own sender
+module _ {C R : Type 0} (n : ℕ) (call : Option C) (old new : Known) where
+  by-hub : (said : Result (Told C R) NoEvent) → Enters n call old new said →
+      EntersHub n call (Some old) (Some new) (through_hub said)
+  by-hub (Ok r) enters = enters
+  by-hub (Err NoTopic) enters = absurd enters.0
+  by-hub (Err WrongKind) enters = (enters.0, ap (λ k. Some k) enters.1)
+  by-hub (Err NoSender) enters = absurd enters.0
+  by-hub (Err NotLive) enters = (enters.0, ap (λ k. Some k) enters.1)
+  by-hub (Err Blocked) enters = absurd enters.0
+  by-hub (Err LogFull) enters = (enters.0, ap (λ k. Some k) enters.1)
+  by-hub (Err Short) enters = (enters.0, ap (λ k. Some k) enters.1)
+
+  pub goes-through-hub : (said result : Result (Told C R) NoEvent) → result ≡ through_hub said →
+      Enters n call old new said → EntersHub n call (Some old) (Some new) result
+  goes-through-hub said result is enters = subst (EntersHub n call (Some old) (Some new)) (sym is) (by-hub said enters)
+
+  first-through : {X : Type 0} (said : Result (Told C R × X) NoEvent) → through_hub (first said) ≡ first (through_hub said)
+  first-through (Ok r) = refl
+  first-through (Err why) = refl
+
+  pub makes-through-hub : {X : Type 0} (said result : Result (Told C R × X) NoEvent) → result ≡ through_hub said →
+      Enters n call old new (first said) → EntersHub n call (Some old) (Some new) (first result)
+  makes-through-hub said result is enters =
+      subst (EntersHub n call (Some old) (Some new)) (first-through said ∙ ap first (sym is)) (by-hub (first said) enters)
+
+-- what is true of what came stays so
+pub if-through-hub : {A : Type 0} (P : A → Type 0) (said result : Result A NoEvent) → result ≡ through_hub said → IfOk said P → IfOk result P
+if-through-hub P (Ok a) result is here = subst (λ r. IfOk r P) (sym is) here
+if-through-hub P (Err why) result is here = subst (λ r. IfOk r P) (sym is) tt
+
+-- what is left of a broadcast receiver, once another was asked for in its place
+abbrev pub left_of : ℕ → Option Holder → TopicReceiver
+left_of n None = Spent n
+left_of n (Some h) = Live (Broadcast h)
+
+module _ {M C R : Type 0} (n : ℕ) (call : Option C) (old : Holder) where
+  pub moved : (left : Option Holder) (new : Told C R × Option Holder) (share : Option Part) (made : M) (receipt : ChannelReceipt) →
+      ((k : Known) → HasMade old.known k new.0 → KnowsAfter old.known k (Some receipt)) →
+      Moves n call old left (Ok (new, share)) →
+      ReceiverMoves (Broadcast old) (left_of old.number left) (Ok (made, share)) (Some receipt)
+  moved None (r, Some h) (Some share) made receipt knows moves = (refl, moves.2)
+  moved None (r, Some h) None made receipt knows moves = absurd moves
+  moved None (r, None) share made receipt knows moves = absurd moves
+  moved (Some left) (r, None) None made receipt knows moves = (moves.1, knows left.known moves.2)
+  moved (Some left) (r, None) (Some share) made receipt knows moves = absurd moves
+  moved (Some left) (r, Some h) share made receipt knows moves = absurd moves
+
+-- the last event of a handle, which the channel is done with
+done-broadcast : (reply : BReply Bytes) → reply ≡ BReplies.Done → Ended ≡ ended_or (is_broadcast_done reply) (Broadcast reply)
+done-broadcast reply is = ap (λ (r : BReply Bytes). ended_or (is_broadcast_done r) (Broadcast r)) (sym is)
+
+done-watch : (reply : WReply Bytes) → reply ≡ WReplies.Done → Ended ≡ ended_or (is_watch_done reply) (Watch reply)
+done-watch reply is = ap (λ (r : WReply Bytes). ended_or (is_watch_done r) (Watch r)) (sym is)
+
+module _ (n : ℕ) where
+  pub ends-broadcast-tx : (by : By) → HasEnded {C = BCall Bytes} {R = BReply Bytes} n (BCalls.DropTx (sender_of by)) BReplies.Done → MaySay (On n (DropsTx by)) (Ok Ended, None)
+  ends-broadcast-tx by h = (Broadcast h.0, (h.1, done-broadcast h.0.reply h.2), refl)
+
+  pub ends-watch-tx : (by : By) → HasEnded {C = WCall Bytes} {R = WReply Bytes} n (WCalls.DropTx (sender_of by)) WReplies.Done → MaySay (On n (DropsTx by)) (Ok Ended, None)
+  ends-watch-tx by h = (Watch h.0, (h.1, done-watch h.0.reply h.2), refl)
+
+  pub ends-broadcast-rx : (r : RxId) → HasEnded {C = BCall Bytes} {R = BReply Bytes} n (BCalls.DropRx r) BReplies.Done → MaySay (On n (DropsRx r)) (Ok Ended, None)
+  ends-broadcast-rx r h = (Broadcast h.0, (h.1, done-broadcast h.0.reply h.2), refl)
+
+  pub ends-watch-rx : (r : RxId) → HasEnded {C = WCall Bytes} {R = WReply Bytes} n (WCalls.DropRx r) WReplies.Done → MaySay (On n (DropsRx r)) (Ok Ended, None)
+  ends-watch-rx r h = (Watch h.0, (h.1, done-watch h.0.reply h.2), refl)
+
+  no-end : (why : NoEvent) → why ≡ NoSender → MaySay (On n (DropsTx Hub)) (Err why, None)
+  no-end why is = (refl, subst (MayRefuse (DropsTx Hub)) (sym is) refl)
+
+  pub hub-ends-broadcast : (old new : Option Known) (share : Option Part) (said : Result (Unit {0}) NoEvent) →
+      EndsHub {C = BCall Bytes} {R = BReply Bytes} n (BCalls.DropTx (tx 1)) BReplies.Done old new share said → MaySay (On n (DropsTx Hub)) (ended said)
+  hub-ends-broadcast (Some k) None (Some s) (Ok u) h = ends-broadcast-tx Hub h.1
+  hub-ends-broadcast (Some k) None None (Ok u) h = absurd h
+  hub-ends-broadcast (Some k) (Some l) share (Ok u) h = absurd h
+  hub-ends-broadcast None new share (Ok u) h = absurd h
+  hub-ends-broadcast (Some k) None (Some s) (Err why) h = no-end why h.0
+  hub-ends-broadcast (Some k) None None (Err why) h = no-end why h.0
+  hub-ends-broadcast (Some k) (Some l) share (Err why) h = no-end why h.0
+  hub-ends-broadcast None new share (Err why) h = no-end why h.0
+
+  pub hub-ends-watch : (old new : Option Known) (share : Option Part) (said : Result (Unit {0}) NoEvent) →
+      EndsHub {C = WCall Bytes} {R = WReply Bytes} n (WCalls.DropTx (tx 1)) WReplies.Done old new share said → MaySay (On n (DropsTx Hub)) (ended said)
+  hub-ends-watch (Some k) None (Some s) (Ok u) h = ends-watch-tx Hub h.1
+  hub-ends-watch (Some k) None None (Ok u) h = absurd h
+  hub-ends-watch (Some k) (Some l) share (Ok u) h = absurd h
+  hub-ends-watch None new share (Ok u) h = absurd h
+  hub-ends-watch (Some k) None (Some s) (Err why) h = no-end why h.0
+  hub-ends-watch (Some k) None None (Err why) h = no-end why h.0
+  hub-ends-watch (Some k) (Some l) share (Err why) h = no-end why h.0
+  hub-ends-watch None new share (Err why) h = no-end why h.0
+
+-- there was no memory for the share of one handle more
+pub subscribes-short : (n : ℕ) (start : Start) (by : Option (Channel Holder Holder)) →
+    OwnDoes n (Subscribes start (any_sender (option_map sender by))) by by (Err Short, None)
+subscribes-short n start None = refl
+subscribes-short n start (Some h) = record { says = (refl, refl); kind = tt; number = refl; knows = refl }

@@ -1,0 +1,161 @@
+-- What a handle's event does to the handle, and why there is none (docs/HISTORIES.md, "In threads").
+use Rattle.std.specs.Prelude.{◌≡◌, ℕ, ◌≤◌, ◌<◌, ◌⊎◌, Bool, true, false, is_some, List, [], ◌∷◌, ◌++◌, length, Option, Some, None, IsSome, Result, Ok, Err}
+use Rattle.th_seats.specs.Tally.{Part}
+use Rattle.th_block.specs.Handles.{Holder, Known, seen_of}
+use Rattle.th_block.specs.Rows.{counted_by}
+use Rattle.th_log.specs.Outcome.{Told, counted}
+use Rattle.th_model.specs.declared.kind.Kind.{Kind}
+use Rattle.th_model.specs.declared.kind.Kind.TheVariants as Kinds
+use Rattle.th_registry.specs.declared.channel.Channel.{Channel}
+use Rattle.th_registry.specs.declared.channel.Channel.TheVariants.{Broadcast, Watch}
+use Rattle.th_registry.specs.declared.outcome.NoEvent.{NoEvent}
+use Rattle.th_registry.specs.declared.outcome.NoEvent.TheVariants.{WrongKind, NoSender, NotLive, LogFull, Short}
+use Rattle.th_registry.specs.Events.{Event, EventResult, Outcome, broadcast_call, broadcast_outcome, watch_call}
+use Rattle.th_registry.specs.Hub.{Noted, On}
+use Rattle.th_registry.specs.Kinds.{kind_of}
+use Rattle.th_registry.specs.Receipts.{BroadcastReceipt, ChannelReceipt}
+use Rattle.th_shared.specs.declared.handles.TopicReceiver.{TopicReceiver}
+use Rattle.th_shared.specs.declared.handles.TopicReceiver.TheVariants.{Live, Spent}
+use Rattle.th_shared.specs.Numbers.{known_of, number_of}
+use Rattle.th_shared.specs.Saying.{IsOf, MaySay}
+
+-- the handle has made the event of this receipt: its share has exactly one event more, at a place that the handle had not
+-- seen, and has seen now
+pub record HasMade {C R : Type 0} (old new : Known) (r : Told C R) : Type 0 where
+  pub share : new.share ≡ counted old.share
+  pub later : seen_of old ≤ r.place
+  pub seen : r.place < seen_of new
+
+-- Why a handle makes no event of a call: its kind has no such call; or it has, and the handle is not live on the topic, the
+-- log is full, or there was no memory.
+abbrev pub Declines : {C : Type 0} → Option C → NoEvent → Type 0
+Declines call WrongKind = call ≡ None
+Declines call NotLive = IsSome call
+Declines call LogFull = IsSome call
+Declines call Short = IsSome call
+Declines call why = ⊥
+
+-- the same through the hub's own sender, which is not live once it is spent
+abbrev pub DeclinesHub : {C : Type 0} → Option C → NoEvent → Type 0
+DeclinesHub call WrongKind = call ≡ None
+DeclinesHub call NoSender = IsSome call
+DeclinesHub call LogFull = IsSome call
+DeclinesHub call Short = IsSome call
+DeclinesHub call why = ⊥
+
+module _ {C R : Type 0} where
+  -- a handle's call on a topic, if its kind has it: one event, or none, and then nothing has changed
+  abbrev pub Enters : ℕ → Option C → (old new : Known) → Result (Told C R) NoEvent → Type 0
+  Enters n call old new (Ok r) = IsOf n call r × HasMade old new r
+  Enters n call old new (Err why) = Declines call why × (new ≡ old)
+
+  -- the same through the hub's own sender, if it is there
+  abbrev pub EntersHub : ℕ → Option C → (old new : Option Known) → Result (Told C R) NoEvent
+      → Type 0
+  EntersHub n call (Some old) (Some new) (Ok r) = IsOf n call r × HasMade old new r
+  EntersHub n call old new (Ok r) = ⊥
+  EntersHub n call old new (Err why) = DeclinesHub call why × (new ≡ old)
+
+  -- there was the last event of a handle, which is answered so
+  abbrev pub HasEnded : ℕ → C → (done : R) → Type 0
+  HasEnded n call done = (r : Told C R) × IsOf n (Some call) r × (r.reply ≡ done)
+
+  -- the last event of the hub's own sender, which is answered so: its share stays, with one event more; or there is no such
+  -- sender, and nothing has changed
+  abbrev pub EndsHub : ℕ → C → (done : R) → (old new : Option Known) → (share : Option Part)
+      → Result (Unit {0}) NoEvent → Type 0
+  EndsHub n call done (Some old) None (Some share) (Ok _) =
+      (share ≡ counted old.share) × HasEnded n call done
+  EndsHub n call done old new share (Ok _) = ⊥
+  EndsHub n call done old new share (Err why) = (why ≡ NoSender) × (new ≡ old)
+
+  -- A receiver that asks for another in its place, what is left of it, and what is said. Its share has two events more, and
+  -- it is no longer there; or one, and it stays, since the channel made no other; or none, and nothing has changed.
+  abbrev pub Moves : ℕ → Option C → (old : Holder) → (left : Option Holder)
+      → Result ((Told C R × Option Holder) × Option Part) NoEvent → Type 0
+  Moves n call old None (Ok ((r, Some h), Some share)) =
+      IsOf n call r × (seen_of old.known ≤ r.place) × (share ≡ counted (counted old.known.share))
+  Moves n call old (Some left) (Ok ((r, None), None)) =
+      IsOf n call r × (left.number ≡ old.number) × HasMade old.known left.known r
+  Moves n call old (Some left) (Err why) = Declines call why × (left ≡ old)
+  Moves n call old left said = ⊥
+
+  -- what is noted of what a channel says: its receipt, if there is one, and what came of the reply
+  abbrev pub noted_of : (R → Outcome) → (Told C R → ChannelReceipt) → Result (Told C R) NoEvent
+      → Noted
+  noted_of outcome receipt (Ok r) = (Ok (outcome r.reply), Some (receipt r))
+  noted_of outcome receipt (Err why) = (Err why, None)
+
+-- whether a kind of channel has a call for an event
+abbrev pub has_call : Kind → Event → Bool
+has_call Kinds.Broadcast e = is_some (broadcast_call e)
+has_call Kinds.Watch e = is_some (watch_call e)
+
+-- the wrong kind is told exactly where this kind has no call for the event, but that memory may be wanting before
+abbrev pub TellsKind : Kind → Event → EventResult → Type 0
+TellsKind k e (Err WrongKind) = has_call k e ≡ false
+TellsKind k e (Err Short) = Unit {0}
+TellsKind k e said = has_call k e ≡ true
+
+-- what a handle knows after what is noted of its event
+abbrev pub KnowsAfter : (old new : Known) → Option ChannelReceipt → Type 0
+KnowsAfter old new None = new ≡ old
+KnowsAfter old new (Some (Broadcast r)) = HasMade old new r
+KnowsAfter old new (Some (Watch r)) = HasMade old new r
+
+-- One event of a handle on a topic, or none: what is noted of it, and the handle afterwards.
+pub record Does (n : ℕ) (e : Event) (old new : Channel Holder Holder) (noted : Noted) : Type 0 where
+  pub says : MaySay (On n e) noted
+  pub kind : TellsKind (kind_of old) e noted.0
+  pub number : number_of new ≡ number_of old
+  pub knows : KnowsAfter (known_of old) (known_of new) noted.1
+
+-- events of a handle were made ahead and are held back, where none were: so many as its share counts more; or nothing has
+-- changed
+abbrev pub HoldsBack : (held held' : List BroadcastReceipt) → (old new : Known) → Type 0
+HoldsBack held held' old new = ((held' ≡ held) × (new ≡ old))
+    ⊎ ((held ≡ []) × (new.share ≡ counted_by (length held') old.share))
+
+-- the next of the receipts that are held back is handed out, which stands last, and it is one of this event; the handle is as
+-- it was
+pub record HandsOut (n : ℕ) (e : Event) (held held' : List BroadcastReceipt)
+    (old new : Channel Holder Holder) (noted : Noted) : Type 0 where
+  pub receipt : BroadcastReceipt
+  pub next : held ≡ held' ++ receipt ∷ []
+  pub is : noted ≡ (Ok (broadcast_outcome e receipt.reply), Some (Broadcast receipt))
+  pub says : MaySay (On n e) noted
+  pub same : new ≡ old
+
+-- an event of a handle, which may have been made before
+abbrev pub DoesAhead : ℕ → Event → (held held' : List BroadcastReceipt)
+    → (old new : Channel Holder Holder) → Noted → Type 0
+DoesAhead n e held held' old new noted =
+    (Does n e old new noted × (held' ≡ held)) ⊎ HandsOut n e held held' old new noted
+
+-- the same where it is not seen what is held back
+abbrev pub DoesOrDid : ℕ → Event → (old new : Channel Holder Holder) → Noted → Type 0
+DoesOrDid n e old new noted = Does n e old new noted
+    ⊎ (MaySay (On n e) noted × (new ≡ old) × IsSome noted.1)
+
+-- the same of a receiver, which may have been spent when another began in its place
+abbrev pub ReceiverDoes : ℕ → Event → (old new : TopicReceiver) → Noted → Type 0
+ReceiverDoes n e (Live old) (Live new) noted = DoesOrDid n e old new noted
+ReceiverDoes n e (Live old) (Spent number) noted = ⊥
+ReceiverDoes n e (Spent number) new noted =
+    (new ≡ Spent number) × (noted ≡ (Err NotLive, None))
+
+-- an event by a sender, or by the hub's own where there is none, which is not seen
+abbrev pub OwnDoes : ℕ → Event → (old new : Option (Channel Holder Holder)) → Noted → Type 0
+OwnDoes n e (Some old) (Some new) noted = Does n e old new noted
+OwnDoes n e (Some old) None noted = ⊥
+OwnDoes n e None new noted = new ≡ None
+
+-- A receiver that asked for another in its place, and its share where it was spent for that: two events of it, one, or none.
+abbrev pub ReceiverMoves : {M : Type 0} → (old : Channel Holder Holder) → (left : TopicReceiver)
+    → Result (M × Option Part) NoEvent → Option ChannelReceipt → Type 0
+ReceiverMoves old (Spent number) (Ok (made, Some share)) receipt =
+    (number ≡ number_of old) × (share ≡ counted (counted (known_of old).share))
+ReceiverMoves old (Live new) (Ok (made, None)) receipt =
+    (number_of new ≡ number_of old) × KnowsAfter (known_of old) (known_of new) receipt
+ReceiverMoves old (Live new) (Err why) receipt = new ≡ old
+ReceiverMoves old left said receipt = ⊥

@@ -1,0 +1,39 @@
+-- What is said of the topics under their lock, by the hub's own definitions (th_registry, specs/Hub.antt). Of a channel that
+-- threads share nothing is seen but its kind.
+use Rattle.std.specs.Prelude.{◌≡◌, ◌++◌, ℕ, Result, map}
+use Rattle.th_model.specs.declared.making.Making.{Making}
+use Rattle.th_registry.specs.Calls.{Bytes}
+use Rattle.th_registry.specs.declared.channel.Channel.{Channel}
+use Rattle.th_registry.specs.declared.channel.Channel.TheVariants.{Broadcast, Watch}
+use Rattle.th_registry.specs.declared.opening.Refusal.{Refusal}
+use Rattle.th_registry.specs.Hub.{Machines, Open, Says, Topics}
+
+-- topics in order of opening, each with its name and its kind
+abbrev pub Rows : Type 0
+Rows = Topics (Unit {0}) (Unit {0})
+
+-- what the hub says to an opening, and the topics after it, whatever its channels are: the first refusal that holds, or one
+-- topic more at the end; or memory was refused, where nothing else refuses
+abbrev pub SaysOpen : (old : Rows) → Bytes → Making → Result ℕ Refusal → (new : Rows) → Type 0
+SaysOpen old name making said new =
+    (m : Machines (Unit {0}) (Unit {0})) → Says m old (Open name making) said new
+
+module _ {B W : Type 0} where
+  abbrev pub bare : Channel B W → Channel (Unit {0}) (Unit {0})
+  bare (Broadcast c) = Broadcast tt
+  bare (Watch c) = Watch tt
+
+  abbrev pub row : Bytes × Channel B W → Bytes × Channel (Unit {0}) (Unit {0})
+  row topic = (topic.0, bare topic.1)
+
+  abbrev pub rows : Topics B W → Rows
+  rows ts = map row ts
+
+  -- the topics that were there are as they were, before those that came
+  abbrev pub Stay : (old new : Topics B W) → Type 0
+  Stay old new = (later : Topics B W) × (new ≡ old ++ later)
+
+  -- a topic is opened as the hub opens it, and all others stay
+  abbrev pub Opens : (old : Topics B W) → Bytes → Making → Result ℕ Refusal → (new : Topics B W)
+      → Type 0
+  Opens old name making said new = SaysOpen (rows old) name making said (rows new) × Stay old new

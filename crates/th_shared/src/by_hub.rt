@@ -1,0 +1,129 @@
+//! The events that go through the hub's own sender of a topic, for any kind of channel.
+ghost use Rattle.std.specs.Prelude.{◌≡◌, IfErr, IfOk, OnOk, Some};
+ghost use Rattle.std.specs.Option.{option_map};
+ghost use Rattle.th_log.specs.Outcome.{counted};
+ghost use Rattle.th_log.specs.Replies.{made_by};
+ghost use Rattle.th_registry.specs.Calls.{tx};
+ghost use Rattle.th_shared.specs.Doing.{EndsHub, EntersHub};
+ghost use Rattle.th_shared.specs.Reasons.{through_hub};
+ghost use Rattle.th_shared.specs.Saying.{IsNumbered, first};
+
+use crate::new_handle::New;
+use crate::topic::{Own, Topic};
+use crate::{event, new_handle};
+use std::sync::Wait;
+use th_block::{Handle, Receives, Sends};
+use th_log::{Kind, Receipt};
+use th_model::{Question, Start, TxId};
+use th_registry::{NoEvent, TopicId};
+
+/// The number of the hub's own sender.
+const OWN: TxId = TxId(1);
+
+// What is said through the hub's own sender.
+fn through_hub<A>(said: Result<A, NoEvent>) -> Result<A, NoEvent>
+    ensures { result ≡ through_hub said }
+{
+    match said {
+        Ok(came) => Ok(came),
+        Err(NoEvent::NotLive) => Err(NoEvent::NoSender),
+        Err(why) => Err(why),
+    }
+}
+
+impl<O: Kind> Topic<O> {
+    /// A topic with this first sender as the hub's own. `None` past 2^63 owners of its channel.
+    pub(crate) fn new(sender: Handle<O, Sends>) -> Option<Topic<O>>
+        requires { sender.number ≡ 1 }
+    {
+        let Ok(owner) = sender.shared() else {
+            return None;
+        };
+        Some(Topic {
+            owner,
+            own: Some(Own { sender }),
+            share: None,
+        })
+    }
+
+    /// A new sender.
+    pub(crate) fn bind<R: Wait>(&mut self, rt: &R, topic: TopicId) -> Result<New<O, Sends>, NoEvent>
+        requires { O.lawful }
+        ensures enters { EntersHub topic.0 (Some (O.cloning (tx 1)))
+            (option_map (λ own. own.sender.known) self.old.own)
+            (option_map (λ own. own.sender.known) self.new.own) (first result) }
+        ensures made { IfOk result (λ new.
+            IsNumbered (made_by O.made_tx O.made_rx new.0.reply) new.1) }
+    {
+        match &mut self.own {
+            Some(own) => through_hub(new_handle::bind(rt, topic, &mut own.sender)),
+            None => Err(NoEvent::NoSender),
+        }
+    }
+
+    /// A new receiver that begins so.
+    pub(crate) fn subscribe<R: Wait>(
+        &mut self,
+        rt: &R,
+        topic: TopicId,
+        start: Start,
+    ) -> Result<New<O, Receives>, NoEvent>
+        requires { O.lawful }
+        ensures enters { EntersHub topic.0 (O.subscribing start (tx 1))
+            (option_map (λ own. own.sender.known) self.old.own)
+            (option_map (λ own. own.sender.known) self.new.own) (first result) }
+        ensures made { IfOk result (λ new.
+            IsNumbered (made_by O.made_tx O.made_rx new.0.reply) new.1) }
+    {
+        let Some(_call) = O::subscribing(start, OWN) else {
+            return Err(NoEvent::WrongKind);
+        };
+        match &mut self.own {
+            Some(own) => through_hub(new_handle::subscribe(rt, topic, &mut own.sender, start)),
+            None => Err(NoEvent::NoSender),
+        }
+    }
+
+    /// A question.
+    pub(crate) fn ask<R: Wait>(
+        &mut self,
+        rt: &R,
+        topic: TopicId,
+        question: Question,
+    ) -> Result<Receipt<O>, NoEvent>
+        requires { O.lawful }
+        ensures { EntersHub topic.0 (O.asked question (tx 1))
+            (option_map (λ own. own.sender.known) self.old.own)
+            (option_map (λ own. own.sender.known) self.new.own) result }
+    {
+        let Some(_call) = O::asked(question, OWN) else {
+            return Err(NoEvent::WrongKind);
+        };
+        match &mut self.own {
+            Some(own) => through_hub(event::ask(rt, topic, &mut own.sender, question)),
+            None => Err(NoEvent::NoSender),
+        }
+    }
+
+    /// The end of the hub's own sender, whose share stays with the topic. The receipt is given up.
+    pub(crate) fn end<R: Wait>(&mut self, rt: &R, topic: TopicId) -> Result<(), NoEvent>
+        requires { O.lawful }
+        ensures { EndsHub topic.0 (O.last_of_sender (tx 1)) O.done
+            (option_map (λ own. own.sender.known) self.old.own)
+            (option_map (λ own. own.sender.known) self.new.own) self.new.share result }
+    {
+        let Some(Own { sender }) = self.own.take() else {
+            return Err(NoEvent::NoSender);
+        };
+        match event::end(rt, topic, sender) {
+            Ok(share) => {
+                self.share = Some(share);
+                Ok(())
+            }
+            Err(sender) => {
+                self.own = Some(Own { sender });
+                Err(NoEvent::NoSender)
+            }
+        }
+    }
+}
