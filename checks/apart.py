@@ -21,11 +21,21 @@ ENDING = ".in"
 EDITS = ("must-fail", "more-edits")
 
 
+def lines():
+    """The lines of crates.txt: what stands before the colon, a crate's name first, and what it uses."""
+    with open(os.path.join(ROOT, "crates.txt"), encoding="utf-8") as file:
+        parts = [line.partition("#")[0].partition(":") for line in file]
+    return [(head.split(), tail.split()) for head, _, tail in parts if head.split()]
+
+
 def libraries():
     """What each crate of crates.txt uses, by its name."""
-    with open(os.path.join(ROOT, "crates.txt"), encoding="utf-8") as file:
-        lines = [line.partition("#")[0].partition(":") for line in file]
-    return {head.split()[0]: tail.split() for head, _, tail in lines if head.split()}
+    return {head[0]: uses for head, uses in lines()}
+
+
+def statics():
+    """The static libraries, on which no crate can stand."""
+    return {head[0] for head, _ in lines() if "staticlib" in head}
 
 
 def below(name):
@@ -79,13 +89,13 @@ def copy_repository(room, with_programs=False, keeps=False):
 
     shutil.copytree(CRATES, os.path.join(room, "crates"), ignore=left_out)
     shutil.copy(os.path.join(ROOT, "HANDLES"), room)
-    lines = [f"{name}: {' '.join(uses)}\n" for name, uses in libraries().items()]
+    rows = [f"{' '.join(head)}: {' '.join(uses)}\n" for head, uses in lines()]
     if with_programs:
         for name in programs():
             copy_folder(os.path.join(PROGRAMS, name), os.path.join(room, "crates", PREFIX + name))
-            lines.append(f"{PREFIX}{name}: {' '.join(program_uses(name))}\n")
+            rows.append(f"{PREFIX}{name}: {' '.join(program_uses(name))}\n")
     with open(os.path.join(room, "crates.txt"), "w", encoding="utf-8") as file:
-        file.writelines(lines)
+        file.writelines(rows)
 
 
 def build(name, folder):
@@ -148,7 +158,7 @@ def copy_suites(room, crate, names):
 
 def every_library():
     """The libraries of the repository, and those of the toolchain that they use."""
-    uses = libraries()
+    uses = {name: its for name, its in libraries().items() if name not in statics()}
     is_program = lambda it: os.path.isfile(os.path.join(CRATES, it, "src", "main.rt"))
     return [it for it in dict.fromkeys([*uses, *sum(uses.values(), [])]) if not is_program(it)]
 

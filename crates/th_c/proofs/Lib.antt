@@ -1,0 +1,7 @@
+pub mod Boxes
+pub mod Filling
+pub mod Judging
+pub mod Kept
+pub mod Powers
+pub mod Printed
+pub mod Telling

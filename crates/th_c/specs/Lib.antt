@@ -1,0 +1,9 @@
+pub mod Handles
+pub mod Held
+pub mod Outcomes
+pub mod Making
+pub mod Broadcast
+pub mod Watch
+pub mod Checking
+pub mod SpelledNumbers
+pub mod Cutting

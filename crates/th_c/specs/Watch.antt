@@ -1,0 +1,86 @@
+-- Calls of a watch channel of a number, as C makes them.
+use Rattle.std.specs.Prelude.{◌≡◌, ℕ, nat_eq, ◌==◌, if◌then◌else◌, Option, Some, Result, Err}
+use Rattle.th_model.specs.declared.watch.Edit.TheVariants.{Set, Differ, Quiet}
+use Rattle.th_model.specs.declared.watch.WCall.{WCall}
+use Rattle.th_model.specs.declared.watch.WCall.TheVariants.{Send, Replace, EditBy}
+use Rattle.th_model.specs.declared.watch.WReply.{WReply}
+use Rattle.th_model.specs.declared.watch.WReply.TheVariants.{Done, NoReceivers, Exhausted, Was, Modified, Shown, Changed, Marked, NotYet, Closed, Gone, NewRx, NewTx, Count, TooMany, NoHandle}
+use Rattle.th_model.specs.Live.{TakesNone}
+use Rattle.th_model.specs.WatchPicture.{Picture, answer}
+use Rattle.th_log.specs.Machines.{watch}
+use Rattle.th_c.specs.declared.content.Content.{Content}
+use Rattle.th_c.specs.declared.content.Content.TheVariants as content
+use Rattle.th_c.specs.declared.outcome.Refusal.{Refusal}
+use Rattle.th_c.specs.declared.outcome.Refusal.TheVariants.{NotOpen}
+use Rattle.th_c.specs.declared.reply.Reply.{Reply}
+use Rattle.th_c.specs.declared.status.TheConstants.{DONE, NO_RECEIVERS, EXHAUSTED, WAS, YES, NO, NEW, SAME, MARKED, NOT_YET, CLOSED, NEW_RX, NEW_TX, COUNT, TOO_MANY, NO_HANDLE, NEVER}
+use Rattle.th_registry.specs.History.{History}
+use Rattle.th_c.specs.Outcomes.{Answers, Records, Through}
+
+-- the status of a reply (lib/c/topichub.h)
+abbrev pub status_of : WReply ℕ → ℕ
+status_of Done = DONE
+status_of (NoReceivers value) = NO_RECEIVERS
+status_of (Exhausted value) = EXHAUSTED
+status_of (Was value) = WAS
+status_of (Modified published) = if published then YES else NO
+status_of (Shown value unseen) = if unseen then NEW else SAME
+status_of (Changed unseen) = if unseen then YES else NO
+status_of Marked = MARKED
+status_of NotYet = NOT_YET
+status_of Closed = CLOSED
+status_of (Gone none_left) = if none_left then YES else NO
+status_of (NewRx rx) = NEW_RX
+status_of (NewTx tx) = NEW_TX
+status_of (Count n) = COUNT
+status_of TooMany = TOO_MANY
+status_of (NoHandle back) = NO_HANDLE
+
+-- the number that the status speaks of
+abbrev pub number_of : WReply ℕ → ℕ
+number_of (NoReceivers value) = value
+number_of (Exhausted value) = value
+number_of (Was value) = value
+number_of (Shown value unseen) = value
+number_of (NewRx rx) = rx.0
+number_of (NewTx tx) = tx.0
+number_of (Count n) = n
+number_of (NoHandle (Some value)) = value
+number_of reply = 0
+
+-- the status with which a call puts its value in the place of the newest one, which is let go
+abbrev pub puts_at : WCall ℕ → ℕ
+puts_at (Send tx value) = DONE
+puts_at (Replace tx value) = WAS
+puts_at (EditBy tx (Set value)) = YES
+puts_at (EditBy tx (Differ value)) = YES
+puts_at (EditBy tx (Quiet value)) = NO
+puts_at call = NEVER
+
+-- what C is told of a call
+abbrev pub tells : Picture ℕ → WCall ℕ → Reply
+tells before call =
+    let reply = (answer nat_eq before call).0 in
+    let status = status_of reply in
+    record {
+      status = status;
+      let_go = if status == puts_at call then 1 else 0;
+      number = number_of reply;
+    }
+
+-- what comes of a call to what is behind a handle: an answer, where it is a watch channel
+abbrev pub Answered : Content → WCall ℕ → Result Reply Refusal → Content → Type 0
+Answered (content.Watch before) call told next =
+    (after : Picture ℕ)
+    × (next ≡ content.Watch after)
+    × Answers (watch nat_eq) tells TakesNone before call told after
+Answered (content.RecordedWatch before) call told next =
+    (after : History (Picture ℕ) (Picture ℕ) (WCall ℕ) (WReply ℕ))
+    × (next ≡ content.RecordedWatch after)
+    × Records (watch nat_eq) tells before call told after
+Answered other call told next = (told ≡ Err NotOpen) × (next ≡ other)
+
+-- and through the handle
+abbrev pub Called : Option Content → WCall ℕ → Reply → Option Content → Type 0
+Called before call reply after =
+    Through (λ c told next. Answered c call told next) before reply after

@@ -1,0 +1,32 @@
+//! What a handle stands for.
+use crate::text::Text;
+use th_bcast::Broadcast;
+use th_log::Segment;
+use th_registry::recorded::Recorded;
+use th_ring::RingShelf;
+use th_watch::Watch;
+
+/// A broadcast channel of numbers.
+pub(crate) type NumberBroadcast = Broadcast<u64, RingShelf<u64>>;
+
+/// A watch channel of a number.
+pub(crate) type NumberWatch = Watch<u64>;
+
+/// What is behind a handle.
+#[derive(Drop)]
+pub enum Content {
+    /// A broadcast channel that keeps no history.
+    Broadcast(NumberBroadcast),
+    /// One that keeps its history.
+    RecordedBroadcast(Recorded<NumberBroadcast>),
+    /// A watch channel that keeps no history.
+    Watch(NumberWatch),
+    /// One that keeps its history.
+    RecordedWatch(Recorded<NumberWatch>),
+    /// A segment of a broadcast channel's history, whose trace was not read yet.
+    BroadcastHistory(Segment<NumberBroadcast>),
+    /// One of a watch channel's.
+    WatchHistory(Segment<NumberWatch>),
+    /// A trace, as far as it was not read yet.
+    Read(Text),
+}

@@ -1,0 +1,66 @@
+//! Calls of a channel of either kind, with their replies as C sees them.
+ghost use Rattle.std.specs.Prelude.{◌≡◌, ℕ, ◌≤◌};
+ghost use Rattle.th_c.specs.Outcomes.{Answers, Records};
+ghost use Rattle.th_c.specs.declared.reply.Reply.{Reply};
+
+use crate::outcome::{Refusal, Told};
+use crate::reply::Reply;
+use th_log::Kind;
+use th_registry::NoEvent;
+use th_registry::recorded::Recorded;
+
+/// A kind of channel whose replies go to C.
+pub trait Tells: Kind {
+    /// What C is told of a call in a channel that looks so.
+    ghost tells: { Self.State → Self.Call → Reply };
+
+    /// What has to be known before a call, to say how many values it lets go of.
+    ghost noted: { Self.State → Self.Call → ℕ };
+
+    /// What has to be known before the call.
+    fn note(&self, call: &Self::Call) -> u64
+        ensures noted { result ≡ noted (Self.shows self.now) call.now }
+        ensures small { result ≤ 65536 };
+
+    /// What C is told of the reply, in a channel as it is after the call.
+    fn told(&self, note: u64, reply: &Self::Reply) -> Reply
+        requires { note ≤ 65536 }
+        ensures { (before : Self.State) (call : Self.Call) → note ≡ noted before call
+            → Self.machine.answer before call ≡ (reply.now, Self.shows self.now)
+            → result ≡ tells before call };
+}
+
+/// Makes a call of a channel that keeps no history.
+#[inline(always)]
+pub(crate) fn answered<O: Tells>(channel: &mut O, call: O::Call) -> Told
+    requires { O.lawful }
+    ensures { Answers O.machine O.tells O.takes_none
+        (O.shows channel.old) call result (O.shows channel.new) }
+{
+    if !channel.ready(&call) {
+        return Err(Refusal::WouldWait);
+    }
+    let note = channel.note(&call);
+    match channel.apply(call) {
+        Ok(reply) => Ok(channel.told(note, &reply)),
+        Err(_) => Err(Refusal::NoMemory),
+    }
+}
+
+/// Makes a call of a channel that keeps its history.
+#[inline(always)]
+pub(crate) fn recorded<O: Tells>(channel: &mut Recorded<O>, call: O::Call) -> Told
+    requires { O.lawful }
+    ensures { Records O.machine O.tells channel.old call result channel.new }
+{
+    if !channel.object().ready(&call) {
+        return Err(Refusal::WouldWait);
+    }
+    let note = channel.object().note(&call);
+    match channel.record(call) {
+        Ok(receipt) => Ok(channel.object().told(note, receipt.reply())),
+        Err(NoEvent::LogFull) => Err(Refusal::LogFull),
+        Err(NoEvent::Short) => Err(Refusal::NoMemory),
+        Err(_) => unreachable!(),
+    }
+}

@@ -1,0 +1,113 @@
+//! A watch channel's replies, as C sees them, and its calls through a handle.
+ghost use Rattle.std.specs.Prelude.{◌≡◌, ◌≤◌, if◌then◌else◌};
+ghost use Rattle.th_c.specs.Watch.{Answered, Called, number_of, puts_at, status_of};
+ghost use Rattle.th_c.specs.declared.status.TheConstants.{NO, YES};
+
+use crate::content::{Content, NumberWatch};
+use crate::handle::Handle;
+use crate::outcome::{Refusal, Told, reply};
+use crate::raw::{put, take};
+use crate::reply::Reply;
+use crate::status;
+use crate::tells::{Tells, answered, recorded};
+use std::alloc::Global;
+use th_model::{Edit, WCall, WReply};
+
+// The status that answers a question.
+#[inline(always)]
+fn yes_or_no(answer: bool) -> u32
+    ensures { result ≡ if answer then YES else NO }
+{
+    if answer { status::YES } else { status::NO }
+}
+
+// The status of a reply, and the number that it speaks of.
+#[inline(always)]
+fn status_and_number(reply: &WReply<u64>) -> (u32, u64)
+    ensures { result ≡ (status_of reply.now, number_of reply.now) }
+{
+    match reply {
+        WReply::Done => (status::DONE, 0),
+        WReply::NoReceivers(value) => (status::NO_RECEIVERS, *value),
+        WReply::Exhausted(value) => (status::EXHAUSTED, *value),
+        WReply::Was(value) => (status::WAS, *value),
+        WReply::Modified(published) => (yes_or_no(*published), 0),
+        WReply::Shown(value, true) => (status::NEW, *value),
+        WReply::Shown(value, false) => (status::SAME, *value),
+        WReply::Changed(unseen) => (yes_or_no(*unseen), 0),
+        WReply::Marked => (status::MARKED, 0),
+        WReply::NotYet => (status::NOT_YET, 0),
+        WReply::Closed => (status::CLOSED, 0),
+        WReply::Gone(none_left) => (yes_or_no(*none_left), 0),
+        WReply::NewRx(rx) => (status::NEW_RX, rx.0),
+        WReply::NewTx(tx) => (status::NEW_TX, tx.0),
+        WReply::Count(n) => (status::COUNT, *n),
+        WReply::TooMany => (status::TOO_MANY, 0),
+        WReply::NoHandle(Some(value)) => (status::NO_HANDLE, *value),
+        WReply::NoHandle(None) => (status::NO_HANDLE, 0),
+    }
+}
+
+// The status with which a call puts its value in the place of the newest one.
+#[inline(always)]
+fn puts_at(call: &WCall<u64>) -> u32
+    ensures puts { result ≡ puts_at call.now }
+    ensures small { result ≤ 65536 }
+{
+    match call {
+        WCall::Send(_, _) => status::DONE,
+        WCall::Replace(_, _) => status::WAS,
+        WCall::EditBy(_, Edit::Set(_) | Edit::Differ(_)) => status::YES,
+        WCall::EditBy(_, Edit::Quiet(_)) => status::NO,
+        _ => status::NEVER,
+    }
+}
+
+impl Tells for NumberWatch {
+    ghost use Rattle.th_c.specs.Watch.{puts_at, tells};
+
+    ghost tells = { tells };
+
+    ghost noted = { λ p call. puts_at call };
+
+    #[inline(always)]
+    fn note(&self, call: &WCall<u64>) -> u64 {
+        puts_at(call) as u64
+    }
+
+    #[inline(always)]
+    fn told(&self, note: u64, reply: &WReply<u64>) -> Reply {
+        let (status, number) = status_and_number(reply);
+        let let_go = if status as u64 == note { 1 } else { 0 };
+        Reply {
+            status,
+            let_go,
+            number,
+        }
+    }
+}
+
+// Makes a call of what is behind a handle.
+#[inline(always)]
+fn called(content: &mut Content, call: WCall<u64>) -> Told
+    ensures { Answered content.old call result content.new }
+{
+    match content {
+        Content::Watch(channel) => answered(channel, call),
+        Content::RecordedWatch(channel) => recorded(channel, call),
+        _ => Err(Refusal::NotOpen),
+    }
+}
+
+/// Makes a call through a handle.
+#[inline(always)]
+pub(crate) fn call(alloc: Global, handle: &mut Handle, call: WCall<u64>) -> Reply
+    ensures { Called handle.old.value call result handle.new.value }
+{
+    let Some(mut content) = take(alloc, handle) else {
+        return reply(Err(Refusal::NotOpen));
+    };
+    let told = called(&mut *content, call);
+    put(handle, content);
+    reply(told)
+}

@@ -1,0 +1,423 @@
+/*
+ * topichub.h: broadcast and watch channels whose every reply is proved.
+ *
+ * A broadcast channel gives every value that is sent to every receiver, and keeps only the newest ones: a receiver
+ * that is too slow is told how many values it missed. A watch channel keeps the newest value alone, and tells each
+ * reader once that there is a new one. Both follow the documentation of Tokio's channels of these names.
+ * docs/CHANNELS.md has every rule, and what each call answers.
+ *
+ *     topichub_broadcast news = TOPICHUB_BROADCAST_NONE;
+ *     if (topichub_broadcast_new(&news, 2, 0) != TOPICHUB_DONE) return 1;   keeps 2 values; sender 1 is made with it
+ *     uint64_t rx = topichub_broadcast_subscribe(&news, 1).number;          a receiver
+ *     for (uint64_t value = 10; value < 13; value++) topichub_broadcast_send(&news, 1, value);
+ *     topichub_reply told = topichub_broadcast_try_recv(&news, rx);         TOPICHUB_LAGGED, told.number == 1
+ *     told = topichub_broadcast_try_recv(&news, rx);                        TOPICHUB_VALUE, told.number == 11
+ *     topichub_broadcast_free(&news);
+ *
+ * Link with -ltopichub, or with the archive libtopichub.a. Neither needs anything but the C library.
+ *
+ *
+ * WHAT A CHANNEL IS HERE
+ *
+ * A channel is a state and the calls that change it. It has no thread and no lock, it never waits, and it calls
+ * nobody back. Who uses it from several threads brings a mutex, and a way to wait and to wake:
+ *
+ *   - A receive is answered TOPICHUB_EMPTY, or TOPICHUB_WOULD_WAIT, where there is nothing to tell yet. Wait then,
+ *     and ask again after a send (in a watch channel: a publication) and after the last sender is dropped. No other
+ *     call can end a wait.
+ *   - Give each topichub_broadcast, topichub_watch or topichub_trace to one call at a time. This holds for all calls,
+ *     also for those that change nothing. A mutex around each call does it.
+ *   - Calls on different ones may run at the same time. A channel or a trace belongs to no thread: it may be made in
+ *     one thread, used in others, and freed in yet another.
+ *   - Call nothing from a signal handler, or in the child of a fork() of a program that has other threads.
+ *
+ *
+ * VALUES
+ *
+ * A value is a number of 64 bits. It may be the value itself, or stand for whatever the caller keeps: an index, or a
+ * pointer. The channel copies it, compares it where it says so, and does nothing else with it.
+ *
+ * Who keeps something for each value learns from each reply how many of them the channel lets go of (let_go, below),
+ * oldest first. Values are kept in the order in which they were sent. So a queue is enough: append what is sent when
+ * the answer is TOPICHUB_SENT, and take let_go entries from its front after each call. A value that is refused was
+ * never kept.
+ *
+ *
+ * SENDERS AND RECEIVERS
+ *
+ * They are numbers, from 1 on in each channel, senders and receivers together, and no number is given twice. A
+ * channel is made with the sender 1 and no receiver. Calls name the one that makes them: tx is a sender's number, rx
+ * is a receiver's. Where no live sender (receiver) has that number, the reply is TOPICHUB_NO_HANDLE. At most 65,535
+ * of each are live at a time.
+ *
+ *
+ * WHAT IS PROVED
+ *
+ * That each call through a handle answers and leaves behind what the rules of the channel say, that a trace is the
+ * spelling of what was called and answered, and that topichub_check says `legal` of exactly the legal traces. It is
+ * proved of the code behind these declarations. Not proved is what the caller owes: that handles are as described
+ * here and used by one call at a time, and that pointers point to what they should.
+ */
+#ifndef TOPICHUB_H
+#define TOPICHUB_H
+
+#include <stddef.h>
+#include <stdint.h>
+
+#ifdef __cplusplus
+extern "C" {
+#endif
+
+/* The version of this header, as text and as 1,000,000 * major + 1,000 * minor + patch. */
+#define TOPICHUB_VERSION "0.1.0"
+#define TOPICHUB_VERSION_NUMBER 1000
+
+/* The version of the library that is linked, as TOPICHUB_VERSION_NUMBER is that of the header. */
+uint32_t topichub_version(void);
+
+
+/*
+ * STATUSES
+ *
+ * What a call comes to. Each call below names those that it may have. Behind some of them stands a number.
+ *
+ * From TOPICHUB_NO_RECEIVERS on, the channel has not changed, and a value that was given was not taken.
+ */
+enum topichub_status {
+    /* Answers. */
+    TOPICHUB_DONE = 0,           /* It is done. Of a maker: the channel is made. Of a drop: the number is spent. */
+    TOPICHUB_SENT = 1,           /* The value was sent. number: to how many receivers, at least 1. */
+    TOPICHUB_VALUE = 2,          /* The next value. number: that value. */
+    TOPICHUB_LAGGED = 3,         /* The receiver was too slow. number: how many values it missed. It
+                                    goes on at the oldest that is left: receive again. */
+    TOPICHUB_EMPTY = 4,          /* There is no value yet. */
+    TOPICHUB_CLOSED = 5,         /* No sender is left, and there is nothing more to tell. */
+    TOPICHUB_NEW_RX = 6,         /* A receiver was made. number: its own. */
+    TOPICHUB_NEW_TX = 7,         /* A sender was made. number: its own. */
+    TOPICHUB_COUNT = 8,          /* number: the count that was asked for. */
+    TOPICHUB_WAS = 9,            /* The value is published. number: the value before it, which is let go. */
+    TOPICHUB_NEW = 10,           /* number: the newest value, which was unseen by this reader. */
+    TOPICHUB_SAME = 11,          /* number: the newest value, which this reader had seen. */
+    TOPICHUB_YES = 12,           /* The answer to the question is yes. */
+    TOPICHUB_NO = 13,            /* The answer to the question is no. */
+    TOPICHUB_MARKED = 14,        /* There was something new, and it is marked seen. */
+    TOPICHUB_NOT_YET = 15,       /* There is nothing new yet. */
+
+    /* The channel's own refusals, by its rules. They are part of a recorded history, as the answers above are. */
+    TOPICHUB_NO_RECEIVERS = 16,  /* Nobody receives. number: the value. A later send may succeed. */
+    TOPICHUB_EXHAUSTED = 17,     /* The last position, 2^64 - 2, or the last version, 2^64 - 1, has been
+                                    given. number: the value. */
+    TOPICHUB_TOO_MANY = 18,      /* 65,535 of this kind are live, or no number is left for another one. */
+    TOPICHUB_NO_HANDLE = 19,     /* tx is no live sender, or rx no live receiver. number: the value that
+                                    was given, else 0. */
+
+    /* Why a call was not made. No history tells of it. */
+    TOPICHUB_WOULD_WAIT = 20,    /* The call would wait (topichub_broadcast_recv, topichub_watch_changed). */
+    TOPICHUB_LOG_FULL = 21,      /* The recorded history has no room for the call: cut it, and call again. */
+    TOPICHUB_NO_MEMORY = 22,     /* malloc() or realloc() gave none. The call may be made again. */
+    TOPICHUB_NOT_OPEN = 23,      /* There is no channel (no trace) behind the pointer: none was made, or
+                                    it was freed. */
+    TOPICHUB_IS_OPEN = 24,       /* There is one already: free it first. */
+    TOPICHUB_BAD_CAPACITY = 25,  /* A capacity is 1 to 65,536. */
+    TOPICHUB_BAD_VERSION = 26,   /* A version is at least 1. */
+    TOPICHUB_BAD_LIMIT = 27,     /* The limit of a history is 1 to 1,000,000. */
+    TOPICHUB_NOT_RECORDED = 28,  /* The channel was made without a history. */
+
+    /* What topichub_check says of a text. */
+    TOPICHUB_LEGAL = 29,         /* It is a trace, and each reply in it is the one that the channel gives. */
+    TOPICHUB_ILLEGAL = 30,       /* A line tells of a reply that the channel would not have given. */
+    TOPICHUB_BAD_TRACE = 31,     /* A line is none that may stand there, or one is missing. */
+};
+
+/* The reply to a call of a channel. */
+typedef struct topichub_reply {
+    uint32_t status;  /* One of enum topichub_status. */
+    uint32_t let_go;  /* How many of the values that the channel kept it lets go of by this call, the oldest ones.
+                         Most calls let go of none; each says below when it does. With TOPICHUB_VALUE, 1 says that
+                         this was the last read of the value. */
+    uint64_t number;  /* What the status says; 0 where it says nothing of a number. */
+} topichub_reply;
+
+
+/*
+ * CHANNELS AND TRACES
+ *
+ * Each is a struct of one pointer that belongs to the library; NULL stands for none. Begin with TOPICHUB_.._NONE (all
+ * zero), let a maker fill it, and free it once. Pass its address, which is never NULL. Do not read or change the
+ * pointer, and do not copy the struct while a copy may still be used: it is the one owner of what is behind it. To
+ * hand it on, copy it and forget the old one.
+ */
+typedef struct topichub_broadcast {
+    void *at;
+} topichub_broadcast;
+
+typedef struct topichub_watch {
+    void *at;
+} topichub_watch;
+
+typedef struct topichub_trace {
+    void *at;
+} topichub_trace;
+
+/* Each expands to an initialiser: `topichub_watch light = TOPICHUB_WATCH_NONE;`. */
+#define TOPICHUB_BROADCAST_NONE { NULL }
+#define TOPICHUB_WATCH_NONE { NULL }
+#define TOPICHUB_TRACE_NONE { NULL }
+
+
+/*
+ * BROADCAST CHANNELS
+ *
+ * Every call below may also come to TOPICHUB_NOT_OPEN, and in a recorded channel to TOPICHUB_LOG_FULL. A drop of a
+ * live sender or receiver never comes to TOPICHUB_LOG_FULL or TOPICHUB_NO_MEMORY. A call takes time at most
+ * logarithmic in the number of senders and receivers, and now and then the growth of the history.
+ */
+
+/*
+ * Makes a channel with sender 1 and no receiver, in *channel, which is none yet.
+ *
+ * It keeps as many values as the least power of two that is at least `capacity`, and all memory for them is taken
+ * here: 8 bytes for each value, or somewhat more. The first value that is sent stands at the position `base`, which
+ * is 0 for all but tests of the last position.
+ *
+ * TOPICHUB_DONE, TOPICHUB_BAD_CAPACITY, TOPICHUB_NO_MEMORY, TOPICHUB_IS_OPEN.
+ */
+uint32_t topichub_broadcast_new(topichub_broadcast *channel, uint64_t capacity, uint64_t base);
+
+/*
+ * The same, with a history: each call of the channel and its reply is an entry, until topichub_broadcast_cut takes
+ * them. `limit` is the most entries that there are between two cuts. Room is kept within it for the drop of each live
+ * sender and receiver, so the limit should be well above their number.
+ *
+ * Further TOPICHUB_BAD_LIMIT.
+ */
+uint32_t topichub_broadcast_new_recorded(topichub_broadcast *channel, uint64_t capacity, uint64_t base,
+                                         uint64_t limit);
+
+/*
+ * Frees the channel with all that it keeps, its history too; *channel is none then. Where it was none, nothing
+ * happens. All values that were kept are let go. Traces that were cut stay as they are.
+ */
+void topichub_broadcast_free(topichub_broadcast *channel);
+
+/*
+ * Sends a value to every live receiver.
+ *
+ * TOPICHUB_SENT; TOPICHUB_NO_RECEIVERS, TOPICHUB_EXHAUSTED, TOPICHUB_NO_HANDLE, each with the value;
+ * TOPICHUB_NO_MEMORY. let_go: 1 where the oldest value made room for it, else 0.
+ */
+topichub_reply topichub_broadcast_send(topichub_broadcast *channel, uint64_t tx, uint64_t value);
+
+/*
+ * Receives the next value, in the order sent.
+ *
+ * TOPICHUB_VALUE, TOPICHUB_LAGGED, TOPICHUB_EMPTY, TOPICHUB_CLOSED, TOPICHUB_NO_HANDLE, TOPICHUB_NO_MEMORY.
+ * let_go: 1 where no other receiver has still to read the value, else 0.
+ */
+topichub_reply topichub_broadcast_try_recv(topichub_broadcast *channel, uint64_t rx);
+
+/*
+ * The same for a caller that waits: TOPICHUB_WOULD_WAIT in place of TOPICHUB_EMPTY. Then no call was made, and a
+ * history tells of none. A trace tells the two apart, as `try-recv` and `recv`.
+ */
+topichub_reply topichub_broadcast_recv(topichub_broadcast *channel, uint64_t rx);
+
+/*
+ * A new receiver, of what is sent from now on.
+ *
+ * TOPICHUB_NEW_RX, TOPICHUB_TOO_MANY, TOPICHUB_NO_HANDLE, TOPICHUB_NO_MEMORY. let_go: 0.
+ */
+topichub_reply topichub_broadcast_subscribe(topichub_broadcast *channel, uint64_t tx);
+
+/* A new receiver, which first gets what is still kept. Statuses as of topichub_broadcast_subscribe. */
+topichub_reply topichub_broadcast_subscribe_oldest(topichub_broadcast *channel, uint64_t tx);
+
+/* A new receiver, of what is sent from now on, asked for by a receiver, which stays as it is. Statuses as of
+   topichub_broadcast_subscribe. */
+topichub_reply topichub_broadcast_resubscribe(topichub_broadcast *channel, uint64_t rx);
+
+/* A new sender. TOPICHUB_NEW_TX, TOPICHUB_TOO_MANY, TOPICHUB_NO_HANDLE, TOPICHUB_NO_MEMORY. let_go: 0. */
+topichub_reply topichub_broadcast_clone_tx(topichub_broadcast *channel, uint64_t tx);
+
+/* Drops a sender: its number is spent. Without senders the channel is closed. TOPICHUB_DONE, TOPICHUB_NO_HANDLE.
+   let_go: 0. */
+topichub_reply topichub_broadcast_drop_tx(topichub_broadcast *channel, uint64_t tx);
+
+/*
+ * Drops a receiver: its number is spent. TOPICHUB_DONE, TOPICHUB_NO_HANDLE.
+ * let_go: the number of values that only it had still to read.
+ */
+topichub_reply topichub_broadcast_drop_rx(topichub_broadcast *channel, uint64_t rx);
+
+/* How many values are kept (Tokio: Sender::len). TOPICHUB_COUNT, TOPICHUB_NO_HANDLE. let_go: 0. */
+topichub_reply topichub_broadcast_queued(topichub_broadcast *channel, uint64_t tx);
+
+/* How many values this receiver has still to come, those it missed among them (Tokio: Receiver::len). TOPICHUB_COUNT,
+   TOPICHUB_NO_HANDLE. let_go: 0. */
+topichub_reply topichub_broadcast_left(topichub_broadcast *channel, uint64_t rx);
+
+/* How many receivers are live (Tokio: Sender::receiver_count). TOPICHUB_COUNT, TOPICHUB_NO_HANDLE. let_go: 0. */
+topichub_reply topichub_broadcast_readers(topichub_broadcast *channel, uint64_t tx);
+
+/*
+ * Takes the history so far, as a trace in *trace, which is none yet. The next trace begins where this one ends. No
+ * entry tells of it. It takes time and memory with what the channel keeps and with its senders and receivers, and not
+ * with the entries.
+ *
+ * TOPICHUB_DONE, TOPICHUB_NOT_RECORDED, TOPICHUB_NO_MEMORY, TOPICHUB_NOT_OPEN, and TOPICHUB_IS_OPEN where *trace is
+ * not none.
+ */
+uint32_t topichub_broadcast_cut(topichub_broadcast *channel, topichub_trace *trace);
+
+
+/*
+ * WATCH CHANNELS
+ *
+ * To publish a value is to make it the newest one, at the next version. The value before it is let go; there is
+ * always exactly one.
+ *
+ * Every call below may also come to TOPICHUB_NOT_OPEN, and in a recorded channel to TOPICHUB_LOG_FULL or
+ * TOPICHUB_NO_MEMORY. A drop of a live sender or reader comes to neither of the last two. A call takes time at most
+ * logarithmic in the number of senders and readers.
+ */
+
+/*
+ * Makes a channel with sender 1 and no reader, in *channel, which is none yet. `value` is the newest value, and
+ * `version` its version, which is 1 for all but tests of the last version.
+ *
+ * TOPICHUB_DONE, TOPICHUB_BAD_VERSION, TOPICHUB_NO_MEMORY, TOPICHUB_IS_OPEN. Where it is not TOPICHUB_DONE, the value
+ * was not taken.
+ */
+uint32_t topichub_watch_new(topichub_watch *channel, uint64_t value, uint64_t version);
+
+/* The same, with a history of at most `limit` entries between two cuts, as topichub_broadcast_new_recorded has it.
+   Further TOPICHUB_BAD_LIMIT. */
+uint32_t topichub_watch_new_recorded(topichub_watch *channel, uint64_t value, uint64_t version, uint64_t limit);
+
+/* Frees the channel with all that it keeps; *channel is none then. Where it was none, nothing happens. The newest
+   value is let go. */
+void topichub_watch_free(topichub_watch *channel);
+
+/*
+ * Publishes a value, where there is a reader.
+ *
+ * TOPICHUB_DONE; TOPICHUB_NO_RECEIVERS, TOPICHUB_EXHAUSTED, TOPICHUB_NO_HANDLE, each with the value. let_go: 1 with
+ * TOPICHUB_DONE.
+ */
+topichub_reply topichub_watch_send(topichub_watch *channel, uint64_t tx, uint64_t value);
+
+/* Publishes a value, readers or not (Tokio: send_replace). TOPICHUB_WAS with the value before, let_go 1;
+   TOPICHUB_EXHAUSTED, TOPICHUB_NO_HANDLE. */
+topichub_reply topichub_watch_replace(topichub_watch *channel, uint64_t tx, uint64_t value);
+
+/*
+ * Publishes a value, readers or not. With the next two it stands for send_modify and send_if_modified of Tokio, whose
+ * closures cannot be given here: change what you keep for the value, and say what came of it.
+ *
+ * TOPICHUB_YES: it is published, let_go 1. TOPICHUB_EXHAUSTED, TOPICHUB_NO_HANDLE.
+ */
+topichub_reply topichub_watch_set(topichub_watch *channel, uint64_t tx, uint64_t value);
+
+/* Publishes the number, if it differs from the newest one: TOPICHUB_YES with let_go 1, or TOPICHUB_NO with let_go 0,
+   and then the value was not taken. TOPICHUB_EXHAUSTED (only where it differs), TOPICHUB_NO_HANDLE. */
+topichub_reply topichub_watch_differ(topichub_watch *channel, uint64_t tx, uint64_t value);
+
+/* Puts the value in the place of the newest one, in the same version, and tells nobody: TOPICHUB_NO, with let_go 1.
+   TOPICHUB_NO_HANDLE. */
+topichub_reply topichub_watch_quiet(topichub_watch *channel, uint64_t tx, uint64_t value);
+
+/* Shows the newest value, and leaves it unseen if it is. TOPICHUB_NEW, TOPICHUB_SAME, TOPICHUB_NO_HANDLE,
+   TOPICHUB_NO_MEMORY. let_go: 0. */
+topichub_reply topichub_watch_borrow(topichub_watch *channel, uint64_t rx);
+
+/* The same, and marks it seen (Tokio: borrow_and_update). */
+topichub_reply topichub_watch_take(topichub_watch *channel, uint64_t rx);
+
+/* Whether the newest value is unseen by the reader. TOPICHUB_YES, TOPICHUB_NO; TOPICHUB_CLOSED, where no sender is
+   left; TOPICHUB_NO_HANDLE. let_go: 0. */
+topichub_reply topichub_watch_has_changed(topichub_watch *channel, uint64_t rx);
+
+/*
+ * Marks the newest value seen, where it is unseen.
+ *
+ * TOPICHUB_MARKED: it was. Else TOPICHUB_CLOSED where no sender is left, or TOPICHUB_NOT_YET. TOPICHUB_NO_HANDLE.
+ * let_go: 0.
+ */
+topichub_reply topichub_watch_try_changed(topichub_watch *channel, uint64_t rx);
+
+/* The same for a caller that waits: TOPICHUB_WOULD_WAIT in place of TOPICHUB_NOT_YET, as topichub_broadcast_recv
+   has it. */
+topichub_reply topichub_watch_changed(topichub_watch *channel, uint64_t rx);
+
+/* Makes the newest value unseen by this reader. TOPICHUB_DONE, TOPICHUB_NO_HANDLE. let_go: 0. */
+topichub_reply topichub_watch_mark_changed(topichub_watch *channel, uint64_t rx);
+
+/* Marks the newest value seen by this reader. TOPICHUB_DONE, TOPICHUB_NO_HANDLE. let_go: 0. */
+topichub_reply topichub_watch_mark_unchanged(topichub_watch *channel, uint64_t rx);
+
+/* A new reader, to whom the newest value is seen. TOPICHUB_NEW_RX, TOPICHUB_TOO_MANY, TOPICHUB_NO_HANDLE,
+   TOPICHUB_NO_MEMORY. let_go: 0. */
+topichub_reply topichub_watch_subscribe(topichub_watch *channel, uint64_t tx);
+
+/* A new reader, to whom the newest value is seen or unseen as to this one. Statuses as of
+   topichub_watch_subscribe. */
+topichub_reply topichub_watch_clone_rx(topichub_watch *channel, uint64_t rx);
+
+/* A new sender. TOPICHUB_NEW_TX, TOPICHUB_TOO_MANY, TOPICHUB_NO_HANDLE, TOPICHUB_NO_MEMORY. let_go: 0. */
+topichub_reply topichub_watch_clone_tx(topichub_watch *channel, uint64_t tx);
+
+/* Drops a sender. Without senders the channel is closed. TOPICHUB_DONE, TOPICHUB_NO_HANDLE. let_go: 0. */
+topichub_reply topichub_watch_drop_tx(topichub_watch *channel, uint64_t tx);
+
+/* Drops a reader. TOPICHUB_DONE, TOPICHUB_NO_HANDLE. let_go: 0. */
+topichub_reply topichub_watch_drop_rx(topichub_watch *channel, uint64_t rx);
+
+/* Whether no reader is left. TOPICHUB_YES, TOPICHUB_NO, TOPICHUB_NO_HANDLE. let_go: 0. */
+topichub_reply topichub_watch_is_closed(topichub_watch *channel, uint64_t tx);
+
+/* How many readers are live (Tokio: receiver_count). TOPICHUB_COUNT, TOPICHUB_NO_HANDLE. let_go: 0. */
+topichub_reply topichub_watch_readers(topichub_watch *channel, uint64_t tx);
+
+/* Takes the history so far, as a trace in *trace, which is none yet; as topichub_broadcast_cut does, with the same
+   statuses. */
+uint32_t topichub_watch_cut(topichub_watch *channel, topichub_trace *trace);
+
+
+/*
+ * TRACES
+ *
+ * A trace is a text: the state that a channel was in, then each call with its reply (docs/FORMATS.md, "Traces").
+ * Anyone can check it by topichub_check, or by the program `topichub check`. A value stands in it as a number in
+ * decimal digits: that is how the number 10 becomes the value `10` of a trace.
+ */
+
+/*
+ * Puts the next bytes of the trace into `buffer`, which has room for `length` bytes, and their number into *written:
+ * as many as there is room for, and fewer only at the end of the trace. The text goes on at the next call where this
+ * one ended; at its end *written is 0.
+ *
+ * The first call makes the text, which takes time and memory with the entries. `buffer` is not NULL, also where
+ * `length` is 0.
+ *
+ * TOPICHUB_DONE; TOPICHUB_NO_MEMORY and TOPICHUB_NOT_OPEN, with 0 in *written.
+ */
+uint32_t topichub_trace_read(topichub_trace *trace, uint8_t *buffer, size_t length, uint64_t *written);
+
+/* Frees the trace, read to its end or not; *trace is none then. Where it was none, nothing happens. */
+void topichub_trace_free(topichub_trace *trace);
+
+/*
+ * Whether a text of `length` bytes is the trace of a legal history, and puts a number into *line.
+ *
+ * TOPICHUB_LEGAL: the number of its entries. TOPICHUB_ILLEGAL and TOPICHUB_BAD_TRACE: the number of the first line
+ * that is wrong or missing, from 1 on. TOPICHUB_NO_MEMORY: 0.
+ *
+ * `text` is not NULL, also where `length` is 0. It takes time with the text, and memory with what the channel of the
+ * trace keeps. Calls of topichub_check and topichub_version may run at the same time as any others.
+ */
+uint32_t topichub_check(const uint8_t *text, size_t length, uint64_t *line);
+
+#ifdef __cplusplus
+}
+#endif
+#endif
