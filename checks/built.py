@@ -2,6 +2,7 @@
 import glob
 import os
 import shutil
+import signal
 import subprocess
 import sys
 
@@ -12,17 +13,19 @@ OPTIMIZED = ("--edition", "2024", "-C", "opt-level=3", "-C", "codegen-units=1", 
 FOR_CALLS = ("--edition", "2021", "-O", "-C", "target-cpu=x86-64")
 REGISTRY = "/usr/share/cargo/registry"
 MANIFEST = """[package]
-name = "{name}"
+name = "on_tokio"
 version = "0.0.0"
 edition = "2021"
-
-[[bin]]
-name = "{name}"
-path = "{source}"
 
 [dependencies]
 tokio = {{ version = "1", default-features = false, features = [{features}] }}
 """
+PROGRAM = """
+[[bin]]
+name = "{name}"
+path = "{source}"
+"""
+CRATE = os.path.join(ROOT, "lib", "rust")
 
 
 def need_tool(tool, what):
@@ -39,22 +42,64 @@ def compiled(name, folder, flags=OPTIMIZED):
     return program
 
 
+def library(folder):
+    """A folder with libtopichub.a and libtopichub.so: what TOPICHUB_LIB_DIR names, or one in this folder, where lib/c makes them of
+    the archive of th_c. None where that archive is not built."""
+    named = os.environ.get("TOPICHUB_LIB_DIR")
+    if named or not os.path.exists(os.path.join(ROOT, "crates", "th_c", "out", "libth_c.a")):
+        return named
+    made = os.path.join(folder, "libtopichub")
+    subprocess.run(["make", "--quiet", "-C", os.path.join(ROOT, "lib", "c"), "BUILD=" + made], check=True, stdout=sys.stderr)
+    return made
+
+
+def c_program(name, library, folder):
+    """The program bench/NAME.c over the library in its folder, in the other folder."""
+    need_tool("gcc", f"compiles bench/{name}.c")
+    program = os.path.join(folder, name)
+    subprocess.run(["gcc", "-O2", "-pthread", "-I", os.path.join(ROOT, "lib", "c"), "-o", program,
+                    os.path.join(ROOT, "bench", name + ".c"), os.path.join(library, "libtopichub.a")], check=True)
+    return program
+
+
 def tokio_version():
     """The name and the version of the Tokio that Debian packages; None where it is not installed."""
     found = sorted(glob.glob(os.path.join(REGISTRY, "tokio-[0-9]*")))
     return os.path.basename(found[-1]) if found else None
 
 
-def on_tokio(source, features, folder):
-    """The Rust program of this path, a file of the repository, on Debian's Tokio, in the folder. Nothing is downloaded: the
-    package librust-tokio-dev has the sources of Tokio, and of all that it takes."""
-    need_tool("cargo", f"compiles {source}")
-    name = "on_tokio"
+def on_tokio(sources, features, folder, with_crate=False, profile="release"):
+    """Rust programs, by the paths of their sources, which are from the root on, on Debian's Tokio and, if that is asked for, on the
+    crate of lib/rust: their own paths, in the folder. Nothing is downloaded: the package librust-tokio-dev has the sources of
+    Tokio, and of all that it takes."""
+    need_tool("cargo", f"compiles {sources[0]}")
+    names = [os.path.splitext(os.path.basename(source))[0] for source in sources]
     with open(os.path.join(folder, "Cargo.toml"), "w") as manifest:
-        manifest.write(MANIFEST.format(name=name, source=os.path.join(ROOT, source),
-                                       features=", ".join(f'"{feature}"' for feature in features)))
+        manifest.write(MANIFEST.format(features=", ".join(f'"{feature}"' for feature in features)))
+        if with_crate:
+            manifest.write(f'topichub = {{ path = "{CRATE}" }}\n')
+        for name, source in zip(names, sources):
+            manifest.write(PROGRAM.format(name=name, source=os.path.join(ROOT, source)))
+    target = os.path.join(folder, "target")
+    subprocess.run(cargo_words("build", "--quiet", "--profile", profile), cwd=folder, check=True,
+                   env={**os.environ, "CARGO_TARGET_DIR": target})
+    return [os.path.join(target, {"dev": "debug"}.get(profile, profile), name) for name in names]
+
+
+def cargo_words(*words):
+    """Cargo's command line, over Debian's packages of crates where they are installed. It downloads nothing."""
     registry = ["--config", 'source.crates-io.replace-with="debian"',
-                "--config", f'source.debian.directory="{REGISTRY}"']
-    subprocess.run(["cargo", *registry, "build", "--offline", "--quiet", "--release"], cwd=folder, check=True,
-                   env={**os.environ, "CARGO_TARGET_DIR": os.path.join(folder, "target")})
-    return os.path.join(folder, "target", "release", name)
+                "--config", f'source.debian.directory="{REGISTRY}"'] if os.path.isdir(REGISTRY) else []
+    return ["cargo", *registry, words[0], "--offline", *words[1:]]
+
+
+def in_time(words, seconds, **how):
+    """The status of a command, and what it printed. After so many seconds it is stopped, with all that it has started."""
+    how = {"stdin": subprocess.DEVNULL, "stdout": subprocess.PIPE, "stderr": subprocess.STDOUT, "text": True, **how}
+    with subprocess.Popen(words, start_new_session=True, **how) as process:
+        try:
+            printed = process.communicate(timeout=seconds)[0]
+        except subprocess.TimeoutExpired:
+            os.killpg(process.pid, signal.SIGKILL)
+            printed = process.communicate()[0] + f"\nit was stopped after {seconds} seconds\n"
+    return process.returncode, printed

@@ -9,6 +9,10 @@ class Refused(Exception):
     """The hub answered `ERR code word`."""
 
 
+# A value is bytes and need not be text: what is not UTF-8 goes through a `str` unchanged.
+CODE = ("utf-8", "surrogateescape")
+
+
 class Hub:
     """One session: it begins with the connection, and all that it holds is spent when the connection ends."""
 
@@ -19,13 +23,13 @@ class Hub:
 
     def send(self, line):
         """Sends a line ahead; its reply is the next one that `reply` has not told yet."""
-        self.socket.sendall(line.encode() + b"\n")
+        self.socket.sendall(line.encode(*CODE) + b"\n")
 
     def reply(self):
         line = self.replies.readline()
         if not line.endswith(b"\n"):
             raise ConnectionError("the hub has ended the session")
-        text = line[:-1].decode()
+        text = line[:-1].decode(*CODE)
         if text.startswith("ERR "):
             raise Refused(text)
         return text
@@ -37,7 +41,7 @@ class Hub:
 
     def rows(self, line):
         """The lines below the reply to LIST or TRACE."""
-        return [self.replies.readline()[:-1].decode() for _ in range(int(self.ask(line).split()[1]))]
+        return [self.replies.readline()[:-1].decode(*CODE) for _ in range(int(self.ask(line).split()[1]))]
 
     def until(self, line, wanted):
         """Asks again and again, until this is the reply: for what other clients have still to do."""
@@ -59,6 +63,7 @@ def session(doc):
     )
     words.add_argument("path", metavar="PATH", help="the socket, as in: topichub serve PATH --sessions 4")
     path = words.parse_args().path
+    sys.stdout.reconfigure(encoding=CODE[0], errors=CODE[1])  # so that a value is printed as it came
     try:
         return Hub(path)
     except OSError as fault:

@@ -1,0 +1,126 @@
+"""The rules of a watch channel, between threads and tasks too."""
+import asyncio
+import random
+import threading
+
+import pytest
+
+from topichub import Closed, NoReceivers, Shown, Watch, check
+
+
+def test_a_change_is_told_once_and_the_newest_value_is_shown():
+    light = Watch("red")
+    reader = light.subscribe()
+    assert not reader.has_changed()
+    light.send("amber")
+    light.send("green")
+    assert reader.has_changed()
+    assert reader.borrow() == Shown("green", True)
+    reader.changed()
+    assert not reader.has_changed()
+    assert reader.borrow_and_update() == Shown("green", False)
+
+
+def test_marks():
+    light = Watch(1)
+    reader = light.subscribe()
+    reader.mark_changed()
+    assert (reader.has_changed(), reader.clone().has_changed(), light.subscribe().has_changed()) == (True, True, False)
+    reader.mark_unchanged()
+    assert not reader.has_changed()
+
+
+def test_an_unseen_value_is_told_before_the_end():
+    with Watch(1) as light:
+        reader = light.subscribe()
+        light.send(2)
+    with pytest.raises(Closed):
+        reader.has_changed()
+    reader.changed()
+    with pytest.raises(Closed):
+        reader.changed()
+    assert reader.borrow().value == 2
+
+
+def test_publications_with_and_without_readers():
+    light = Watch(1)
+    assert light.is_closed()
+    with pytest.raises(NoReceivers):
+        light.send(2)
+    assert light.send_replace(3) == 1
+    light.send_modify(lambda value: value + 1)
+    with light.subscribe() as reader:
+        assert reader.borrow() == Shown(4, False)
+        light.send_quietly(lambda value: value + 1)
+        assert reader.borrow() == Shown(5, False)
+        light.clone().send(6)
+        assert (reader.borrow(), light.receiver_count()) == (Shown(6, True), 1)
+    light.wait_closed(timeout=60)
+
+
+def test_a_change_that_raises_publishes_nothing():
+    light = Watch(1)
+    reader = light.subscribe()
+    with pytest.raises(ZeroDivisionError):
+        light.send_modify(lambda value: value // 0)
+    assert reader.borrow() == Shown(1, False)
+
+
+def test_a_reader_waits_in_a_thread_or_a_task():
+    light = Watch(0)
+    reader = light.subscribe()
+    with pytest.raises(TimeoutError):
+        reader.changed(timeout=0.01)
+
+    async def follow():
+        seen = []
+        while True:
+            try:
+                await reader.changed_async()
+            except Closed:
+                return seen
+            seen.append(reader.borrow_and_update().value)
+
+    timers = [threading.Timer(0.02 * turn, light.send, [turn]) for turn in range(1, 4)] + [threading.Timer(0.2, light.close)]
+    for timer in timers:
+        timer.start()
+    seen = asyncio.run(asyncio.wait_for(follow(), 60))
+    assert seen[-1] == 3 and seen == sorted(seen)
+
+
+def test_a_sender_waits_until_nobody_reads():
+    light = Watch(0)
+    reader = light.subscribe()
+    timer = threading.Timer(0.02, reader.close)
+    timer.start()
+    asyncio.run(asyncio.wait_for(light.wait_closed_async(), 60))
+    assert light.is_closed()
+
+
+def test_runs_of_threads_are_legal():
+    for seed in range(10):
+        light = Watch(0, recorded=100_000)
+
+        def read(turn, reader):
+            dice, seen = random.Random(10 * seed + turn), []
+            with reader:
+                waits = [reader.changed, lambda: asyncio.run(reader.changed_async())]
+                while True:
+                    try:
+                        dice.choice([*waits, reader.mark_unchanged, reader.has_changed])()
+                    except Closed:
+                        break
+                    shown = reader.borrow_and_update()
+                    if shown.unseen:
+                        seen.append(shown.value)
+            assert seen == sorted(set(seen))
+
+        threads = [threading.Thread(target=read, args=(turn, light.subscribe())) for turn in range(3)]
+        for thread in threads:
+            thread.start()
+        for value in range(1, 100):
+            light.send(value) if value % 3 else light.send_modify(lambda before: before + 1)
+        light.close()
+        for thread in threads:
+            thread.join()
+        assert check(light.trace()).word == "legal"

@@ -1,0 +1,79 @@
+//! A channel of the library, whose history may be full.
+use crate::library::{self, status, Channel, Reply, Trace};
+use std::collections::VecDeque;
+
+/// The number of the sender that a channel is made with.
+pub(crate) const FIRST_SENDER: u64 = 1;
+
+/// The least limit of a history: an entry for the first receiver, and the drops of that one and of
+/// the first sender.
+pub(crate) const LEAST_LIMIT: u64 = 3;
+
+/// A channel of the library, and what was cut of its history and not handed out.
+pub(crate) struct Core<C> {
+    channel: C,
+    /// The segments that were cut since they were full, oldest first. Without a history there are
+    /// none.
+    full: VecDeque<Trace>,
+}
+
+impl<C: Channel> Core<C> {
+    pub(crate) fn new(channel: C) -> Self {
+        Self {
+            channel,
+            full: VecDeque::new(),
+        }
+    }
+
+    /// Makes a call. Where the history has no room for it, the next segment begins.
+    #[inline]
+    pub(crate) fn call(&mut self, call: impl Fn(&mut C) -> Reply) -> Reply {
+        let told = call(&mut self.channel);
+        if told.status == status::LOG_FULL {
+            self.call_with_room(call)
+        } else {
+            told
+        }
+    }
+
+    #[cold]
+    fn call_with_room(&mut self, call: impl Fn(&mut C) -> Reply) -> Reply {
+        let full = self.channel.cut();
+        self.full.push_back(full);
+        let told = call(&mut self.channel);
+        if told.status == status::LOG_FULL {
+            library::refused(told.status);
+        }
+        told
+    }
+
+    /// The number of a new handle.
+    pub(crate) fn new_handle(&mut self, call: impl Fn(&mut C) -> Reply) -> u64 {
+        let told = self.call(call);
+        match told.status {
+            status::NEW_TX | status::NEW_RX => told.number,
+            other => library::refused(other),
+        }
+    }
+
+    /// The count that a question is answered with.
+    pub(crate) fn count(&mut self, call: impl Fn(&mut C) -> Reply) -> usize {
+        let told = self.call(call);
+        match told.status {
+            status::COUNT => told.number as usize,
+            other => library::refused(other),
+        }
+    }
+
+    /// The oldest segment that was not handed out. Only for a channel that was made with a history.
+    pub(crate) fn cut(&mut self) -> Trace {
+        self.full.pop_front().unwrap_or_else(|| self.channel.cut())
+    }
+
+    /// All segments that were not handed out. Only for a channel that was made with a history.
+    pub(crate) fn cut_all(&mut self) -> VecDeque<Trace> {
+        let mut all = std::mem::take(&mut self.full);
+        all.push_back(self.channel.cut());
+        all
+    }
+}

@@ -1,0 +1,86 @@
+//! A lock that is held for one call of a channel at a time.
+use crate::blocking::Patience;
+use std::sync::atomic::{AtomicUsize, Ordering};
+use std::sync::{Mutex, MutexGuard, PoisonError, TryLockError};
+
+/// A call takes less time than it takes to put a thread to sleep. So whoever finds the lock taken
+/// lets others go on for a while before it sleeps.
+const PATIENCE: Patience = Patience {
+    spins: 2,
+    yields: 20,
+};
+
+/// A mutex in which senders come first.
+///
+/// Without that many receivers have the lock for most of the time, read each value as soon as it
+/// is sent, and sleep; and then each value costs a wake-up for each of them.
+pub(crate) struct Turns<T> {
+    mutex: Mutex<T>,
+    /// How many senders wait for the lock.
+    senders: AtomicUsize,
+}
+
+impl<T> Turns<T> {
+    pub(crate) fn new(value: T) -> Self {
+        Self {
+            mutex: Mutex::new(value),
+            senders: AtomicUsize::new(0),
+        }
+    }
+
+    /// The lock for whoever lets senders go first.
+    #[inline]
+    pub(crate) fn lock(&self) -> MutexGuard<'_, T> {
+        match self.lock_behind_senders() {
+            Some(guard) => guard,
+            None => self.lock_in_time(Self::lock_behind_senders),
+        }
+    }
+
+    /// The lock for a sender.
+    #[inline]
+    pub(crate) fn lock_first(&self) -> MutexGuard<'_, T> {
+        match self.try_lock() {
+            Some(guard) => guard,
+            None => self.lock_before_others(),
+        }
+    }
+
+    #[cold]
+    fn lock_before_others(&self) -> MutexGuard<'_, T> {
+        self.senders.fetch_add(1, Ordering::Relaxed);
+        let guard = self.lock_in_time(Self::try_lock);
+        self.senders.fetch_sub(1, Ordering::Relaxed);
+        guard
+    }
+
+    #[cold]
+    fn lock_in_time<'a>(
+        &'a self,
+        attempt: impl Fn(&'a Self) -> Option<MutexGuard<'a, T>>,
+    ) -> MutexGuard<'a, T> {
+        PATIENCE
+            .until(|| attempt(self))
+            .unwrap_or_else(|| self.mutex.lock().unwrap_or_else(PoisonError::into_inner))
+    }
+
+    #[inline]
+    fn lock_behind_senders(&self) -> Option<MutexGuard<'_, T>> {
+        if self.senders.load(Ordering::Relaxed) == 0 {
+            self.try_lock()
+        } else {
+            None
+        }
+    }
+
+    /// The lock, if it is free. Where a `clone` of a value has panicked under it, the call was
+    /// made, and nothing is left half done.
+    #[inline]
+    fn try_lock(&self) -> Option<MutexGuard<'_, T>> {
+        match self.mutex.try_lock() {
+            Ok(guard) => Some(guard),
+            Err(TryLockError::Poisoned(held)) => Some(held.into_inner()),
+            Err(TryLockError::WouldBlock) => None,
+        }
+    }
+}

@@ -1,0 +1,199 @@
+//! Who waits for news of a channel.
+use std::cell::Cell;
+use std::task::Waker;
+
+/// The tasks that wait for the same news. It stands under the lock of a channel, so that nobody is
+/// missed.
+#[derive(Default)]
+pub(crate) struct Waiters {
+    /// How often all were called. A seat that was taken in an earlier round is no longer one's own.
+    round: u64,
+    wakers: Vec<Option<Waker>>,
+    /// The seats that were left in this round.
+    free: Vec<usize>,
+}
+
+/// Where a task waits, if it does. It is given back by [`Waiters::leave`].
+#[derive(Default)]
+pub(crate) struct Seat(Option<Place>);
+
+#[derive(Clone, Copy)]
+struct Place {
+    round: u64,
+    index: usize,
+}
+
+impl Seat {
+    pub(crate) fn is_taken(&self) -> bool {
+        self.0.is_some()
+    }
+}
+
+impl Waiters {
+    /// Has the waker called with the next news. What it takes the place of has to be dropped after
+    /// the lock is let go, since that may run a task's own code.
+    #[must_use]
+    pub(crate) fn sit(&mut self, seat: &mut Seat, waker: &Waker) -> Option<Waker> {
+        let index = match seat.0 {
+            Some(place) if place.round == self.round => place.index,
+            _ => self.free_seat(),
+        };
+        *seat = Seat(Some(Place {
+            round: self.round,
+            index,
+        }));
+        match &mut self.wakers[index] {
+            Some(here) if here.will_wake(waker) => None,
+            here => here.replace(waker.clone()),
+        }
+    }
+
+    fn free_seat(&mut self) -> usize {
+        self.free.pop().unwrap_or_else(|| {
+            self.wakers.push(None);
+            self.wakers.len() - 1
+        })
+    }
+
+    /// Gives the seat back. The waker has to be dropped after the lock is let go.
+    #[must_use]
+    pub(crate) fn leave(&mut self, seat: &mut Seat) -> Option<Waker> {
+        let place = seat.0.take().filter(|place| place.round == self.round)?;
+        self.free.push(place.index);
+        self.wakers[place.index].take()
+    }
+
+    /// All who wait, to be woken once the lock is let go.
+    #[inline]
+    pub(crate) fn call(&mut self) -> Called {
+        if self.wakers.is_empty() {
+            Called(Vec::new())
+        } else {
+            self.call_some()
+        }
+    }
+
+    fn call_some(&mut self) -> Called {
+        self.round += 1;
+        self.free.clear();
+        let emptied = SPARE.try_with(Cell::take).unwrap_or_default();
+        Called(std::mem::replace(&mut self.wakers, emptied))
+    }
+}
+
+thread_local! {
+    /// An empty list with room, so that waking takes no memory each time.
+    static SPARE: Cell<Vec<Option<Waker>>> = const { Cell::new(Vec::new()) };
+}
+
+/// Tasks that are to be woken.
+#[must_use]
+pub(crate) struct Called(Vec<Option<Waker>>);
+
+impl Called {
+    pub(crate) const fn nobody() -> Self {
+        Self(Vec::new())
+    }
+
+    #[inline]
+    pub(crate) fn wake(self) {
+        if !self.0.is_empty() {
+            self.wake_some();
+        }
+    }
+
+    fn wake_some(mut self) {
+        self.0.drain(..).flatten().for_each(Waker::wake);
+        // A thread that is at its end has no spare list any more.
+        let _ = SPARE.try_with(|spare| spare.set(self.0));
+    }
+}
+
+#[cfg(test)]
+mod tests {
+    use super::*;
+    use std::sync::atomic::{AtomicUsize, Ordering};
+    use std::sync::Arc;
+    use std::task::Wake;
+
+    #[derive(Default)]
+    struct Counted(AtomicUsize);
+
+    impl Wake for Counted {
+        fn wake(self: Arc<Self>) {
+            self.0.fetch_add(1, Ordering::Relaxed);
+        }
+    }
+
+    fn counted() -> (Arc<Counted>, Waker) {
+        let counted = Arc::new(Counted::default());
+        (Arc::clone(&counted), Waker::from(counted))
+    }
+
+    #[test]
+    fn each_who_waits_is_woken_once() {
+        let mut waiters = Waiters::default();
+        let all: Vec<_> = (0..3).map(|_| counted()).collect();
+        for (_, waker) in &all {
+            assert!(waiters.sit(&mut Seat::default(), waker).is_none());
+        }
+        waiters.call().wake();
+        waiters.call().wake();
+        assert!(all
+            .iter()
+            .all(|(times, _)| times.0.load(Ordering::Relaxed) == 1));
+    }
+
+    #[test]
+    fn who_sits_again_is_woken_by_the_later_waker_alone() {
+        let mut waiters = Waiters::default();
+        let mut seat = Seat::default();
+        let ((earlier, first), (later, second)) = (counted(), counted());
+        assert!(waiters.sit(&mut seat, &first).is_none());
+        assert!(waiters.sit(&mut seat, &first).is_none());
+        assert!(waiters.sit(&mut seat, &second).is_some());
+        waiters.call().wake();
+        assert_eq!(
+            (
+                earlier.0.load(Ordering::Relaxed),
+                later.0.load(Ordering::Relaxed)
+            ),
+            (0, 1)
+        );
+    }
+
+    #[test]
+    fn who_has_left_is_not_woken_and_the_seat_is_given_to_the_next() {
+        let mut waiters = Waiters::default();
+        let ((gone, first), (there, second)) = (counted(), counted());
+        for _ in 0..100 {
+            let mut seat = Seat::default();
+            assert!(waiters.sit(&mut seat, &first).is_none());
+            assert!(waiters.leave(&mut seat).is_some());
+            assert!(!seat.is_taken());
+        }
+        assert!(waiters.sit(&mut Seat::default(), &second).is_none());
+        assert_eq!(waiters.wakers.len(), 1);
+        waiters.call().wake();
+        assert_eq!(
+            (
+                gone.0.load(Ordering::Relaxed),
+                there.0.load(Ordering::Relaxed)
+            ),
+            (0, 1)
+        );
+    }
+
+    #[test]
+    fn a_seat_of_an_earlier_round_is_nobodys() {
+        let mut waiters = Waiters::default();
+        let mut seat = Seat::default();
+        let ((_, first), (other, second)) = (counted(), counted());
+        assert!(waiters.sit(&mut seat, &first).is_none());
+        waiters.call().wake();
+        assert!(waiters.sit(&mut Seat::default(), &second).is_none());
+        assert!(waiters.leave(&mut seat).is_none());
+        waiters.call().wake();
+        assert_eq!(other.0.load(Ordering::Relaxed), 1);
+    }
+}

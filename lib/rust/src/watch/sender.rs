@@ -1,0 +1,319 @@
+//! The sending side.
+use super::error::SendError;
+use super::{Receiver, Ref, Shared};
+use crate::library::{self, status};
+use crate::waiting::{Called, Seat};
+use std::fmt;
+use std::future::Future;
+use std::mem;
+use std::pin::Pin;
+use std::sync::Arc;
+use std::task::{Context, Poll};
+
+/// Publishes values on a channel. It may be cloned, and used by several threads at a time.
+pub struct Sender<T> {
+    pub(super) shared: Arc<Shared<T>>,
+    pub(super) id: u64,
+}
+
+impl<T> Sender<T> {
+    /// Makes a channel with this value and without a receiver; [`subscribe`](Self::subscribe) makes
+    /// them.
+    ///
+    /// # Panics
+    ///
+    /// Where memory is refused.
+    pub fn new(init: T) -> Self {
+        super::channel(init).0
+    }
+
+    /// Publishes a value, where there is a receiver; else the value comes back.
+    ///
+    /// # Examples
+    ///
+    /// ```
+    /// use topichub::watch;
+    ///
+    /// let (tx, rx) = watch::channel(1);
+    /// assert_eq!(tx.send(2), Ok(()));
+    /// drop(rx);
+    /// assert_eq!(tx.send(3), Err(watch::error::SendError(3)));
+    /// assert_eq!(*tx.borrow(), 2);
+    /// ```
+    pub fn send(&self, value: T) -> Result<(), SendError<T>> {
+        let mut newest = self.shared.write();
+        let mut state = self.shared.lock();
+        let told = state.publish(|channel, number| channel.send(self.id, number));
+        match told.status {
+            status::DONE => {}
+            status::NO_RECEIVERS | status::EXHAUSTED => return Err(SendError(value)),
+            other => library::refused(other),
+        }
+        let called = state.waiting.call();
+        drop(state);
+        let before = mem::replace(&mut *newest, value);
+        drop(newest);
+        called.wake();
+        drop(before);
+        Ok(())
+    }
+
+    /// Publishes a value, whether there are receivers or not, and answers the value before.
+    ///
+    /// # Panics
+    ///
+    /// If the channel has had 2^64 - 1 versions.
+    ///
+    /// # Examples
+    ///
+    /// ```
+    /// use topichub::watch;
+    ///
+    /// let (tx, _rx) = watch::channel(1);
+    /// assert_eq!(tx.send_replace(2), 1);
+    /// assert_eq!(tx.send_replace(3), 2);
+    /// ```
+    pub fn send_replace(&self, value: T) -> T {
+        let mut newest = self.shared.write();
+        let mut state = self.shared.lock();
+        let told = state.publish(|channel, number| channel.replace(self.id, number));
+        if told.status != status::WAS {
+            library::refused(told.status);
+        }
+        let called = state.waiting.call();
+        drop(state);
+        let before = mem::replace(&mut *newest, value);
+        drop(newest);
+        called.wake();
+        before
+    }
+
+    /// Changes the newest value where it stands, and publishes it, whether there are receivers or
+    /// not.
+    ///
+    /// # Panics
+    ///
+    /// Where the closure panics; then nothing is published, and the value is as the closure left
+    /// it. If the channel has had 2^64 - 1 versions.
+    ///
+    /// # Examples
+    ///
+    /// ```
+    /// use topichub::watch;
+    ///
+    /// let (tx, mut rx) = watch::channel(vec![1]);
+    /// tx.send_modify(|list| list.push(2));
+    /// assert_eq!(*rx.borrow_and_update(), [1, 2]);
+    /// ```
+    pub fn send_modify<F: FnOnce(&mut T)>(&self, modify: F) {
+        self.send_if_modified(|value| {
+            modify(value);
+            true
+        });
+    }
+
+    /// Changes the newest value where it stands, and publishes it if the closure answers `true`. If
+    /// it answers `false`, what it leaves is shown from then on, and nobody is told.
+    ///
+    /// # Panics
+    ///
+    /// As [`send_modify`](Self::send_modify).
+    ///
+    /// # Examples
+    ///
+    /// ```
+    /// use topichub::watch;
+    ///
+    /// let (tx, mut rx) = watch::channel(1);
+    /// let raise_to = |least: i32| {
+    ///     tx.send_if_modified(|value| {
+    ///         let is_less = *value < least;
+    ///         *value = least.max(*value);
+    ///         is_less
+    ///     })
+    /// };
+    /// assert!(raise_to(3));
+    /// assert!(!raise_to(2));
+    /// assert_eq!(*rx.borrow_and_update(), 3);
+    /// ```
+    pub fn send_if_modified<F: FnOnce(&mut T) -> bool>(&self, modify: F) -> bool {
+        let mut newest = self.shared.write();
+        let is_modified = modify(&mut newest);
+        let mut state = self.shared.lock();
+        let told = state.publish(|channel, number| match is_modified {
+            true => channel.set(self.id, number),
+            false => channel.quiet(self.id, number),
+        });
+        let called = match told.status {
+            status::YES => state.waiting.call(),
+            status::NO => Called::nobody(),
+            other => library::refused(other),
+        };
+        drop(state);
+        drop(newest);
+        called.wake();
+        is_modified
+    }
+
+    /// Lends the newest value. No entry of a [`Recording`](super::Recording) tells of it.
+    pub fn borrow(&self) -> Ref<'_, T> {
+        Ref {
+            value: self.shared.read(),
+            has_changed: false,
+        }
+    }
+
+    /// A receiver, to which the newest value is seen.
+    ///
+    /// # Panics
+    ///
+    /// If the channel has 65,535 receivers, or where memory is refused.
+    ///
+    /// # Examples
+    ///
+    /// ```
+    /// use topichub::watch;
+    ///
+    /// let tx = watch::Sender::new(1);
+    /// let mut rx = tx.subscribe();
+    /// assert_eq!(rx.has_changed(), Ok(false));
+    /// tx.send(2).unwrap();
+    /// assert_eq!(rx.has_changed(), Ok(true));
+    /// ```
+    pub fn subscribe(&self) -> Receiver<T> {
+        let id = self
+            .shared
+            .lock()
+            .new_receiver(|channel| channel.subscribe(self.id));
+        Receiver {
+            shared: Arc::clone(&self.shared),
+            id,
+        }
+    }
+
+    /// How many receivers are live.
+    pub fn receiver_count(&self) -> usize {
+        self.shared
+            .lock()
+            .core
+            .count(|channel| channel.readers(self.id))
+    }
+
+    /// Whether no receiver is left.
+    pub fn is_closed(&self) -> bool {
+        let told = self
+            .shared
+            .lock()
+            .core
+            .call(|channel| channel.is_closed(self.id));
+        is_yes(told.status)
+    }
+
+    /// Waits until no receiver is left.
+    ///
+    /// # Cancel safety
+    ///
+    /// Who drops the future before it is ready has changed nothing.
+    pub fn closed(&self) -> Closed<'_, T> {
+        Closed {
+            sender: self,
+            seat: Seat::default(),
+        }
+    }
+
+    /// Whether both are senders of one channel.
+    pub fn same_channel(&self, other: &Self) -> bool {
+        Arc::ptr_eq(&self.shared, &other.shared)
+    }
+}
+
+fn is_yes(told: u32) -> bool {
+    match told {
+        status::YES => true,
+        status::NO => false,
+        other => library::refused(other),
+    }
+}
+
+impl<T> Clone for Sender<T> {
+    /// Another sender of the same channel. It panics if the channel has 65,535, or where memory is
+    /// refused.
+    fn clone(&self) -> Self {
+        let mut state = self.shared.lock();
+        let id = state.core.new_handle(|channel| channel.clone_tx(self.id));
+        state.senders += 1;
+        drop(state);
+        Self {
+            shared: Arc::clone(&self.shared),
+            id,
+        }
+    }
+}
+
+impl<T: Default> Default for Sender<T> {
+    fn default() -> Self {
+        Self::new(T::default())
+    }
+}
+
+impl<T> Drop for Sender<T> {
+    fn drop(&mut self) {
+        let mut state = self.shared.lock();
+        let told = state.core.call(|channel| channel.drop_tx(self.id));
+        debug_assert_eq!(told.status, status::DONE);
+        state.senders -= 1;
+        let called = if state.senders == 0 {
+            state.waiting.call()
+        } else {
+            Called::nobody()
+        };
+        drop(state);
+        called.wake();
+    }
+}
+
+impl<T> fmt::Debug for Sender<T> {
+    fn fmt(&self, to: &mut fmt::Formatter<'_>) -> fmt::Result {
+        to.write_str("watch::Sender")
+    }
+}
+
+/// A wait for the last receiver to go, made by [`Sender::closed`].
+#[must_use = "a future does nothing unless it is awaited"]
+pub struct Closed<'a, T> {
+    sender: &'a Sender<T>,
+    seat: Seat,
+}
+
+impl<T> Future for Closed<'_, T> {
+    type Output = ();
+
+    fn poll(self: Pin<&mut Self>, context: &mut Context<'_>) -> Poll<()> {
+        let Self { sender, seat } = self.get_mut();
+        let mut state = sender.shared.lock();
+        let told = state.core.call(|channel| channel.is_closed(sender.id));
+        let (polled, left) = if is_yes(told.status) {
+            (Poll::Ready(()), state.leaving.leave(seat))
+        } else {
+            (Poll::Pending, state.leaving.sit(seat, context.waker()))
+        };
+        drop(state);
+        drop(left);
+        polled
+    }
+}
+
+impl<T> Drop for Closed<'_, T> {
+    fn drop(&mut self) {
+        if self.seat.is_taken() {
+            let left = self.sender.shared.lock().leaving.leave(&mut self.seat);
+            drop(left);
+        }
+    }
+}
+
+impl<T> fmt::Debug for Closed<'_, T> {
+    fn fmt(&self, to: &mut fmt::Formatter<'_>) -> fmt::Result {
+        to.write_str("watch::Closed")
+    }
+}

@@ -1,0 +1,185 @@
+//! The rules of a watch channel, by one thread.
+mod common;
+
+use common::{block_on, poll, Calls};
+use std::panic::{catch_unwind, AssertUnwindSafe};
+use std::task::Poll;
+use topichub::watch::{self, error::SendError, Builder, Sender};
+use topichub::BuildError;
+
+#[test]
+fn a_change_is_told_once_and_the_newest_value_is_shown() {
+    let (tx, mut rx) = watch::channel("red");
+    assert_eq!(rx.has_changed(), Ok(false));
+    tx.send("amber").unwrap();
+    tx.send("green").unwrap();
+    assert_eq!(rx.has_changed(), Ok(true));
+    assert_eq!(block_on(rx.changed()), Ok(()));
+    assert_eq!(rx.has_changed(), Ok(false));
+    assert_eq!(*rx.borrow(), "green");
+}
+
+#[test]
+fn a_look_says_whether_the_value_was_unseen_and_may_mark_it() {
+    let (tx, mut rx) = watch::channel(1);
+    tx.send(2).unwrap();
+    assert!(rx.borrow().has_changed());
+    assert!(rx.borrow_and_update().has_changed());
+    assert!(!rx.borrow().has_changed());
+    rx.mark_changed();
+    assert_eq!(rx.has_changed(), Ok(true));
+    rx.mark_unchanged();
+    assert_eq!(rx.has_changed(), Ok(false));
+    assert!(!tx.borrow().has_changed());
+    assert_eq!(
+        format!("{:?}", rx.borrow()),
+        "Ref { value: 2, has_changed: false }"
+    );
+}
+
+#[test]
+fn an_unseen_value_is_told_before_the_end() {
+    let (tx, mut rx) = watch::channel(1);
+    tx.send(2).unwrap();
+    drop(tx);
+    assert!(rx.has_changed().is_err());
+    assert_eq!(rx.blocking_changed(), Ok(()));
+    assert!(rx.blocking_changed().is_err());
+    assert_eq!(*rx.borrow(), 2);
+}
+
+#[test]
+fn a_send_needs_a_receiver_and_the_other_publications_do_not() {
+    let tx = Sender::new(1);
+    assert!(tx.is_closed());
+    assert_eq!(tx.send(2), Err(SendError(2)));
+    assert_eq!(tx.send_replace(3), 1);
+    tx.send_modify(|value| *value += 1);
+    assert_eq!(*tx.borrow(), 4);
+    let rx = tx.subscribe();
+    assert_eq!(
+        (tx.receiver_count(), tx.is_closed(), rx.has_changed()),
+        (1, false, Ok(false))
+    );
+}
+
+#[test]
+fn what_a_closure_does_not_publish_is_shown_and_not_told() {
+    let (tx, rx) = watch::channel(1);
+    assert!(!tx.send_if_modified(|value| {
+        *value = 2;
+        false
+    }));
+    assert_eq!((*rx.borrow(), rx.has_changed()), (2, Ok(false)));
+    assert!(tx.send_if_modified(|_| true));
+    assert_eq!((*rx.borrow(), rx.has_changed()), (2, Ok(true)));
+}
+
+#[test]
+fn a_closure_that_panics_publishes_nothing() {
+    let (tx, rx) = watch::channel(1);
+    let panicked = catch_unwind(AssertUnwindSafe(|| {
+        tx.send_modify(|value| {
+            *value = 2;
+            panic!("in the closure");
+        });
+    }));
+    assert!(panicked.is_err());
+    assert_eq!((*rx.borrow(), rx.has_changed()), (2, Ok(false)));
+    tx.send(3).unwrap();
+    assert_eq!((*rx.borrow(), rx.has_changed()), (3, Ok(true)));
+}
+
+#[test]
+fn a_clone_has_the_mark_of_its_original() {
+    let (tx, mut rx) = watch::channel(1);
+    tx.send(2).unwrap();
+    let unseen = rx.clone();
+    rx.mark_unchanged();
+    let seen = rx.clone();
+    assert_eq!(
+        (unseen.has_changed(), seen.has_changed()),
+        (Ok(true), Ok(false))
+    );
+    assert_eq!(tx.subscribe().has_changed(), Ok(false));
+    assert!(rx.same_channel(&seen) && tx.same_channel(&tx.clone()));
+}
+
+#[test]
+fn who_waits_is_woken_by_a_publication_and_by_the_last_sender() {
+    let (tx, mut rx) = watch::channel(1);
+    let other = tx.clone();
+    let (calls, waker) = Calls::new();
+    {
+        let mut waiting = rx.changed();
+        assert_eq!(poll(&mut waiting, &waker), Poll::Pending);
+        tx.send_if_modified(|_| false);
+        assert_eq!(calls.count(), 0);
+        tx.send(2).unwrap();
+        assert_eq!(calls.count(), 1);
+        assert_eq!(poll(&mut waiting, &waker), Poll::Ready(Ok(())));
+    }
+    assert_eq!(poll(&mut rx.changed(), &waker), Poll::Pending);
+    let mut waiting = rx.changed();
+    assert_eq!(poll(&mut waiting, &waker), Poll::Pending);
+    drop(tx);
+    assert_eq!(calls.count(), 1);
+    drop(other);
+    assert_eq!(calls.count(), 2);
+    assert!(matches!(poll(&mut waiting, &waker), Poll::Ready(Err(_))));
+}
+
+#[test]
+fn a_sender_can_wait_until_nobody_reads() {
+    let (tx, rx) = watch::channel(1);
+    let other = rx.clone();
+    let (calls, waker) = Calls::new();
+    let mut waiting = tx.closed();
+    assert_eq!(poll(&mut waiting, &waker), Poll::Pending);
+    drop(rx);
+    assert_eq!(calls.count(), 0);
+    drop(other);
+    assert_eq!(calls.count(), 1);
+    assert_eq!(poll(&mut waiting, &waker), Poll::Ready(()));
+}
+
+#[test]
+fn a_wait_for_a_value_ends_with_it_or_with_the_channel() {
+    let (tx, mut rx) = watch::channel(1);
+    assert_eq!(
+        block_on(rx.wait_for(|value| *value == 1)).map(|value| *value),
+        Ok(1)
+    );
+    let mut waiting = Box::pin(rx.wait_for(|value| *value == 3));
+    let (calls, waker) = Calls::new();
+    assert!(poll(&mut waiting, &waker).is_pending());
+    tx.send(2).unwrap();
+    assert!(poll(&mut waiting, &waker).is_pending());
+    tx.send(3).unwrap();
+    assert_eq!(calls.count(), 2);
+    assert!(matches!(poll(&mut waiting, &waker), Poll::Ready(Ok(value)) if *value == 3));
+    drop(waiting);
+    drop(tx);
+    assert!(block_on(rx.wait_for(|value| *value == 4)).is_err());
+}
+
+#[test]
+fn what_no_channel_can_have_is_refused() {
+    for limit in [0, 1, 2, 1_000_001] {
+        assert_eq!(
+            Builder::new(1).recorded(limit).build().unwrap_err(),
+            BuildError::Limit
+        );
+    }
+}
+
+#[test]
+fn waits_go_to_other_threads() {
+    fn goes<T: Send>(value: T) -> T {
+        value
+    }
+    let (tx, mut rx) = watch::channel(String::new());
+    drop(goes(rx.changed()));
+    drop(goes(rx.wait_for(|value| value.is_empty())));
+    drop(goes(tx.closed()));
+}
