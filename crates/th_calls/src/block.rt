@@ -225,10 +225,7 @@ pub fn keep(
     (shared.another(), shared.cut(rt))
 }
 
-pub fn cut_of(
-    rt: &impl Wait,
-    shared: &Shared<Light>,
-) -> Option<Result<Segment<Light>, Short<()>>> {
+pub fn cut_of(rt: &impl Wait, shared: &Shared<Light>) -> Option<Result<Segment<Light>, Short<()>>> {
     shared.cut_of(rt, 1)
 }
 
