@@ -2,6 +2,7 @@ pub mod Handles
 pub mod Held
 pub mod Outcomes
 pub mod Making
+pub mod LetGo
 pub mod Broadcast
 pub mod Watch
 pub mod Checking

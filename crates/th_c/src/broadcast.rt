@@ -1,9 +1,10 @@
 //! A broadcast channel's replies, as C sees them, and its calls through a handle.
-ghost use Rattle.std.specs.Prelude.{◌≡◌, ◌≤◌, length};
-ghost use Rattle.th_c.specs.Broadcast.{Answered, Called, number_of, sent_by, status_of};
+ghost use Rattle.std.specs.Prelude.{◌≡◌};
+ghost use Rattle.th_c.specs.Broadcast.{Answered, Called, number_of, status_of};
 
 use crate::content::{Content, NumberBroadcast};
 use crate::handle::Handle;
+use crate::let_go::{Note, let_go, noted};
 use crate::outcome::{Refusal, Told, reply};
 use crate::raw::{put, take};
 use crate::reply::Reply;
@@ -35,48 +36,27 @@ fn status_and_number(reply: &BReply<u64>) -> (u32, u64)
     }
 }
 
-// How many values the reply says were sent.
-#[inline(always)]
-fn sent_by(reply: &BReply<u64>) -> u64
-    ensures { result ≡ sent_by reply.now }
-{
-    if matches!(reply, BReply::Sent(_)) {
-        1
-    } else {
-        0
-    }
-}
-
-// How many values the channel keeps.
-#[inline(always)]
-fn kept(channel: &NumberBroadcast) -> u64
-    ensures kept { result ≡ length channel.now.window.kept }
-    ensures small { result ≤ 65536 }
-{
-    let _sound = channel.next_number();
-    channel.tail() - channel.low()
-}
-
 impl Tells for NumberBroadcast {
-    ghost use Rattle.std.specs.Prelude.{length};
     ghost use Rattle.th_c.specs.Broadcast.{tells};
+    ghost use Rattle.th_c.specs.LetGo.{noted};
+
+    type Note = Note;
 
     ghost tells = { tells };
 
-    ghost noted = { λ p call. length p.window.kept };
+    ghost noted = { noted };
 
     #[inline(always)]
-    fn note(&self, _call: &BCall<u64>) -> u64 {
-        kept(self)
+    fn note(&self, call: &BCall<u64>) -> Note {
+        noted(self, call)
     }
 
     #[inline(always)]
-    fn told(&self, note: u64, reply: &BReply<u64>) -> Reply {
+    fn told(&self, note: Note, reply: &BReply<u64>) -> Reply {
         let (status, number) = status_and_number(reply);
-        let let_go = (note + sent_by(reply)).saturating_sub(kept(self));
         Reply {
             status,
-            let_go: let_go as u32,
+            let_go: let_go(self, note, reply),
             number,
         }
     }

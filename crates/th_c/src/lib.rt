@@ -12,6 +12,7 @@ pub mod checking;
 mod content;
 pub mod cutting;
 mod handle;
+mod let_go;
 mod making;
 mod numbers;
 mod outcome;

@@ -1,5 +1,5 @@
 //! Calls of a channel of either kind, with their replies as C sees them.
-ghost use Rattle.std.specs.Prelude.{◌≡◌, ℕ, ◌≤◌};
+ghost use Rattle.std.specs.Prelude.{◌≡◌};
 ghost use Rattle.th_c.specs.Outcomes.{Answers, Records};
 ghost use Rattle.th_c.specs.declared.reply.Reply.{Reply};
 
@@ -11,21 +11,23 @@ use th_registry::recorded::Recorded;
 
 /// A kind of channel whose replies go to C.
 pub trait Tells: Kind {
+    /// What has to be known before a call, to say how many values it lets go of.
+    type Note: Drop;
+
     /// What C is told of a call in a channel that looks so.
     ghost tells: { Self.State → Self.Call → Reply };
 
-    /// What has to be known before a call, to say how many values it lets go of.
-    ghost noted: { Self.State → Self.Call → ℕ };
+    /// The note of a call in a channel that looks so.
+    ghost noted: { Self.State → Self.Call → Self.Note };
 
     /// What has to be known before the call.
-    fn note(&self, call: &Self::Call) -> u64
-        ensures noted { result ≡ noted (Self.shows self.now) call.now }
-        ensures small { result ≤ 65536 };
+    fn note(&self, call: &Self::Call) -> Self::Note
+        ensures { result ≡ noted (Self.shows self.now) call.now };
 
     /// What C is told of the reply, in a channel as it is after the call.
-    fn told(&self, note: u64, reply: &Self::Reply) -> Reply
-        requires { note ≤ 65536 }
-        ensures { (before : Self.State) (call : Self.Call) → note ≡ noted before call
+    fn told(&self, note: Self::Note, reply: &Self::Reply) -> Reply
+        ensures { (before : Self.State) (call : Self.Call) → Self.is_sound before
+            → note ≡ noted before call
             → Self.machine.answer before call ≡ (reply.now, Self.shows self.now)
             → result ≡ tells before call };
 }
@@ -40,6 +42,8 @@ pub(crate) fn answered<O: Tells>(channel: &mut O, call: O::Call) -> Told
     if !channel.ready(&call) {
         return Err(Refusal::WouldWait);
     }
+    // Its contract says that the picture is sound.
+    let _live = channel.live();
     let note = channel.note(&call);
     match channel.apply(call) {
         Ok(reply) => Ok(channel.told(note, &reply)),
@@ -56,6 +60,8 @@ pub(crate) fn recorded<O: Tells>(channel: &mut Recorded<O>, call: O::Call) -> To
     if !channel.object().ready(&call) {
         return Err(Refusal::WouldWait);
     }
+    // Its contract says that the picture is sound.
+    let _live = channel.object().live();
     let note = channel.object().note(&call);
     match channel.record(call) {
         Ok(receipt) => Ok(channel.object().told(note, receipt.reply())),

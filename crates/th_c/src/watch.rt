@@ -1,5 +1,5 @@
 //! A watch channel's replies, as C sees them, and its calls through a handle.
-ghost use Rattle.std.specs.Prelude.{◌≡◌, ◌≤◌, if◌then◌else◌};
+ghost use Rattle.std.specs.Prelude.{◌≡◌, if◌then◌else◌};
 ghost use Rattle.th_c.specs.Watch.{Answered, Called, number_of, puts_at, status_of};
 ghost use Rattle.th_c.specs.declared.status.TheConstants.{NO, YES};
 
@@ -51,8 +51,7 @@ fn status_and_number(reply: &WReply<u64>) -> (u32, u64)
 // The status with which a call puts its value in the place of the newest one.
 #[inline(always)]
 fn puts_at(call: &WCall<u64>) -> u32
-    ensures puts { result ≡ puts_at call.now }
-    ensures small { result ≤ 65536 }
+    ensures { result ≡ puts_at call.now }
 {
     match call {
         WCall::Send(_, _) => status::DONE,
@@ -66,19 +65,22 @@ fn puts_at(call: &WCall<u64>) -> u32
 impl Tells for NumberWatch {
     ghost use Rattle.th_c.specs.Watch.{puts_at, tells};
 
+    // The status with which the call puts its value in the place of the newest one.
+    type Note = u32;
+
     ghost tells = { tells };
 
     ghost noted = { λ p call. puts_at call };
 
     #[inline(always)]
-    fn note(&self, call: &WCall<u64>) -> u64 {
-        puts_at(call) as u64
+    fn note(&self, call: &WCall<u64>) -> u32 {
+        puts_at(call)
     }
 
     #[inline(always)]
-    fn told(&self, note: u64, reply: &WReply<u64>) -> Reply {
+    fn told(&self, note: u32, reply: &WReply<u64>) -> Reply {
         let (status, number) = status_and_number(reply);
-        let let_go = if status as u64 == note { 1 } else { 0 };
+        let let_go = if status == note { 1 } else { 0 };
         Reply {
             status,
             let_go,

@@ -1,0 +1,275 @@
+-- What a call lets go of is found by what was noted before it.
+use Rattle.std.proofs.Common.{◌≡◌, ℕ, ◌+◌, ◌-◌, ◌<◌, ◌≤◌, ◌^◌, Bool, true, false, cond, eqb, ltb, List, [], ◌∷◌, ◌++◌, length, drop, max, min, Option, Some, None, IsSome, refl, sym, ap, subst, ◌∙◌, arith}
+use Rattle.std.specs.Prelude.{◌==◌, slice_get, nat_lt}
+use Rattle.std.specs.Ordering.{nat_cmp, match_ordering}
+use Rattle.std.specs.declared.cmp.Ordering.TheVariants.{Less, Equal, Greater}
+use Rattle.std.specs.BTreeMap.{is_at}
+use Rattle.std.proofs.lemmas.Bool.{ltb-true, ltb-false}
+use Rattle.std.proofs.lemmas.Bool.Decides.{nat_tests, eqb_tells}
+use Rattle.std.proofs.lemmas.List.{length-drop, length-append}
+use Rattle.std.proofs.lemmas.Option.{same_Some, none-some}
+use Rattle.th_model.specs.declared.broadcast.BCall.{BCall}
+use Rattle.th_model.specs.declared.broadcast.BCall.TheVariants.{Send, TryRecv, Recv, Subscribe, SubscribeOldest, Resubscribe, CloneTx, DropTx, DropRx, Queued, Left, Readers}
+use Rattle.th_model.specs.declared.broadcast.BReply.{BReply}
+use Rattle.th_model.specs.declared.broadcast.BReply.TheVariants.{Sent, NoReceivers, Exhausted, Value, Empty, Closed, Lagged, NewRx, NewTx, Count, Done, TooMany, NoHandle}
+use Rattle.th_model.specs.declared.handles.RxId.{RxId}
+use Rattle.th_model.specs.declared.handles.TxId.{TxId}
+use Rattle.th_model.specs.BroadcastMachine.{value_reply, end_reply}
+use Rattle.th_model.specs.BroadcastPicture.{Picture, IsSound, answer, at_place, as_sender, send, receive, subscribe_at, clone_sender, with_window, with_senders, numbered}
+use Rattle.th_model.specs.Handles.{is_sender, is_full, with_sender, without_sender}
+use Rattle.th_model.specs.Places.{Places, place_of, with_place, ArePlaces, least_place, low_of}
+use Rattle.th_model.specs.Window.{Window, IsWindow, first_of, pushed, placed, left, value_at, trimmed}
+use Rattle.th_model.proofs.PlaceLemmas.{all-at, least_at, least_le, low_of-at, least_with, place-with_same}
+use Rattle.th_model.proofs.WindowLemmas.{slice_get-some}
+use Rattle.th_model.proofs.BroadcastSoundness.{sound-placed, sound-pushed}
+use Rattle.th_c.specs.Broadcast.{sent_by}
+use Rattle.th_c.specs.LetGo.{gone, gone_at, noted, one_if_none}
+use Rattle.th_c.specs.declared.let_go.Note.{Note}
+use Rattle.th_c.specs.declared.let_go.Note.TheVariants.{Nothing, Full, Place, Kept}
+
+-- ---- the least place
+-- with a receiver, the least place is the same where the tail moves on
+least_more : (n : ℕ) (ps : Places) → min n (least_place (n + 1) ps) ≡ least_place n ps
+least_more n [] = omega arith
+least_more n (p ∷ ps) = omega (arith, least_more n ps)
+
+least_same : (n : ℕ) (ps : Places) → ArePlaces n ps → (length ps ≡ 0 → ⊥) → least_place (n + 1) ps ≡ least_place n ps
+least_same n [] h some = absurd (some refl)
+least_same n (p ∷ ps) h some = omega (arith, least_more n ps, h.0)
+
+-- a receiver that moves holds back none but the place that it had
+least_moved : (n : ℕ) (ps : Places) (rx i j : ℕ) → place_of ps rx ≡ Some i → min i (least_place n (with_place ps rx j)) ≤ least_place n ps
+least_moved n [] rx i j h = absurd (none-some i h)
+least_moved n (p ∷ ps) rx i j h = elim (nat_cmp rx p.0) as
+    (λ r. r ≡ nat_cmp rx p.0 → min i (least_place n (match_ordering r ((rx, j) ∷ p ∷ ps) ((p.0, j) ∷ ps) (p ∷ with_place ps rx j)))
+    ≤ min p.1 (least_place n ps)) [
+      | Less ↦ λ e. omega arith
+      | Equal ↦ λ e. (let here : p.1 ≡ i = same_Some p.1 i (rw (sym e) at h) in omega arith)
+      | Greater ↦ λ e. (let there : place_of ps rx ≡ Some i = rw (sym e) at h in omega (arith, least_moved n ps rx i j there))
+    ] refl
+
+-- ---- the least kept position
+-- a value is sent: the oldest one goes where the window is full
+low-pushed : (n c low len : ℕ) (ps : Places) → ArePlaces n ps → (length ps ≡ 0 → ⊥) → 0 < c → low ≡ low_of n c ps → low + len ≡ n
+    → (full : Bool) → (len == c) ≡ full → low_of (n + 1) c ps ≡ low + cond full 1 0
+unfolding low_of
+low-pushed n c low len ps all some room is whole true e =
+    let f : len ≡ c = grind (arith, nat_tests) in
+    omega (arith, least_same n ps all some)
+low-pushed n c low len ps all some room is whole false e =
+    let f : len ≡ c → ⊥ = grind (arith, nat_tests) in
+    omega (arith, least_same n ps all some)
+
+-- a receiver reads the value at its place
+low-read : (n c i : ℕ) (ps : Places) (rx : ℕ) → place_of ps rx ≡ Some i → n - c ≤ i → i < n
+    → low_of n c (with_place ps rx (i + 1)) ≡ low_of n c ps + cond (nat_lt i (low_of n c (with_place ps rx (i + 1)))) 1 0
+unfolding low_of
+low-read n c i ps rx here inside before =
+    let now : ℕ = least_place n (with_place ps rx (i + 1)) in
+    let at = least_at n (with_place ps rx (i + 1)) rx (i + 1) (place-with_same ps rx (i + 1)) in
+    let was = least_at n ps rx i here in
+    let low = least_with n ps rx (i + 1) in
+    let back = least_moved n ps rx i (i + 1) here in
+    elim (nat_lt i (max (n - c) now)) as (λ b. nat_lt i (max (n - c) now) ≡ b → max (n - c) now ≡ max (n - c) (least_place n ps) + cond b 1 0) [
+      | true ↦ λ e. (let f : i < max (n - c) now = ltb-true i (max (n - c) now) e in omega arith)
+      | false ↦ λ e. (let f = ltb-false i (max (n - c) now) e in omega arith)
+    ] refl
+
+-- a receiver goes on at the beginning of the window
+low-skipped : (n c i : ℕ) (ps : Places) (rx : ℕ) → place_of ps rx ≡ Some i → i < n - c
+    → low_of n c (with_place ps rx (n - c)) ≡ low_of n c ps
+unfolding low_of
+low-skipped n c i ps rx here behind =
+    let at = least_at n (with_place ps rx (n - c)) rx (n - c) (place-with_same ps rx (n - c)) in
+    let was = least_at n ps rx i here in
+    omega arith
+
+-- ---- the window
+-- whether a position that was sent is kept
+one-if-gone : (w : Window ℕ) → IsWindow w → (i : ℕ) → i < w.tail → gone_at w i ≡ cond (nat_lt i w.low) 1 0
+one-if-gone w s i before = elim (nat_lt i w.low) as
+    (λ b. nat_lt i w.low ≡ b → one_if_none (cond b None (slice_get w.kept (i - w.low))) ≡ cond b 1 0) [
+      | true ↦ λ e. refl
+      | false ↦ λ e. (let f = ltb-false i w.low e in
+          let there = slice_get-some w.kept (i - w.low) (omega (arith, s.kept)) in rw there.1 refl)
+    ] refl
+
+-- ---- the calls
+-- how many values are let go of, where this is the answer
+abbrev let_go_of : Picture ℕ → BReply ℕ × Picture ℕ → ℕ
+let_go_of p a = length p.window.kept + sent_by a.0 - length a.1.window.kept
+
+abbrev Finds : Picture ℕ → Note → BReply ℕ × Picture ℕ → Type 0
+Finds p note a = gone note a.0 a.1 ≡ let_go_of p a
+
+module _ (p : Picture ℕ) (s : IsSound p) where
+  abbrev count : ℕ
+  count = length p.window.kept
+
+  abbrev full : Bool
+  full = count == p.window.capacity
+
+  -- ---- a send
+  sent : (v m : ℕ) → (length p.window.places ≡ 0 → ⊥) → p.window.tail < 2 ^ 64 - 1 → (f : Bool) → full ≡ f
+      → Finds p (Full f) (Sent m, with_window p (pushed p.window v))
+  unfolding pushed trimmed
+  sent v m some room true e =
+      let q = sound-pushed p s v room in
+      let moved = low-pushed p.window.tail p.window.capacity p.window.low count p.window.places s.window.places some s.window.capacity.1
+      s.window.low s.window.kept true e in
+      omega (arith, q.window.kept, moved, s.window.kept)
+  sent v m some room false e =
+      let q = sound-pushed p s v room in
+      let moved = low-pushed p.window.tail p.window.capacity p.window.low count p.window.places s.window.places some s.window.capacity.1
+      s.window.low s.window.kept false e in
+      omega (arith, q.window.kept, moved, s.window.kept)
+
+  sending : (v : ℕ) → Finds p (Full full) (send p v)
+  sending v =
+      let go : BReply ℕ × Picture ℕ = (Sent (length p.window.places), with_window p (pushed p.window v)) in
+      let last : Bool = p.window.tail == 2 ^ 64 - 1 in
+      elim (length p.window.places == 0) as (λ b. (length p.window.places == 0) ≡ b
+      → Finds p (Full full) (cond b (NoReceivers v, p) (cond last (Exhausted v, p) go))) [
+        | true ↦ λ e. omega arith
+        | false ↦ λ e. (let some : length p.window.places ≡ 0 → ⊥ = grind (arith, nat_tests) in
+            elim (p.window.tail == 2 ^ 64 - 1) as (λ b. (p.window.tail == 2 ^ 64 - 1) ≡ b → Finds p (Full full) (cond b (Exhausted v, p) go)) [
+              | true ↦ λ h. omega arith
+              | false ↦ λ h. (let apart : p.window.tail ≡ 2 ^ 64 - 1 → ⊥ = grind (arith, nat_tests) in
+                  sent v (length p.window.places) some (omega (arith, apart, s.tail)) full refl)
+            ] refl)
+      ] refl
+
+  -- ---- a receive
+  module _ (rx i : ℕ) (here : place_of p.window.places rx ≡ Some i) where
+    there : IsSome (place_of p.window.places rx)
+    there = rw here refl
+
+    skipping : i < first_of p.window
+        → Finds p (Place (Some i)) (Lagged (first_of p.window - i), with_window p (placed p.window rx (first_of p.window)))
+    unfolding placed trimmed
+    skipping behind =
+        let low = low_of-at p.window.tail p.window.capacity p.window.places rx i here in
+        let q = sound-placed p s rx (first_of p.window) there (omega arith) (omega arith) in
+        omega (
+          arith,
+          q.window.kept,
+          low-skipped p.window.tail p.window.capacity i p.window.places rx here behind,
+          s.window.low,
+          s.window.kept,
+        )
+
+    reading : first_of p.window ≤ i → i < p.window.tail
+        → Finds p (Place (Some i)) (value_reply (slice_get p.window.kept (i - p.window.low)), with_window p (placed p.window rx (i + 1)))
+    unfolding placed trimmed
+    reading inside before =
+        let low = low_of-at p.window.tail p.window.capacity p.window.places rx i here in
+        let q = sound-placed p s rx (i + 1) there (omega arith) (omega arith) in
+        let stands = slice_get-some p.window.kept (i - p.window.low) (omega (arith, s.window.low, s.window.kept)) in
+        let lost = one-if-gone (placed p.window rx (i + 1)) q.window i before in
+        let moved = low-read p.window.tail p.window.capacity i p.window.places rx here inside before in
+        rw stands.1 (omega (arith, lost, moved, q.window.kept, s.window.low, s.window.kept))
+
+    ending : Finds p (Place (Some i)) (end_reply p.senders, p)
+    ending = elim (length p.senders == 0) as (λ b. Finds p (Place (Some i)) (cond b Closed Empty, p)) [
+      | true ↦ omega arith
+      | false ↦ omega arith
+    ]
+
+    receiving : Finds p (Place (Some i)) (receive p rx i)
+    receiving =
+        let le : i ≤ p.window.tail = all-at (λ q. q ≤ p.window.tail) p.window.places rx i s.window.places here in
+        let lag : BReply ℕ × Picture ℕ =
+        (Lagged (first_of p.window - i), with_window p (placed p.window rx (first_of p.window))) in
+        let get : BReply ℕ × Picture ℕ =
+        (value_reply (slice_get p.window.kept (i - p.window.low)), with_window p (placed p.window rx (i + 1))) in
+        elim (i == p.window.tail) as (λ b. (i == p.window.tail) ≡ b
+        → Finds p (Place (Some i)) (cond b (end_reply p.senders, p) (cond (nat_lt i (first_of p.window)) lag get))) [
+          | true ↦ λ e. ending
+          | false ↦ λ e. (let apart : i ≡ p.window.tail → ⊥ = grind (arith, nat_tests) in
+              elim (nat_lt i (first_of p.window)) as (λ b. nat_lt i (first_of p.window) ≡ b → Finds p (Place (Some i)) (cond b lag get)) [
+                | true ↦ λ h. skipping (ltb-true i (first_of p.window) h)
+                | false ↦ λ h. reading (ltb-false i (first_of p.window) h) (omega (arith, apart, le))
+              ] refl)
+        ] refl
+
+  receiving-at : (rx : ℕ) (o : Option ℕ) → place_of p.window.places rx ≡ o → Finds p (Place o) (at_place p o (receive p rx))
+  receiving-at rx None here = omega arith
+  receiving-at rx (Some i) here = receiving rx i here
+
+  -- ---- the others
+  by-sender : (tx : TxId) (back : Option ℕ) (note : Note) (given : BReply ℕ × Picture ℕ) → gone note (NoHandle back) p ≡ 0
+      → Finds p note given → Finds p note (as_sender p tx back given)
+  by-sender tx back note given none found = elim (is_sender p.senders tx.0) as (λ b. Finds p note (cond b given (NoHandle back, p))) [
+    | true ↦ found
+    | false ↦ omega (arith, none)
+  ]
+
+  by-receiver : (o : Option ℕ) (note : Note) (given : ℕ → BReply ℕ × Picture ℕ) → gone note (NoHandle None) p ≡ 0
+      → ((i : ℕ) → Finds p note (given i)) → Finds p note (at_place p o given)
+  by-receiver None note given none found = omega (arith, none)
+  by-receiver (Some i) note given none found = found i
+
+  subscribing : (i : ℕ) → Finds p (Kept count) (subscribe_at p i)
+  subscribing i = elim (is_full (length p.window.places) p.next) as
+      (λ b. Finds p (Kept count)
+      (cond b (TooMany, p) (NewRx (record { 0 = p.next }), numbered (with_window p (placed p.window p.next i))))) [
+        | true ↦ omega arith
+        | false ↦ omega arith
+      ]
+
+  cloning : Finds p Nothing (clone_sender p)
+  cloning = elim (is_full (length p.senders) p.next) as
+      (λ b. Finds p Nothing
+      (cond b (TooMany, p) (NewTx (record { 0 = p.next }), numbered (with_senders p (with_sender p.senders p.next))))) [
+        | true ↦ omega arith
+        | false ↦ omega arith
+      ]
+
+  found : (call : BCall ℕ) → Finds p (noted p call) (answer p call)
+  found (Send tx v) = by-sender tx (Some v) (Full full) (send p v) refl (sending v)
+  found (TryRecv rx) = receiving-at rx.0 (place_of p.window.places rx.0) refl
+  found (Recv rx) = receiving-at rx.0 (place_of p.window.places rx.0) refl
+  found (Subscribe tx) = by-sender tx None (Kept count) (subscribe_at p p.window.tail) (omega arith) (subscribing p.window.tail)
+  found (SubscribeOldest tx) = by-sender tx None (Kept count) (subscribe_at p p.window.low) (omega arith) (subscribing p.window.low)
+  found (Resubscribe rx) =
+      by-receiver (place_of p.window.places rx.0) (Kept count) (λ _. subscribe_at p p.window.tail) (omega arith)
+      (λ _. subscribing p.window.tail)
+  found (CloneTx tx) = by-sender tx None Nothing (clone_sender p) refl cloning
+  found (DropTx tx) = by-sender tx None Nothing (Done, with_senders p (without_sender p.senders tx.0)) refl (omega arith)
+  found (DropRx rx) =
+      by-receiver (place_of p.window.places rx.0) (Kept count) (λ _. (Done, with_window p (left p.window rx.0))) (omega arith)
+      (λ _. omega arith)
+  found (Queued tx) = by-sender tx None Nothing (Count (p.window.tail - p.window.low), p) refl (omega arith)
+  found (Left rx) =
+      by-receiver (place_of p.window.places rx.0) Nothing (λ i. (Count (p.window.tail - i), p)) refl (λ _. omega arith)
+  found (Readers tx) = by-sender tx None Nothing (Count (length p.window.places), p) refl (omega arith)
+
+-- what a call lets go of, by its note
+pub let-go-found : (before after : Picture ℕ) (call : BCall ℕ) (reply : BReply ℕ) (note : Note) → IsSound before
+    → note ≡ noted before call → answer before call ≡ (reply, after)
+    → gone note reply after ≡ length before.window.kept + sent_by reply - length after.window.kept
+let-go-found before after call reply note s is_note answered =
+    subst (λ (a : BReply ℕ × Picture ℕ). Finds before note a) answered
+    (subst (λ (n : Note). Finds before n (answer before call)) (sym is_note) (found before s call))
+
+-- the first of the window is kept exactly where the window is full
+pub full-if-first : (w : Window ℕ) → IsWindow w → w.capacity ≤ w.tail → (lost : ℕ) → lost ≡ gone_at w (first_of w)
+    → (lost == 0) ≡ (length w.kept == w.capacity)
+unfolding low_of
+full-if-first w s room lost is_lost =
+    let so = one-if-gone w s (first_of w) (omega (arith, s.capacity.1)) in
+    let total : w.low + length w.kept ≡ w.tail = s.kept in
+    let least : w.tail - w.capacity ≤ w.low = omega (arith, s.low) in
+    elim (nat_lt (first_of w) w.low) as
+    (λ b. nat_lt (first_of w) w.low ≡ b → gone_at w (first_of w) ≡ cond b 1 0 → (lost == 0) ≡ (length w.kept == w.capacity)) [
+      | true ↦ λ e k. (let above : w.tail - w.capacity < w.low = ltb-true (first_of w) w.low e in
+          let one : lost ≡ 1 = is_lost ∙ k in
+          let l : (lost == 0) ≡ false = grind (arith, nat_tests) in
+          let few : length w.kept < w.capacity = omega (arith, above, total, room) in
+          let r : (length w.kept == w.capacity) ≡ false = grind (arith, nat_tests) in l ∙ sym r)
+      | false ↦ λ e k. (let below : w.low ≤ w.tail - w.capacity = ltb-false (first_of w) w.low e in
+          let none : lost ≡ 0 = is_lost ∙ k in
+          let l : (lost == 0) ≡ true = grind (arith, nat_tests) in
+          let all : length w.kept ≡ w.capacity = omega (arith, below, least, total, room) in
+          let r : (length w.kept == w.capacity) ≡ true = grind (arith, nat_tests) in l ∙ sym r)
+    ] refl so

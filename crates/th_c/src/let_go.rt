@@ -1,0 +1,85 @@
+//! How many values a broadcast channel lets go of by a call: found in constant time for a send and a
+//! receive, by one position that is looked at.
+ghost use Rattle.std.specs.Prelude.{◌≡◌, ◌==◌, ◌≤◌, length};
+ghost use Rattle.th_c.specs.LetGo.{gone, gone_at, noted};
+
+use crate::content::NumberBroadcast;
+use th_model::{BCall, BReply};
+
+/// What has to be known of a broadcast channel before a call, to say afterwards how many values it let
+/// go of.
+#[derive(Clone, Copy, Drop)]
+pub enum Note {
+    /// Nothing: the call lets go of none.
+    Nothing,
+    /// Whether the window is full, so that a value that is sent takes the place of the oldest one.
+    Full(bool),
+    /// The receiver's place, whose value it may be the last to read.
+    Place(Option<u64>),
+    /// How many values are kept.
+    Kept(u32),
+}
+
+// How many values the channel keeps.
+fn kept(channel: &NumberBroadcast) -> u32
+    ensures { result ≡ length channel.now.window.kept }
+{
+    let _sound = channel.next_number();
+    (channel.tail() - channel.low()) as u32
+}
+
+// One where no value is kept at a position.
+#[inline(always)]
+fn gone_at(channel: &NumberBroadcast, position: u64) -> u32
+    ensures { result ≡ gone_at channel.now.window position }
+{
+    match channel.value(position) {
+        Some(_) => 0,
+        None => 1,
+    }
+}
+
+// Whether as many values are kept as can be. Then the first of the window is.
+#[inline(always)]
+fn is_full(channel: &NumberBroadcast) -> bool
+    ensures { result ≡ (length channel.now.window.kept == channel.now.window.capacity) }
+{
+    let _sound = channel.next_number();
+    let capacity = channel.capacity();
+    let tail = channel.tail();
+    if tail < capacity {
+        return false;
+    }
+    gone_at(channel, tail - capacity) == 0
+}
+
+/// What has to be known before a call.
+#[inline(always)]
+pub(crate) fn noted(channel: &NumberBroadcast, call: &BCall<u64>) -> Note
+    ensures { result ≡ noted channel.now call.now }
+{
+    match call {
+        BCall::Send(_, _) => Note::Full(is_full(channel)),
+        BCall::TryRecv(rx) => Note::Place(channel.place(*rx)),
+        BCall::Recv(rx) => Note::Place(channel.place(*rx)),
+        BCall::Subscribe(_) => Note::Kept(kept(channel)),
+        BCall::SubscribeOldest(_) => Note::Kept(kept(channel)),
+        BCall::Resubscribe(_) => Note::Kept(kept(channel)),
+        BCall::DropRx(_) => Note::Kept(kept(channel)),
+        _ => Note::Nothing,
+    }
+}
+
+/// How many values were let go of by a call with this note, which was answered so, in a channel as it
+/// is after it.
+#[inline(always)]
+pub(crate) fn let_go(channel: &NumberBroadcast, note: Note, reply: &BReply<u64>) -> u32
+    ensures { result ≡ gone note reply.now channel.now }
+{
+    match (note, reply) {
+        (Note::Full(full), BReply::Sent(_)) => { if full { 1 } else { 0 } }
+        (Note::Place(Some(place)), BReply::Value(_)) => gone_at(channel, place),
+        (Note::Kept(count), _) => count.saturating_sub(kept(channel)),
+        _ => 0,
+    }
+}
