@@ -1,27 +1,25 @@
 -- What a call lets go of is found by what was noted before it.
-use Rattle.std.proofs.Common.{◌≡◌, ℕ, ◌+◌, ◌-◌, ◌<◌, ◌≤◌, ◌^◌, Bool, true, false, cond, eqb, ltb, List, [], ◌∷◌, ◌++◌, length, drop, max, min, Option, Some, None, IsSome, refl, sym, ap, subst, ◌∙◌, arith}
+use Rattle.std.proofs.Common.{◌≡◌, ℕ, ◌+◌, ◌-◌, ◌<◌, ◌≤◌, ◌^◌, Bool, true, false, cond, [], ◌∷◌, length, max, min, Option, Some, None, IsSome, refl, sym, subst, ◌∙◌, arith}
 use Rattle.std.specs.Prelude.{◌==◌, slice_get, nat_lt}
 use Rattle.std.specs.Ordering.{nat_cmp, match_ordering}
 use Rattle.std.specs.declared.cmp.Ordering.TheVariants.{Less, Equal, Greater}
-use Rattle.std.specs.BTreeMap.{is_at}
 use Rattle.std.proofs.lemmas.Bool.{ltb-true, ltb-false}
-use Rattle.std.proofs.lemmas.Bool.Decides.{nat_tests, eqb_tells}
-use Rattle.std.proofs.lemmas.List.{length-drop, length-append}
+use Rattle.std.proofs.lemmas.Bool.Decides.{nat_tests}
 use Rattle.std.proofs.lemmas.Option.{same_Some, none-some}
 use Rattle.th_model.specs.declared.broadcast.BCall.{BCall}
 use Rattle.th_model.specs.declared.broadcast.BCall.TheVariants.{Send, TryRecv, Recv, Subscribe, SubscribeOldest, Resubscribe, CloneTx, DropTx, DropRx, Queued, Left, Readers}
 use Rattle.th_model.specs.declared.broadcast.BReply.{BReply}
-use Rattle.th_model.specs.declared.broadcast.BReply.TheVariants.{Sent, NoReceivers, Exhausted, Value, Empty, Closed, Lagged, NewRx, NewTx, Count, Done, TooMany, NoHandle}
-use Rattle.th_model.specs.declared.handles.RxId.{RxId}
+use Rattle.th_model.specs.declared.broadcast.BReply.TheVariants.{Sent, NoReceivers, Exhausted, Empty, Closed, Lagged, NewRx, NewTx, Count, Done, TooMany, NoHandle}
 use Rattle.th_model.specs.declared.handles.TxId.{TxId}
 use Rattle.th_model.specs.BroadcastMachine.{value_reply, end_reply}
 use Rattle.th_model.specs.BroadcastPicture.{Picture, IsSound, answer, at_place, as_sender, send, receive, subscribe_at, clone_sender, with_window, with_senders, numbered}
 use Rattle.th_model.specs.Handles.{is_sender, is_full, with_sender, without_sender}
 use Rattle.th_model.specs.Places.{Places, place_of, with_place, ArePlaces, least_place, low_of}
-use Rattle.th_model.specs.Window.{Window, IsWindow, first_of, pushed, placed, left, value_at, trimmed}
-use Rattle.th_model.proofs.PlaceLemmas.{all-at, least_at, least_le, low_of-at, least_with, place-with_same}
+use Rattle.th_model.specs.Window.{Window, IsWindow, first_of, pushed, placed, left, trimmed}
+use Rattle.th_model.proofs.PlaceLemmas.{all-at, least_at, low_of-at, least_with, place-with_same}
 use Rattle.th_model.proofs.WindowLemmas.{slice_get-some}
-use Rattle.th_model.proofs.BroadcastSoundness.{sound-placed, sound-pushed}
+use Rattle.th_model.proofs.BroadcastSoundness.{low-le, sound-joined, sound-placed, sound-pushed}
+use Rattle.th_model.proofs.HandleLemmas.{few_of_room, more_of_room, next_is_free}
 use Rattle.th_c.specs.Broadcast.{sent_by}
 use Rattle.th_c.specs.LetGo.{gone, gone_at, noted, one_if_none}
 use Rattle.th_c.specs.declared.let_go.Note.{Note}
@@ -46,6 +44,17 @@ least_moved n (p ∷ ps) rx i j h = elim (nat_cmp rx p.0) as
       | Less ↦ λ e. omega arith
       | Equal ↦ λ e. (let here : p.1 ≡ i = same_Some p.1 i (rw (sym e) at h) in omega arith)
       | Greater ↦ λ e. (let there : place_of ps rx ≡ Some i = rw (sym e) at h in omega (arith, least_moved n ps rx i j there))
+    ] refl
+
+-- a receiver that joins raises it for nobody
+least_joined : (n : ℕ) (ps : Places) (rx j : ℕ) → place_of ps rx ≡ None → least_place n (with_place ps rx j) ≤ least_place n ps
+least_joined n [] rx j h = omega arith
+least_joined n (p ∷ ps) rx j h = elim (nat_cmp rx p.0) as
+    (λ r. r ≡ nat_cmp rx p.0 → least_place n (match_ordering r ((rx, j) ∷ p ∷ ps) ((p.0, j) ∷ ps) (p ∷ with_place ps rx j))
+    ≤ min p.1 (least_place n ps)) [
+      | Less ↦ λ e. omega arith
+      | Equal ↦ λ e. absurd (none-some p.1 (sym (rw (sym e) at h)))
+      | Greater ↦ λ e. (let there : place_of ps rx ≡ None = rw (sym e) at h in omega (arith, least_joined n ps rx j there))
     ] refl
 
 -- ---- the least kept position
@@ -82,6 +91,14 @@ unfolding low_of
 low-skipped n c i ps rx here behind =
     let at = least_at n (with_place ps rx (n - c)) rx (n - c) (place-with_same ps rx (n - c)) in
     let was = least_at n ps rx i here in
+    omega arith
+
+-- a receiver joins, at the least kept position or behind it
+low-joined : (n c i : ℕ) (ps : Places) (rx : ℕ) → place_of ps rx ≡ None → low_of n c ps ≤ i → low_of n c (with_place ps rx i) ≡ low_of n c ps
+unfolding low_of
+low-joined n c i ps rx free above =
+    let low = least_with n ps rx i in
+    let most = least_joined n ps rx i free in
     omega arith
 
 -- ---- the window
@@ -209,13 +226,22 @@ module _ (p : Picture ℕ) (s : IsSound p) where
   by-receiver None note given none found = omega (arith, none)
   by-receiver (Some i) note given none found = found i
 
-  subscribing : (i : ℕ) → Finds p (Kept count) (subscribe_at p i)
-  subscribing i = elim (is_full (length p.window.places) p.next) as
-      (λ b. Finds p (Kept count)
+  joining : (i : ℕ) → p.window.low ≤ i → i ≤ p.window.tail → length p.window.places < 65535 → p.next < 2 ^ 64 - 1
+      → Finds p Nothing (NewRx (record { 0 = p.next }), numbered (with_window p (placed p.window p.next i)))
+  unfolding placed trimmed
+  joining i above below few more =
+      let q = sound-joined p s i above below few more in
+      let free = next_is_free p.next p.senders p.window.places s.handles in
+      let stays = low-joined p.window.tail p.window.capacity i p.window.places p.next free (omega (arith, s.window.low)) in
+      omega (arith, q.window.kept, stays, s.window.low, s.window.kept)
+
+  subscribing : (i : ℕ) → p.window.low ≤ i → i ≤ p.window.tail → Finds p Nothing (subscribe_at p i)
+  subscribing i above below =
+      elim (is_full (length p.window.places) p.next) as (λ b. is_full (length p.window.places) p.next ≡ b → Finds p Nothing
       (cond b (TooMany, p) (NewRx (record { 0 = p.next }), numbered (with_window p (placed p.window p.next i))))) [
-        | true ↦ omega arith
-        | false ↦ omega arith
-      ]
+        | true ↦ λ e. omega arith
+        | false ↦ λ e. joining i above below (few_of_room (length p.window.places) p.next e) (more_of_room (length p.window.places) p.next e)
+      ] refl
 
   cloning : Finds p Nothing (clone_sender p)
   cloning = elim (is_full (length p.senders) p.next) as
@@ -229,11 +255,13 @@ module _ (p : Picture ℕ) (s : IsSound p) where
   found (Send tx v) = by-sender tx (Some v) (Full full) (send p v) refl (sending v)
   found (TryRecv rx) = receiving-at rx.0 (place_of p.window.places rx.0) refl
   found (Recv rx) = receiving-at rx.0 (place_of p.window.places rx.0) refl
-  found (Subscribe tx) = by-sender tx None (Kept count) (subscribe_at p p.window.tail) (omega arith) (subscribing p.window.tail)
-  found (SubscribeOldest tx) = by-sender tx None (Kept count) (subscribe_at p p.window.low) (omega arith) (subscribing p.window.low)
+  found (Subscribe tx) =
+      by-sender tx None Nothing (subscribe_at p p.window.tail) refl (subscribing p.window.tail (low-le p s) (omega arith))
+  found (SubscribeOldest tx) =
+      by-sender tx None Nothing (subscribe_at p p.window.low) refl (subscribing p.window.low (omega arith) (low-le p s))
   found (Resubscribe rx) =
-      by-receiver (place_of p.window.places rx.0) (Kept count) (λ _. subscribe_at p p.window.tail) (omega arith)
-      (λ _. subscribing p.window.tail)
+      by-receiver (place_of p.window.places rx.0) Nothing (λ _. subscribe_at p p.window.tail) refl
+      (λ _. subscribing p.window.tail (low-le p s) (omega arith))
   found (CloneTx tx) = by-sender tx None Nothing (clone_sender p) refl cloning
   found (DropTx tx) = by-sender tx None Nothing (Done, with_senders p (without_sender p.senders tx.0)) refl (omega arith)
   found (DropRx rx) =

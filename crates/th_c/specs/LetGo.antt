@@ -2,7 +2,7 @@
 -- after it.
 use Rattle.std.specs.Prelude.{ℕ, ◌-◌, ◌==◌, if◌then◌else◌, length, Option, Some, None}
 use Rattle.th_model.specs.declared.broadcast.BCall.{BCall}
-use Rattle.th_model.specs.declared.broadcast.BCall.TheVariants.{Send, TryRecv, Recv, Subscribe, SubscribeOldest, Resubscribe, DropRx}
+use Rattle.th_model.specs.declared.broadcast.BCall.TheVariants.{Send, TryRecv, Recv, DropRx}
 use Rattle.th_model.specs.declared.broadcast.BReply.{BReply}
 use Rattle.th_model.specs.declared.broadcast.BReply.TheVariants.{Sent, Value}
 use Rattle.th_model.specs.BroadcastPicture.{Picture}
@@ -12,14 +12,11 @@ use Rattle.th_c.specs.declared.let_go.Note.{Note}
 use Rattle.th_c.specs.declared.let_go.Note.TheVariants.{Nothing, Full, Place, Kept}
 
 -- the note of a call: of a send whether the window is full, of a receive the receiver's place, and
--- of what changes the receivers how many values are kept
+-- of a receiver's last call how many values are kept
 abbrev pub noted : Picture ℕ → BCall ℕ → Note
 noted before (Send tx value) = Full (length before.window.kept == before.window.capacity)
 noted before (TryRecv rx) = Place (place_of before.window.places rx.0)
 noted before (Recv rx) = Place (place_of before.window.places rx.0)
-noted before (Subscribe tx) = Kept (length before.window.kept)
-noted before (SubscribeOldest tx) = Kept (length before.window.kept)
-noted before (Resubscribe rx) = Kept (length before.window.kept)
 noted before (DropRx rx) = Kept (length before.window.kept)
 noted before call = Nothing
 

@@ -1,5 +1,5 @@
-//! How many values a broadcast channel lets go of by a call: found in constant time for a send and a
-//! receive, by one position that is looked at.
+//! How many values a broadcast channel lets go of by a call. For a send and a receive one position is
+//! looked at; only where a receiver leaves is the least kept position found, before and after.
 ghost use Rattle.std.specs.Prelude.{◌≡◌, ◌==◌, ◌≤◌, length};
 ghost use Rattle.th_c.specs.LetGo.{gone, gone_at, noted};
 
@@ -62,9 +62,6 @@ pub(crate) fn noted(channel: &NumberBroadcast, call: &BCall<u64>) -> Note
         BCall::Send(_, _) => Note::Full(is_full(channel)),
         BCall::TryRecv(rx) => Note::Place(channel.place(*rx)),
         BCall::Recv(rx) => Note::Place(channel.place(*rx)),
-        BCall::Subscribe(_) => Note::Kept(kept(channel)),
-        BCall::SubscribeOldest(_) => Note::Kept(kept(channel)),
-        BCall::Resubscribe(_) => Note::Kept(kept(channel)),
         BCall::DropRx(_) => Note::Kept(kept(channel)),
         _ => Note::Nothing,
     }
