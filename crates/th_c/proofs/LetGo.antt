@@ -26,7 +26,7 @@ use Rattle.th_c.specs.declared.let_go.Note.{Note}
 use Rattle.th_c.specs.declared.let_go.Note.TheVariants.{Nothing, Full, Place, Kept}
 
 -- ---- the least place
--- with a receiver, the least place is the same where the tail moves on
+-- with a receiver, it is the same where the tail moves on
 least_more : (n : ℕ) (ps : Places) → min n (least_place (n + 1) ps) ≡ least_place n ps
 least_more n [] = omega arith
 least_more n (p ∷ ps) = omega (arith, least_more n ps)
@@ -79,9 +79,10 @@ low-read n c i ps rx here inside before =
     let was = least_at n ps rx i here in
     let low = least_with n ps rx (i + 1) in
     let back = least_moved n ps rx i (i + 1) here in
-    elim (nat_lt i (max (n - c) now)) as (λ b. nat_lt i (max (n - c) now) ≡ b → max (n - c) now ≡ max (n - c) (least_place n ps) + cond b 1 0) [
-      | true ↦ λ e. (let f : i < max (n - c) now = ltb-true i (max (n - c) now) e in omega arith)
-      | false ↦ λ e. (let f = ltb-false i (max (n - c) now) e in omega arith)
+    let after : ℕ = max (n - c) now in
+    elim (nat_lt i after) as (λ b. nat_lt i after ≡ b → after ≡ max (n - c) (least_place n ps) + cond b 1 0) [
+      | true ↦ λ e. (let f : i < after = ltb-true i after e in omega arith)
+      | false ↦ λ e. (let f = ltb-false i after e in omega arith)
     ] refl
 
 -- a receiver goes on at the beginning of the window
@@ -94,7 +95,8 @@ low-skipped n c i ps rx here behind =
     omega arith
 
 -- a receiver joins, at the least kept position or behind it
-low-joined : (n c i : ℕ) (ps : Places) (rx : ℕ) → place_of ps rx ≡ None → low_of n c ps ≤ i → low_of n c (with_place ps rx i) ≡ low_of n c ps
+low-joined : (n c i : ℕ) (ps : Places) (rx : ℕ) → place_of ps rx ≡ None → low_of n c ps ≤ i
+    → low_of n c (with_place ps rx i) ≡ low_of n c ps
 unfolding low_of
 low-joined n c i ps rx free above =
     let low = least_with n ps rx i in
@@ -149,7 +151,7 @@ module _ (p : Picture ℕ) (s : IsSound p) where
       → Finds p (Full full) (cond b (NoReceivers v, p) (cond last (Exhausted v, p) go))) [
         | true ↦ λ e. omega arith
         | false ↦ λ e. (let some : length p.window.places ≡ 0 → ⊥ = grind (arith, nat_tests) in
-            elim (p.window.tail == 2 ^ 64 - 1) as (λ b. (p.window.tail == 2 ^ 64 - 1) ≡ b → Finds p (Full full) (cond b (Exhausted v, p) go)) [
+            elim last as (λ b. last ≡ b → Finds p (Full full) (cond b (Exhausted v, p) go)) [
               | true ↦ λ h. omega arith
               | false ↦ λ h. (let apart : p.window.tail ≡ 2 ^ 64 - 1 → ⊥ = grind (arith, nat_tests) in
                   sent v (length p.window.places) some (omega (arith, apart, s.tail)) full refl)
@@ -194,16 +196,17 @@ module _ (p : Picture ℕ) (s : IsSound p) where
 
     receiving : Finds p (Place (Some i)) (receive p rx i)
     receiving =
+        let behind : Bool = nat_lt i (first_of p.window) in
         let le : i ≤ p.window.tail = all-at (λ q. q ≤ p.window.tail) p.window.places rx i s.window.places here in
         let lag : BReply ℕ × Picture ℕ =
         (Lagged (first_of p.window - i), with_window p (placed p.window rx (first_of p.window))) in
         let get : BReply ℕ × Picture ℕ =
         (value_reply (slice_get p.window.kept (i - p.window.low)), with_window p (placed p.window rx (i + 1))) in
         elim (i == p.window.tail) as (λ b. (i == p.window.tail) ≡ b
-        → Finds p (Place (Some i)) (cond b (end_reply p.senders, p) (cond (nat_lt i (first_of p.window)) lag get))) [
+        → Finds p (Place (Some i)) (cond b (end_reply p.senders, p) (cond behind lag get))) [
           | true ↦ λ e. ending
           | false ↦ λ e. (let apart : i ≡ p.window.tail → ⊥ = grind (arith, nat_tests) in
-              elim (nat_lt i (first_of p.window)) as (λ b. nat_lt i (first_of p.window) ≡ b → Finds p (Place (Some i)) (cond b lag get)) [
+              elim behind as (λ b. behind ≡ b → Finds p (Place (Some i)) (cond b lag get)) [
                 | true ↦ λ h. skipping (ltb-true i (first_of p.window) h)
                 | false ↦ λ h. reading (ltb-false i (first_of p.window) h) (omega (arith, apart, le))
               ] refl)
@@ -237,10 +240,11 @@ module _ (p : Picture ℕ) (s : IsSound p) where
 
   subscribing : (i : ℕ) → p.window.low ≤ i → i ≤ p.window.tail → Finds p Nothing (subscribe_at p i)
   subscribing i above below =
-      elim (is_full (length p.window.places) p.next) as (λ b. is_full (length p.window.places) p.next ≡ b → Finds p Nothing
+      let live : ℕ = length p.window.places in
+      elim (is_full live p.next) as (λ b. is_full live p.next ≡ b → Finds p Nothing
       (cond b (TooMany, p) (NewRx (record { 0 = p.next }), numbered (with_window p (placed p.window p.next i))))) [
         | true ↦ λ e. omega arith
-        | false ↦ λ e. joining i above below (few_of_room (length p.window.places) p.next e) (more_of_room (length p.window.places) p.next e)
+        | false ↦ λ e. joining i above below (few_of_room live p.next e) (more_of_room live p.next e)
       ] refl
 
   cloning : Finds p Nothing (clone_sender p)

@@ -1,13 +1,15 @@
-//! How many values a broadcast channel lets go of by a call. For a send and a receive one position is
-//! looked at; only where a receiver leaves is the least kept position found, before and after.
-ghost use Rattle.std.specs.Prelude.{◌≡◌, ◌==◌, ◌≤◌, length};
+//! How many values a broadcast channel lets go of by a call.
+//!
+//! For a send and a receive one position is looked at. Only where a receiver leaves is the least
+//! kept position found, before the call and after it.
+ghost use Rattle.std.specs.Prelude.{◌≡◌, ◌==◌, length};
 ghost use Rattle.th_c.specs.LetGo.{gone, gone_at, noted};
 
 use crate::content::NumberBroadcast;
 use th_model::{BCall, BReply};
 
-/// What has to be known of a broadcast channel before a call, to say afterwards how many values it let
-/// go of.
+/// What has to be known of a broadcast channel before a call, to say afterwards how many values it
+/// let go of.
 #[derive(Clone, Copy, Drop)]
 pub enum Note {
     /// Nothing: the call lets go of none.
@@ -67,8 +69,8 @@ pub(crate) fn noted(channel: &NumberBroadcast, call: &BCall<u64>) -> Note
     }
 }
 
-/// How many values were let go of by a call with this note, which was answered so, in a channel as it
-/// is after it.
+/// How many values were let go of by a call with this note, which was answered so, in a channel as
+/// it is after it.
 #[inline(always)]
 pub(crate) fn let_go(channel: &NumberBroadcast, note: Note, reply: &BReply<u64>) -> u32
     ensures { result ≡ gone note reply.now channel.now }
