@@ -170,7 +170,9 @@ typedef struct topichub_trace {
  *
  * Every call below may also come to TOPICHUB_NOT_OPEN, and in a recorded channel to TOPICHUB_LOG_FULL. A drop of a
  * live sender or receiver never comes to TOPICHUB_LOG_FULL or TOPICHUB_NO_MEMORY. A call takes time at most
- * logarithmic in the number of senders and receivers, and now and then the growth of the history.
+ * logarithmic in the number of senders and receivers, and now and then the growth of the history. Only
+ * topichub_broadcast_subscribe_oldest and topichub_broadcast_drop_rx also go through the kept values that the
+ * receiver has still to read.
  */
 
 /*
