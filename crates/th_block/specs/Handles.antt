@@ -1,5 +1,5 @@
 -- What contracts see of a handle, and what its calls do (docs/HISTORIES.md, "In threads").
-use Rattle.std.specs.Prelude.{◌≡◌, ℕ, ◌≤◌, ◌<◌, Bool, true, false, Option, None, Some, Result, [], ◌∷◌, IfOk, MatchOption, MatchResult}
+use Rattle.std.specs.Prelude.{◌≡◌, ℕ, ◌≤◌, ◌<◌, Bool, true, false, Option, None, Some, Result, Ok, Err, [], ◌∷◌, IfOk, MatchOption, MatchResult}
 use mathlib.Core.List.{IsPrefix}
 use Rattle.th_seats.specs.Tally.{Part}
 use Rattle.th_glance.specs.Lists.{glance_of, last_count, IsCounted}
@@ -99,6 +99,14 @@ module _ {C R : Type 0} where
   IsNext ends old new call None = Ended ends old new call
   IsNext ends old new call (Some told) =
       Calls old new call told × IfOk told (λ r. ends r.reply ≡ false)
+
+  -- one call of a loop that is told each receipt, and beside it whether that ends the loop
+  -- (docs/HISTORIES.md, "The whole account")
+  abbrev pub IsNextTold : (R → Bool) → Holder → Holder → C → Result (Told C R × Bool) (Refused C)
+      → Type 0
+  IsNextTold ends old new call (Ok r) =
+      Calls old new call (Ok r.0) × (r.1 ≡ ends r.0.reply)
+  IsNextTold ends old new call (Err e) = Calls old new call (Err e)
 
   -- a handle with the number that a reply tells of, and no event; its eye goes on from its maker's,
   -- and has seen the place of its making

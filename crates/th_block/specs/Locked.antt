@@ -1,23 +1,69 @@
 -- What a handle's event does under the lock, and why it is refused there.
-use Rattle.std.specs.Prelude.{◌≡◌, ℕ, ◌≤◌, ◌<◌, Option, None, Some, [], ◌∷◌, ◌++◌, MatchOption}
+use Rattle.std.specs.Prelude.{◌≡◌, ◌≢◌, ℕ, ◌+◌, ◌≤◌, ◌<◌, Bool, false, Option, None, Some, List, [], ◌∷◌, ◌++◌, length, take, slice_get, MatchOption}
+use Rattle.std.specs.List.{AllByRecursion}
 use Rattle.th_seats.specs.Tally.{Tally}
-use Rattle.th_glance.specs.Lists.{glance_of, last_of}
+use Rattle.th_glance.specs.declared.glance.Glance.{Glance}
+use Rattle.th_glance.specs.Lists.{glance_of, last_of, IsCounted}
 use Rattle.th_glance.specs.Seats.{Known as Sighted}
-use Rattle.th_log.specs.History.{Machine, Log, live_after}
+use Rattle.th_log.specs.CallLaws.{EndsWait}
+use Rattle.th_log.specs.History.{Machine, Log, Piece, end_of, live_after}
 use Rattle.th_log.specs.Outcome.{IsFull, IsOwn, Told, counted}
 use Rattle.th_log.specs.declared.receipt.Refused.{Refused}
 use Rattle.th_log.specs.declared.receipt.Refused.TheVariants.{Foreign, Short, LogFull}
 use Rattle.th_block.specs.Handles.{Known, Tells, seen_of, unused}
 use Rattle.th_block.specs.declared.seat.Seat.{Seat}
 
+-- what lies under a lock: the log, and how many have looked in vain since they were last woken
+pub record Guarded (S C R : Type 0) : Type 0 where
+  pub log : Log S C R
+  pub waiting : ℕ
+
+-- Somebody is to be woken after this event: some have looked in vain, and what a call of another
+-- handle waited for is there now (docs/HISTORIES.md, "Who waits").
+pub record IsDue {E S C R : Type 0} (m : Machine E S C R) (is_sound : S → Type 0)
+    (handle_of : C → ℕ) (g : Guarded S C R) (r : Told C R) : Type 0 where
+  pub someone : 0 < g.waiting
+  pub before : S
+  pub sound : is_sound before
+  pub step : m.answer before r.call ≡ (r.reply, g.log.piece.last)
+  pub waiting : C
+  pub ends : EndsWait m handle_of before r.call g.log.piece.last waiting
+
+-- after this call, a call of another handle that would have waited would wait still
+-- (docs/HISTORIES.md, "Who waits")
+abbrev pub KeepsWaiting : {E S C R : Type 0} → Machine E S C R → (handle_of : C → ℕ) → C
+    → (old new : S) → Type 0
+KeepsWaiting {C = C} m handle_of call old new = (waiting : C) → handle_of call ≢ handle_of waiting
+    → m.ready old waiting ≡ false → m.ready new waiting ≡ false
+
+-- and after calls of what stood in a queue
+abbrev pub KeepsAllWaiting : {E S V C R : Type 0} → Machine E S C R → (handle_of : C → ℕ)
+    → (V → C) → List V → (old new : S) → Type 0
+KeepsAllWaiting {C = C} m handle_of call queue old new = (waiting : C)
+    → AllByRecursion (λ v. handle_of (call v) ≢ handle_of waiting) queue
+    → m.ready old waiting ≡ false → m.ready new waiting ≡ false
+
 -- a log with the pen of its channel's word
 pub record Post (S C R : Type 0) : Type 0 where
   pub log : Log S C R
   pub pen : Sighted
 
--- the word says how many events the channel has, and whether no sender is left
-abbrev pub IsPosted : {E S C R : Type 0} → Machine E S C R → Post S C R → Type 0
-IsPosted m p = last_of p.pen.list ≡ glance_of p.log.tally.total (m.closed p.log.piece.last)
+-- whether no sender was left after so many entries of a part of the history
+abbrev pub closed_after : {E S C R : Type 0} → Machine E S C R → Piece S C R → ℕ → Bool
+closed_after m p n = m.closed (m.see (end_of m (m.whole p.start) (take n p.entries)))
+
+-- each glance at a place of a part, or at its end, tells whether no sender was left there
+abbrev pub TellsClosed : {E S C R : Type 0} → Machine E S C R → Piece S C R → List Glance → Type 0
+TellsClosed m p glances = (n : ℕ) (g : Glance) → n ≤ length p.entries
+    → slice_get glances (p.first + n) ≡ Some g → g.closed ≡ closed_after m p n
+
+-- The word has said each count of events once. It says how many there are now, and whether no
+-- sender is left; and so it said at each place of the present part (docs/GLANCES.md, "On a
+-- channel's handles").
+pub record IsPosted {E S C R : Type 0} (m : Machine E S C R) (p : Post S C R) : Type 0 where
+  pub counted : IsCounted p.pen.list
+  pub last : last_of p.pen.list ≡ glance_of p.log.tally.total (m.closed p.log.piece.last)
+  pub each : TellsClosed m p.log.piece p.pen.list
 
 -- one glance more was stored, which says how the log stands now
 abbrev pub Stores : {E S C R : Type 0} → Machine E S C R → (old new : Post S C R) → Type 0

@@ -1,7 +1,9 @@
 -- Calls of a handle that are made together, with nothing between them.
 use Rattle.std.specs.Prelude.{◌≡◌, ℕ, ◌+◌, ◌≤◌, Bool, true, false, List, [], ◌∷◌, ◌++◌, length}
+use Rattle.std.specs.List.{AllByRecursion}
 use Rattle.th_seats.specs.Tally.{Part, Tally}
-use Rattle.th_log.specs.Outcome.{Told, ticked}
+use Rattle.th_log.specs.History.{Machine}
+use Rattle.th_log.specs.Outcome.{IsAnswered, Told, ticked}
 use Rattle.th_block.specs.Handles.{Holder, Known, Looked, Tells, seen_of}
 use Rattle.th_block.specs.Locked.{Entered}
 
@@ -43,6 +45,15 @@ module _ {C R : Type 0} where
       AddsOne old new call book book' receipts receipts'
   AddsReady false old new call book book' receipts receipts' =
       (new ≡ old) × (book' ≡ book) × (receipts' ≡ receipts)
+
+  -- a receipt of this call that is right (docs/HISTORIES.md, "Receipts")
+  abbrev pub IsAnswerTo : {E S : Type 0} → Machine E S C R → (S → Type 0) → C → Told C R → Type 0
+  IsAnswerTo m is_sound call r = (r.call ≡ call) × IsAnswered m is_sound r
+
+  -- receipts were put behind the others, each of which is so
+  abbrev pub EachBehind : (Told C R → Type 0) → (receipts receipts' : List (Told C R)) → Type 0
+  EachBehind P receipts receipts' =
+      (added : List (Told C R)) × (receipts' ≡ receipts ++ added) × AllByRecursion P added
 
   -- the events of these receipts were made, from a place on where the book was, up to where it is
   -- now; and the handle's eye has not looked since

@@ -1,10 +1,11 @@
 //! Senders and receivers of a broadcast channel.
-ghost use Rattle.std.specs.Prelude.{◌≡◌, ◌<◌, ◌↔◌, [], IfErr, IfOk, Ok, OnOk};
+ghost use Rattle.std.specs.Prelude.{◌≡◌, ◌<◌, ◌↔◌, [], IfErr, IfOk, IfSome, Ok, OnOk};
 ghost use Rattle.th_log.specs.History.{IsLimit};
 ghost use Rattle.th_model.specs.Limits.{ClonesAreEqual};
-ghost use Rattle.th_log.specs.Replies.{broadcast_ends, broadcast_made_rx, broadcast_made_tx, made_by};
-ghost use Rattle.th_block.specs.Handles.{Calls, CallsFor, IsFirst, IsNext, Tells, call_of, rx, tx};
+ghost use Rattle.th_log.specs.Replies.{IsReceived, IsTried, broadcast_ends, broadcast_made_rx, broadcast_made_tx, made_by};
+ghost use Rattle.th_block.specs.Handles.{Calls, CallsFor, IsFirst, IsNext, IsNextTold, Tells, call_of, rx, tx};
 ghost use Rattle.th_block.specs.Pairs.{IsReplaced};
+ghost use Rattle.th_block.specs.Rows.{EachBehind};
 ghost use Rattle.th_block.specs.Together.{MakesEach, TakesMany};
 
 use crate::handle::{Handle, is_limit, open};
@@ -171,7 +172,8 @@ impl<T: Clone + Drop> Handle<Broadcast<T, RingShelf<T>>, Receives> {
         rt: &R,
     ) -> Result<Receipt<RingBroadcast<T>>, Refused<BCall<T>>>
         requires { ClonesAreEqual T.is_clone }
-        ensures { Calls self.old self.new (BCall.TryRecv (rx self.old)) result }
+        ensures calls { Calls self.old self.new (BCall.TryRecv (rx self.old)) result }
+        ensures told { IfOk result (λ r. IsTried r.reply) }
     {
         let number = self.number;
         self.call(rt, BCall::TryRecv(RxId(number)))
@@ -180,7 +182,8 @@ impl<T: Clone + Drop> Handle<Broadcast<T, RingShelf<T>>, Receives> {
     /// As `try_recv`, but it waits while there is no value and a sender is left.
     pub fn recv<R: Wait>(&mut self, rt: &R) -> Result<Receipt<RingBroadcast<T>>, Refused<BCall<T>>>
         requires { ClonesAreEqual T.is_clone }
-        ensures { Calls self.old self.new (BCall.Recv (rx self.old)) result }
+        ensures calls { Calls self.old self.new (BCall.Recv (rx self.old)) result }
+        ensures told { IfOk result (λ r. IsReceived r.reply) }
     {
         let number = self.number;
         self.call(rt, BCall::Recv(RxId(number)))
@@ -207,6 +210,8 @@ impl<T: Clone + Drop> Handle<Broadcast<T, RingShelf<T>>, Receives> {
         requires { ClonesAreEqual T.is_clone }
         ensures taken { 0 < limit → TakesMany broadcast_ends self.old self.new
             (BCall.Recv (rx self.old)) limit receipts.old.items receipts.new.items result }
+        ensures told { EachBehind (λ r. IsReceived r.reply)
+            receipts.old.items receipts.new.items }
         ensures none { limit ≡ 0 → (result ≡ Ok 0) × (self.new ≡ self.old)
             × (receipts.new.items ≡ receipts.old.items) }
     {
@@ -225,10 +230,26 @@ impl<T: Clone + Drop> Handle<Broadcast<T, RingShelf<T>>, Receives> {
         rt: &R,
     ) -> Option<Result<Receipt<RingBroadcast<T>>, Refused<BCall<T>>>>
         requires { ClonesAreEqual T.is_clone }
-        ensures { IsNext broadcast_ends self.old self.new (BCall.Recv (rx self.old)) result }
+        ensures next { IsNext broadcast_ends self.old self.new (BCall.Recv (rx self.old)) result }
+        ensures told { IfSome result (λ told. IfOk told (λ r. IsReceived r.reply)) }
     {
         let number = self.number;
         self.next_call(rt, BCall::Recv(RxId(number)))
+    }
+
+    /// As `next`, for a loop whose diary is to be whole: it gives up no receipt, and says of each whether it is the last
+    /// one, after which nothing will come any more.
+    pub fn next_told<R: Wait>(
+        &mut self,
+        rt: &R,
+    ) -> Result<(Receipt<RingBroadcast<T>>, bool), Refused<BCall<T>>>
+        requires { ClonesAreEqual T.is_clone }
+        ensures next { IsNextTold broadcast_ends self.old self.new
+            (BCall.Recv (rx self.old)) result }
+        ensures told { IfOk result (λ r. IsReceived r.0.reply) }
+    {
+        let number = self.number;
+        self.next_call_told(rt, BCall::Recv(RxId(number)))
     }
 
     /// A new receiver, of what is sent from now on. This one stays as it is.

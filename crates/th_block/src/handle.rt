@@ -1,10 +1,10 @@
 //! A caller's handle at a shared channel. One body serves senders and receivers of both channels.
-ghost use Rattle.std.specs.Prelude.{◌≡◌, ◌≤◌, ◌↔◌, [], length, true, false, IfErr, IfOk, IsTrue, MatchOption, MatchResult, OnOk, None, Some};
+ghost use Rattle.std.specs.Prelude.{◌≡◌, ◌≤◌, ◌↔◌, [], length, true, false, IfErr, IfOk, IfSome, IsTrue, MatchOption, MatchResult, OnOk, None, Some};
 ghost use Rattle.th_glance.specs.Lists.{last_of};
 ghost use Rattle.th_log.specs.History.{IsLimit};
-ghost use Rattle.th_log.specs.Outcome.{counted};
+ghost use Rattle.th_log.specs.Outcome.{IsAnswered, counted};
 ghost use Rattle.th_log.specs.Replies.{made_by};
-ghost use Rattle.th_block.specs.Handles.{Calls, CallsFor, Glances, IsBack, IsFirst, IsMade, IsNext, Tells, seen_of, tx, unused};
+ghost use Rattle.th_block.specs.Handles.{Calls, CallsFor, Glances, IsBack, IsFirst, IsMade, IsNext, IsNextTold, Tells, seen_of, tx, unused};
 ghost use Rattle.th_block.specs.Locked.{Entered, Fits, IsSeated, Spends};
 ghost use Rattle.th_block.specs.Rows.{CallsInRow};
 
@@ -18,6 +18,7 @@ use crate::side::{Receives, Sends, Side};
 use std::alloc::Global;
 use std::marker::{Model, PhantomData};
 use std::sync::Wait;
+use std::time::{Clock, Duration};
 use th_glance::{Eye, Glance};
 use th_log::{Kind, Logged, MOST_ENTRIES, MakeFault, Object, Receipt, Refused, made};
 use th_model::{Short, Start, TxId};
@@ -102,11 +103,11 @@ pub(crate) fn open<O: Kind, S>(
 
 // The seat of the handle that a reply tells of, with a share of its own, on the locked log.
 fn seated<O: Kind>(held: &mut Held<O>, receipt: &Receipt<O>) -> Option<Seat>
-    requires { receipt.now.key ≡ held.old.tally.key }
+    requires { receipt.now.key ≡ held.old.log.tally.key }
     ensures seat { IsSeated (made_by O.made_tx O.made_rx) receipt.now result }
-    ensures piece { held.new.piece ≡ held.old.piece }
-    ensures key { held.new.tally.key ≡ held.old.tally.key }
-    ensures total { held.new.tally.total ≡ held.old.tally.total }
+    ensures piece { held.new.log.piece ≡ held.old.log.piece }
+    ensures key { held.new.log.tally.key ≡ held.old.log.tally.key }
+    ensures total { held.new.log.tally.total ≡ held.old.log.tally.total }
 {
     let number = made::<O>(receipt.reply())?;
     let share = held.split();
@@ -120,14 +121,14 @@ pub(crate) fn seated_event<O: Kind>(
     call: O::Call,
 ) -> Result<(Receipt<O>, Option<Seat>), Refused<O::Call>>
     requires lawful { O.lawful }
-    requires ready { O.machine.ready held.old.piece.last call ≡ true }
+    requires ready { O.machine.ready held.old.log.piece.last call ≡ true }
     ensures told { MatchResult result
         (λ r. Entered account.old account.new call r.0
         × IsSeated (made_by O.made_tx O.made_rx) r.0 r.1)
         (IsBack account.old account.new call) }
     ensures step { IfOk result (λ r.
-        O.machine.answer held.old.piece.last call ≡ (r.0.reply, held.new.piece.last)) }
-    ensures fits { OnOk result (Fits account.new held.new.tally) }
+        O.machine.answer held.old.log.piece.last call ≡ (r.0.reply, held.new.log.piece.last)) }
+    ensures fits { OnOk result (Fits account.new held.new.log.tally) }
 {
     match held.event(account, call) {
         Ok(receipt) => {
@@ -203,7 +204,8 @@ impl<O: Kind, S> Handle<O, S> {
         call: O::Call,
     ) -> Result<Receipt<O>, Refused<O::Call>>
         requires { O.lawful }
-        ensures { Calls self.old self.new call result }
+        ensures calls { Calls self.old self.new call result }
+        ensures answered { IfOk result (IsAnswered O.machine O.is_sound) }
     {
         let Handle {
             shared,
@@ -224,6 +226,8 @@ impl<O: Kind, S> Handle<O, S> {
         room.wake(wakes);
         match answer {
             Ok(receipt) => {
+                // What every receipt says.
+                let _reply = receipt.reply();
                 account.catch_up(rt, receipt.place());
                 Ok(receipt)
             }
@@ -238,6 +242,20 @@ impl<O: Kind, S> Handle<O, S> {
         !held.is_ready(call)
     }
 
+    /// Waits until a call would not wait, but no longer than so: whether it would not. It makes no event. What it says may be
+    /// past when it is read, but for a call that waits for what only this handle takes; so no clause says what it means.
+    pub fn wait_for<R: Wait + Clock>(&self, rt: &R, call: &O::Call, longest: Duration) -> bool {
+        let room = &*self.shared.room;
+        let locked = room.held.lock(rt);
+        if locked.is_ready(call) {
+            return true;
+        }
+        let (held, _) = room
+            .news
+            .wait_timeout_while(rt, locked, longest, |held| held.waits(call));
+        held.is_ready(call)
+    }
+
     // One event that may be the last of a loop, by a call that waits.
     pub(crate) fn next_call<R: Wait>(
         &mut self,
@@ -245,7 +263,8 @@ impl<O: Kind, S> Handle<O, S> {
         call: O::Call,
     ) -> Option<Result<Receipt<O>, Refused<O::Call>>>
         requires { O.lawful }
-        ensures { IsNext O.ends self.old self.new call result }
+        ensures next { IsNext O.ends self.old self.new call result }
+        ensures answered { IfSome result (λ told. IfOk told (IsAnswered O.machine O.is_sound)) }
     {
         match self.call(rt, call) {
             Ok(receipt) => {
@@ -255,6 +274,25 @@ impl<O: Kind, S> Handle<O, S> {
                 Some(Ok(receipt))
             }
             Err(refused) => Some(Err(refused)),
+        }
+    }
+
+    // The same, and whether it was the last one: that has its receipt too.
+    pub(crate) fn next_call_told<R: Wait>(
+        &mut self,
+        rt: &R,
+        call: O::Call,
+    ) -> Result<(Receipt<O>, bool), Refused<O::Call>>
+        requires { O.lawful }
+        ensures next { IsNextTold O.ends self.old self.new call result }
+        ensures answered { IfOk result (λ r. IsAnswered O.machine O.is_sound r.0) }
+    {
+        match self.call(rt, call) {
+            Ok(receipt) => {
+                let is_last = O::ends(receipt.reply());
+                Ok((receipt, is_last))
+            }
+            Err(refused) => Err(refused),
         }
     }
 

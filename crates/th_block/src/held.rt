@@ -1,9 +1,9 @@
 //! What a channel's lock keeps.
-ghost use Rattle.std.specs.Prelude.{◌≡◌, ◌↔◌, not, true, IfOk, IfErr, IfSome, IsNone, IsOk, IsSome, OnOk, OnErr, MatchResult};
+ghost use Rattle.std.specs.Prelude.{◌≡◌, ◌↔◌, ◌||◌, ◌+◌, ◌-◌, ◌^◌, ◌<◌, if◌then◌else◌, min, not, true, IfOk, IfErr, IfSome, IsNone, IsOk, IsSome, IsTrue, OnOk, OnErr, MatchResult};
 ghost use Rattle.th_log.specs.History.{IsLegal, live_after, next_of};
 ghost use Rattle.th_log.specs.Outcome.{IsSame, added, ticked, with_share};
 ghost use Rattle.th_block.specs.Handles.{IsBack, unused};
-ghost use Rattle.th_block.specs.Locked.{Entered, Fits, RefusesEvent, Spends};
+ghost use Rattle.th_block.specs.Locked.{Entered, Fits, IsDue, RefusesEvent, Spends};
 
 use crate::account::Account;
 use crate::posted::Posted;
@@ -12,8 +12,8 @@ use th_log::{Kind, Logged, Object, Receipt, Refused, Segment};
 use th_model::Short;
 use th_seats::Share;
 
-/// A channel with its log and its pen, and whether anyone waits for it. Contracts see it as the log: what the pen says
-/// of that is kept by `Posted`.
+/// A channel with its log and its pen, and whether anyone waits for it. Contracts see the log, and how many wait: what
+/// the pen says of the log is kept by `Posted`.
 ///
 /// Nothing else of this crate touches a log: each of its events is made by `event` or `last_event`.
 #[derive(Drop)]
@@ -27,24 +27,24 @@ pub(crate) struct Held<O: Object> {
 }
 
 impl<O: Object> Model for Held<O> {
-    ghost use Rattle.th_log.specs.History.{Log};
+    ghost use Rattle.th_block.specs.Locked.{Guarded};
 
-    ghost Value = { Log O.State O.Call O.Reply };
+    ghost Value = { Guarded O.State O.Call O.Reply };
 
-    ghost view = { λ h. h.posted.log };
+    ghost view = { λ h. record { log = h.posted.log; waiting = h.waiting } };
 }
 
 impl<O: Kind> Held<O> {
     /// A log for which nobody waits yet.
     pub(crate) fn new(posted: Posted<O>) -> Held<O>
-        ensures { result ≡ posted.log }
+        ensures { result ≡ record { log = posted.log; waiting = 0 } }
     {
         Held { posted, waiting: 0 }
     }
 
     /// The log, once nobody waits any more.
     pub(crate) fn into_log(self) -> Logged<O>
-        ensures { result ≡ self }
+        ensures { result ≡ self.log }
     {
         self.posted.into_log()
     }
@@ -52,8 +52,10 @@ impl<O: Kind> Held<O> {
     /// Whether the call has to wait. Then it is one more that does.
     #[inline(always)]
     pub(crate) fn waits(&mut self, call: &O::Call) -> bool
-        ensures waits { result ≡ not (O.machine.ready self.new.piece.last call.now) }
-        ensures same { self.new ≡ self.old }
+        ensures waits { result ≡ not (O.machine.ready self.new.log.piece.last call.now) }
+        ensures log { self.new.log ≡ self.old.log }
+        ensures waiting { self.new.waiting ≡ (if result
+            then min (self.old.waiting + 1) (2 ^ 64 - 1) else self.old.waiting) }
     {
         let waits = !self.posted.log().ready(call);
         if waits {
@@ -65,7 +67,7 @@ impl<O: Kind> Held<O> {
     /// Whether the call has its answer now. Nobody waits for it yet.
     #[inline(always)]
     pub(crate) fn is_ready(&self, call: &O::Call) -> bool
-        ensures { result ≡ O.machine.ready self.now.piece.last call.now }
+        ensures { result ≡ O.machine.ready self.now.log.piece.last call.now }
     {
         self.posted.log().ready(call)
     }
@@ -73,27 +75,37 @@ impl<O: Kind> Held<O> {
     /// Whether there is anyone to wake. They count as woken then.
     #[inline(always)]
     pub(crate) fn wakes(&mut self) -> bool
-        ensures { self.new ≡ self.old }
+        ensures wakes { IsTrue result ↔ 0 < self.old.waiting }
+        ensures log { self.new.log ≡ self.old.log }
+        ensures waiting { self.new.waiting ≡ 0 }
     {
         let wakes = self.waiting > 0;
         self.waiting = 0;
         wakes
     }
 
-    /// Whether there is anyone to wake for what this call has changed.
+    /// Whether this event, the last one, is what callers may wait for: it is news, or no sender is left.
+    #[inline(always)]
+    pub(crate) fn is_awaited(&self, receipt: &Receipt<O>) -> bool
+        ensures { result ≡ O.machine.closed self.now.log.piece.last
+            || O.is_news receipt.now.call receipt.now.reply }
+    {
+        self.posted.log().object().closed() || O::is_news(receipt.call(), receipt.reply())
+    }
+
+    /// Whether there is anyone to wake for what this call has changed: always where somebody waits, and the call made ready
+    /// what another handle waits for. They count as woken then.
     #[inline(always)]
     pub(crate) fn wakes_after(&mut self, answer: &Result<Receipt<O>, Refused<O::Call>>) -> bool
-        ensures { self.new ≡ self.old }
+        ensures due { IfOk answer.now (λ r.
+            IsDue O.machine O.is_sound O.handle_of self.old r → IsTrue result) }
+        ensures log { self.new.log ≡ self.old.log }
+        ensures waiting { self.new.waiting ≡ (if result then 0 else self.old.waiting) }
     {
         let Ok(receipt) = answer else {
             return false;
         };
-        let closed = self.posted.log().object().closed();
-        if closed || O::is_news(receipt.call(), receipt.reply()) {
-            self.wakes()
-        } else {
-            false
-        }
+        self.is_awaited(receipt) && self.wakes()
     }
 
     /// One event of a handle, and its store; the handle's eye looks later. `Foreign` where the handle is of another
@@ -105,21 +117,23 @@ impl<O: Kind> Held<O> {
         call: O::Call,
     ) -> Result<Receipt<O>, Refused<O::Call>>
         requires lawful { O.lawful }
-        requires ready { O.machine.ready self.old.piece.last call ≡ true }
+        requires ready { O.machine.ready self.old.log.piece.last call ≡ true }
         ensures told { MatchResult result (Entered account.old account.new call)
             (IsBack account.old account.new call) }
-        ensures place { IfOk result (λ r. r.place ≡ self.old.tally.total) }
+        ensures place { IfOk result (λ r. r.place ≡ self.old.log.tally.total) }
         ensures step { IfOk result (λ r.
-            O.machine.answer self.old.piece.last call ≡ (r.reply, self.new.piece.last)) }
+            O.machine.answer self.old.log.piece.last call ≡ (r.reply, self.new.log.piece.last)) }
+        ensures sound { OnOk result (O.is_sound self.old.log.piece.last) }
         ensures entry { IfOk result (λ r.
-            self.new.piece ≡ added self.old.piece call r.reply self.new.piece.last) }
-        ensures tally { OnOk result (self.new.tally ≡ ticked self.old.tally) }
-        ensures fits { OnOk result (Fits account.old self.old.tally) }
-        ensures refused { IfErr result (λ e. RefusesEvent self.old account.old call
-            (live_after O.machine self.old.piece.last call) e) }
-        ensures spends { Fits account.old self.old.tally
-            → Spends O.machine self.old.piece.last call → IsOk result }
-        ensures same { OnErr result (IsSame self.old self.new) }
+            self.new.log.piece ≡ added self.old.log.piece call r.reply self.new.log.piece.last) }
+        ensures tally { OnOk result (self.new.log.tally ≡ ticked self.old.log.tally) }
+        ensures fits { OnOk result (Fits account.old self.old.log.tally) }
+        ensures refused { IfErr result (λ e. RefusesEvent self.old.log account.old call
+            (live_after O.machine self.old.log.piece.last call) e) }
+        ensures spends { Fits account.old self.old.log.tally
+            → Spends O.machine self.old.log.piece.last call → IsOk result }
+        ensures same { OnErr result (IsSame self.old.log self.new.log) }
+        ensures waiting { self.new.waiting ≡ self.old.waiting }
     {
         if self.posted.log().total() < account.seen() {
             return Err(Refused::Foreign(call));
@@ -135,19 +149,22 @@ impl<O: Kind> Held<O> {
         call: O::Call,
     ) -> Result<Receipt<O>, Refused<O::Call>>
         requires lawful { O.lawful }
-        requires ready { O.machine.ready self.old.piece.last call ≡ true }
+        requires ready { O.machine.ready self.old.log.piece.last call ≡ true }
         ensures told { MatchResult result (Entered account.old account.new call)
             (IsBack account.old account.new call) }
-        ensures place { IfOk result (λ r. r.place ≡ self.old.tally.total) }
+        ensures place { IfOk result (λ r. r.place ≡ self.old.log.tally.total) }
         ensures step { IfOk result (λ r.
-            O.machine.answer self.old.piece.last call ≡ (r.reply, self.new.piece.last)) }
+            O.machine.answer self.old.log.piece.last call ≡ (r.reply, self.new.log.piece.last)) }
+        ensures sound { OnOk result (O.is_sound self.old.log.piece.last) }
         ensures entry { IfOk result (λ r.
-            self.new.piece ≡ added self.old.piece call r.reply self.new.piece.last) }
-        ensures tally { OnOk result (self.new.tally ≡ ticked self.old.tally) }
+            self.new.log.piece ≡ added self.old.log.piece call r.reply self.new.log.piece.last) }
+        ensures tally { OnOk result (self.new.log.tally ≡ ticked self.old.log.tally) }
         ensures spends { IsOk result
-            ↔ (Fits account.old self.old.tally × Spends O.machine self.old.piece.last call) }
+            ↔ (Fits account.old self.old.log.tally
+            × Spends O.machine self.old.log.piece.last call) }
         ensures foreign { IfErr result (λ e. e ≡ Refused.Foreign call) }
-        ensures same { OnErr result (IsSame self.old self.new) }
+        ensures same { OnErr result (IsSame self.old.log self.new.log) }
+        ensures waiting { self.new.waiting ≡ self.old.waiting }
     {
         let object = self.posted.log().object();
         if object.live_after(&call) >= object.live() {
@@ -163,16 +180,17 @@ impl<O: Kind> Held<O> {
 
     /// The share of a new handle.
     pub(crate) fn split(&mut self) -> Share
-        ensures share { result ≡ unused self.old.tally.key }
-        ensures piece { self.new.piece ≡ self.old.piece }
-        ensures tally { self.new.tally ≡ with_share self.old.tally }
+        ensures share { result ≡ unused self.old.log.tally.key }
+        ensures piece { self.new.log.piece ≡ self.old.log.piece }
+        ensures tally { self.new.log.tally ≡ with_share self.old.log.tally }
+        ensures waiting { self.new.waiting ≡ self.old.waiting }
     {
         self.posted.split()
     }
 
     /// How many events the channel has.
     pub(crate) fn total(&self) -> u64
-        ensures { result ≡ self.now.tally.total }
+        ensures { result ≡ self.now.log.tally.total }
     {
         self.posted.log().total()
     }
@@ -180,11 +198,12 @@ impl<O: Kind> Held<O> {
     /// Hands out the entries so far, and begins the next segment. No event is made.
     pub(crate) fn cut(&mut self) -> Result<Segment<O>, Short<()>>
         requires { O.lawful }
-        ensures segment { IfOk result (λ s. s ≡ self.old.piece) }
+        ensures segment { IfOk result (λ s. s ≡ self.old.log.piece) }
         ensures legal { IfOk result (λ s. IsLegal O.machine O.is_sound s) }
         ensures next { OnOk result
-            (self.new.piece ≡ next_of self.old.piece self.old.tally.total) }
-        ensures tally { self.new.tally ≡ self.old.tally }
+            (self.new.log.piece ≡ next_of self.old.log.piece self.old.log.tally.total) }
+        ensures tally { self.new.log.tally ≡ self.old.log.tally }
+        ensures waiting { self.new.waiting ≡ self.old.waiting }
         ensures same { OnErr result (self.new ≡ self.old) }
     {
         let segment = self.posted.cut()?;
@@ -195,11 +214,12 @@ impl<O: Kind> Held<O> {
     /// The same, where the channel has this key. Of another one nothing is cut.
     pub(crate) fn cut_of(&mut self, key: u64) -> Option<Result<Segment<O>, Short<()>>>
         requires { O.lawful }
-        ensures cut { IsSome result ↔ (self.old.piece.key ≡ key) }
-        ensures segment { IfSome result (λ said. IfOk said (λ s. s ≡ self.old.piece)) }
+        ensures cut { IsSome result ↔ (self.old.log.piece.key ≡ key) }
+        ensures segment { IfSome result (λ said. IfOk said (λ s. s ≡ self.old.log.piece)) }
         ensures legal { IfSome result (λ said. IfOk said (λ s. IsLegal O.machine O.is_sound s)) }
         ensures other { IsNone result → self.new ≡ self.old }
-        ensures tally { self.new.tally ≡ self.old.tally }
+        ensures tally { self.new.log.tally ≡ self.old.log.tally }
+        ensures waiting { self.new.waiting ≡ self.old.waiting }
     {
         if self.posted.log().key() != key {
             return None;

@@ -53,7 +53,8 @@
 //! ```
 //!
 //! `while let Some(told) = news.next(rt)` is written as in `note_all`, since a loop has to
-//! have a measure, and `rt.forever()` is that of one that waits.
+//! have a measure, and `rt.forever()` is that of one that waits. `next` gives up the receipt of the answer that ends the
+//! loop, and `spend` that of the handle's end; `next_told` and `spend_told` hand them out.
 //!
 //! **A service that runs on** cuts the log every so often, by any owner, and keeps the segments or lets them go:
 //!

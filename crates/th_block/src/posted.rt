@@ -3,7 +3,7 @@ ghost use Rattle.std.specs.Prelude.{◌≡◌, ◌+◌, ◌<◌, ◌≤◌, ◌�
 ghost use Rattle.th_glance.specs.Lists.{glance_of};
 ghost use Rattle.th_log.specs.History.{live_after, next_of};
 ghost use Rattle.th_log.specs.Outcome.{IsFull, IsOwn, IsSame, Meets, Refuses, added, counted, ticked, with_share};
-ghost use Rattle.th_block.specs.Locked.{Stores};
+ghost use Rattle.th_block.specs.Locked.{Stores, TellsClosed};
 
 use std::alloc::Global;
 use std::marker::Model;
@@ -12,8 +12,9 @@ use th_log::{Kind, Logged, Object, Receipt, Refused, Segment};
 use th_model::Short;
 use th_seats::Share;
 
-/// What a channel's word says follows the log: how many events it has, and whether no sender is left. That is true of
-/// every value of this type, so of what lies under a lock whenever the lock is free.
+/// What a channel's word says follows the log: how many events it has, and whether no sender is left; and what it said at
+/// each place of the log's present segment follows from the entries. That is true of every value of this type, so of what
+/// lies under a lock whenever the lock is free.
 #[derive(Drop)]
 pub(crate) struct Posted<O: Object> {
     // The channel with its log.
@@ -41,6 +42,8 @@ impl<O: Kind> Posted<O> {
         ensures pen { IfOk result (λ r. r.0.pen.list ≡ glance_of 0 false ∷ []) }
         ensures eye { IfOk result (λ r. r.1 ≡ r.0.pen) }
     {
+        // What a log always is.
+        let _entries = log.len();
         match Pen::open(alloc) {
             Ok((pen, eye)) => Ok((Posted { log, pen }, eye)),
             Err(short) => Err(short),
@@ -80,6 +83,7 @@ impl<O: Kind> Posted<O> {
             ≡ added self.old.log.piece call r.reply self.new.log.piece.last) }
         ensures ticks { OnOk result ((self.new.log.tally ≡ ticked self.old.log.tally)
             × (share.new ≡ counted share.old)) }
+        ensures sound { OnOk result (O.is_sound self.old.log.piece.last) }
         ensures own { OnOk result (IsOwn share.old self.old.log.tally) }
         ensures space { OnOk result (IsFull self.old.log 1
             (live_after O.machine self.old.log.piece.last call) → ⊥) }
@@ -103,6 +107,8 @@ impl<O: Kind> Posted<O> {
     {
         match self.log.apply(share, call) {
             Ok(receipt) => {
+                // What a log always is.
+                let _entries = self.log.len();
                 self.pen.store(self.log.object().closed());
                 Ok(receipt)
             }
@@ -120,7 +126,8 @@ impl<O: Kind> Posted<O> {
         self.log.split()
     }
 
-    /// Hands out the entries so far, and begins the next segment. It is no event, so nothing is stored.
+    /// Hands out the entries so far, and begins the next segment. It is no event, so nothing is stored. What the word has
+    /// said at the segment's places, and at its end, follows from the segment.
     pub(crate) fn cut(&mut self) -> Result<Segment<O>, Short<()>>
         requires { O.lawful }
         ensures segment { IfOk result (λ s. s ≡ self.old.log.piece) }
@@ -128,8 +135,12 @@ impl<O: Kind> Posted<O> {
             (self.new.log.piece ≡ next_of self.old.log.piece self.old.log.tally.total) }
         ensures tally { self.new.log.tally ≡ self.old.log.tally }
         ensures pen { self.new.pen ≡ self.old.pen }
+        ensures told { IfOk result (λ s. TellsClosed O.machine s self.old.pen.list) }
         ensures err { OnErr result (self.new ≡ self.old) }
     {
-        self.log.cut()
+        let segment = self.log.cut()?;
+        // What a log always is.
+        let _entries = self.log.len();
+        Ok(segment)
     }
 }

@@ -21,7 +21,7 @@ pub(crate) trait Queued<O: Kind> {
 
     /// Whether that call has its answer now.
     fn is_ready(held: &Held<O>, number: u64, item: &Self::Item) -> bool
-        ensures { result ≡ O.machine.ready held.now.piece.last (call number item.now) };
+        ensures { result ≡ O.machine.ready held.now.log.piece.last (call number item.now) };
 }
 
 /// A queue of calls.

@@ -1,7 +1,8 @@
 //! Events that are made together on the locked log, as many as have their answer at once.
-ghost use Rattle.std.specs.Prelude.{◌≡◌, ◌<◌, ◌≤◌, [], length, true, IfErr, IfOk, OnErr, OnOk};
+ghost use Rattle.std.specs.Prelude.{◌≡◌, ◌<◌, ◌≤◌, [], false, length, true, IfErr, IfOk, OnErr, OnOk};
 ghost use Rattle.th_block.specs.Handles.{IsBack, Looked, call_of, seen_of};
-ghost use Rattle.th_block.specs.Rows.{AddsOne, AddsReady, EnteredInRow};
+ghost use Rattle.th_block.specs.Locked.{KeepsAllWaiting, KeepsWaiting};
+ghost use Rattle.th_block.specs.Rows.{AddsOne, AddsReady, EachBehind, EnteredInRow, IsAnswerTo};
 ghost use Rattle.th_block.specs.Together.{EnteredMany, EnteredOf, LeavesOver, StopsAt, has_ended};
 
 use crate::account::Account;
@@ -11,7 +12,8 @@ use std::collections::VecDeque;
 use std::sync::Wait;
 use th_log::{Kind, Receipt, Refused};
 
-// One event of this call, which has its answer now, and its receipt behind the others: whether it is news to who waits.
+// One event of this call, which has its answer now, and its receipt behind the others: whether it is what callers may wait
+// for. Where it is not, a call of another handle that would have waited would wait still.
 // Memory for the receipt is asked for before the event, where the list has no room.
 fn one_moved<O: Kind>(
     held: &mut Held<O>,
@@ -20,23 +22,30 @@ fn one_moved<O: Kind>(
     receipts: &mut Vec<Receipt<O>>,
 ) -> Result<bool, Refused<O::Call>>
     requires lawful { O.lawful }
-    requires ready { O.machine.ready held.old.piece.last call ≡ true }
-    ensures made { OnOk result (AddsOne account.old account.new call held.old.tally held.new.tally
+    requires ready { O.machine.ready held.old.log.piece.last call ≡ true }
+    ensures made { OnOk result (AddsOne account.old account.new call
+        held.old.log.tally held.new.log.tally receipts.old.items receipts.new.items) }
+    ensures answered { OnOk result (EachBehind (IsAnswerTo O.machine O.is_sound call)
         receipts.old.items receipts.new.items) }
+    ensures waits { IfOk result (λ awaited. awaited ≡ false → KeepsWaiting O.machine O.handle_of
+        call held.old.log.piece.last held.new.log.piece.last) }
     ensures back { IfErr result (λ e. call_of e ≡ call) }
     ensures same { OnErr result ((account.new ≡ account.old)
-        × (held.new.tally ≡ held.old.tally) × (receipts.new.items ≡ receipts.old.items)) }
+        × (held.new.log.tally ≡ held.old.log.tally) × (receipts.new.items ≡ receipts.old.items)) }
+    ensures piece { OnErr result (held.new.log.piece ≡ held.old.log.piece) }
 {
     let Ok(()) = receipts.reserve(1) else {
         return Err(Refused::Short(call));
     };
     match held.event(account, call) {
         Ok(receipt) => {
-            let news = O::is_news(receipt.call(), receipt.reply());
+            let awaited = held.is_awaited(&receipt);
+            // What every receipt says.
+            let _reply = receipt.reply();
             let Ok(()) = receipts.push(receipt) else {
                 unreachable!()
             };
-            Ok(news)
+            Ok(awaited)
         }
         Err(refused) => Err(refused),
     }
@@ -50,7 +59,9 @@ fn one_more<O: Kind>(
     receipts: &mut Vec<Receipt<O>>,
 ) -> bool
     requires { O.lawful }
-    ensures { AddsReady result account.old account.new call.now held.old.tally held.new.tally
+    ensures made { AddsReady result account.old account.new call.now
+        held.old.log.tally held.new.log.tally receipts.old.items receipts.new.items }
+    ensures answered { EachBehind (IsAnswerTo O.machine O.is_sound call.now)
         receipts.old.items receipts.new.items }
 {
     if !held.is_ready(call) {
@@ -70,8 +81,8 @@ fn one_ready<O: Kind>(
     receipts: &mut Vec<Receipt<O>>,
 ) -> bool
     requires { O.lawful }
-    ensures { AddsReady result account.old account.new call.now held.old.tally held.new.tally
-        receipts.old.items receipts.new.items }
+    ensures { AddsReady result account.old account.new call.now
+        held.old.log.tally held.new.log.tally receipts.old.items receipts.new.items }
 {
     receipts.len() < receipts.capacity() && one_more(held, account, call, receipts)
 }
@@ -89,8 +100,8 @@ pub(crate) fn all_ready<O: Kind>(
     requires none { receipts.old.items ≡ [] }
     ensures most { length receipts.new.items ≤ most }
     ensures row { EnteredInRow account.old account.new call.now
-        held.old.tally.total held.new.tally.total receipts.new.items }
-    ensures total { result ≡ held.new.tally.total }
+        held.old.log.tally.total held.new.log.tally.total receipts.new.items }
+    ensures total { result ≡ held.new.log.tally.total }
 {
     for _ in 0..most {
         if !one_ready(held, account, call, receipts) {
@@ -101,7 +112,8 @@ pub(crate) fn all_ready<O: Kind>(
 }
 
 /// Calls of what stands in this queue, from its front on, one behind the other, up to one that would wait. What a call was
-/// made of is taken out of the queue, and so is what the log refuses, which comes back. Whether any is news to who waits.
+/// made of is taken out of the queue, and so is what the log refuses, which comes back. Whether any is what callers may wait
+/// for: where none is, a call of a handle that makes none of them, and that would have waited, would wait still.
 pub(crate) fn each_ready<O: Kind, Q: Queued<O>>(
     held: &mut Held<O>,
     account: &mut Account,
@@ -111,24 +123,26 @@ pub(crate) fn each_ready<O: Kind, Q: Queued<O>>(
 ) -> (bool, Result<(), Refused<O::Call>>)
     requires { O.lawful }
     ensures row { LeavesOver (Q.call number) result.1 queue.new.items (λ over.
-        EnteredOf (Q.call number) account.old account.new held.old.tally.total
-        held.new.tally.total queue.old.items over receipts.old.items receipts.new.items) }
+        EnteredOf (Q.call number) account.old account.new held.old.log.tally.total
+        held.new.log.tally.total queue.old.items over receipts.old.items receipts.new.items) }
     ensures stop { OnOk result.1 (StopsAt O.machine.ready (Q.call number) queue.new.items) }
+    ensures waits { result.0 ≡ false → KeepsAllWaiting O.machine O.handle_of (Q.call number)
+        queue.old.items held.old.log.piece.last held.new.log.piece.last }
 {
-    let mut news = false;
+    let mut awaited = false;
     while let Some(next) = queue.front() {
         if !Q::is_ready(held, number, next) {
-            return (news, Ok(()));
+            return (awaited, Ok(()));
         }
         let Some(item) = queue.pop_front() else {
             unreachable!()
         };
         match one_moved(held, account, Q::call(number, item), receipts) {
-            Ok(is_news) => news |= is_news,
-            Err(refused) => return (news, Err(refused)),
+            Ok(is_awaited) => awaited |= is_awaited,
+            Err(refused) => return (awaited, Err(refused)),
         }
     }
-    (news, Ok(()))
+    (awaited, Ok(()))
 }
 
 // Whether the last of these receipts says that nothing comes any more.
@@ -152,11 +166,13 @@ pub(crate) fn many_ready<O: Kind>(
     receipts: &mut Vec<Receipt<O>>,
 ) -> Result<usize, Refused<O::Call>>
     requires lawful { O.lawful }
-    requires ready { O.machine.ready held.old.piece.last call ≡ true }
+    requires ready { O.machine.ready held.old.log.piece.last call ≡ true }
     requires some { 0 < limit }
     ensures made { IfOk result (λ count.
-        EnteredMany O.ends account.old account.new call limit held.old.tally.total
-        held.new.tally.total receipts.old.items receipts.new.items count) }
+        EnteredMany O.ends account.old account.new call limit held.old.log.tally.total
+        held.new.log.tally.total receipts.old.items receipts.new.items count) }
+    ensures answered { EachBehind (IsAnswerTo O.machine O.is_sound call)
+        receipts.old.items receipts.new.items }
     ensures back { IfErr result (λ e. IsBack account.old account.new call e) }
     ensures same { OnErr result (receipts.new.items ≡ receipts.old.items) }
 {

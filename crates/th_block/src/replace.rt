@@ -20,9 +20,9 @@ use th_model::RxId;
 // The last event of a handle that is live, on the locked log.
 fn surely_last<O: Kind>(held: &mut Held<O>, account: &mut Account, last: O::Call)
     requires lawful { O.lawful }
-    requires ready { O.machine.ready held.old.piece.last last ≡ true }
-    requires fits { Fits account.old held.old.tally }
-    requires spends { Spends O.machine held.old.piece.last last }
+    requires ready { O.machine.ready held.old.log.piece.last last ≡ true }
+    requires fits { Fits account.old held.old.log.tally }
+    requires spends { Spends O.machine held.old.log.piece.last last }
     ensures share { account.new.share ≡ counted account.old.share }
     ensures eye { account.new.eye ≡ account.old.eye }
 {
@@ -39,7 +39,7 @@ fn make_and_last<O: Kind>(
     make: O::Call,
 ) -> Result<(Receipt<O>, Option<Seat>), Refused<O::Call>>
     requires lawful { O.lawful }
-    requires ready { O.machine.ready held.old.piece.last make ≡ true }
+    requires ready { O.machine.ready held.old.log.piece.last make ≡ true }
     requires make { O.resubscribing rx ≡ Some make }
     ensures tells { IfOk result (λ r. Tells account.old make r.0) }
     ensures seat { IfOk result (λ r. IsSeated (made_by O.made_tx O.made_rx) r.0 r.1) }

@@ -1,5 +1,6 @@
 //! Calls of a handle that are made together, under one lock.
 ghost use Rattle.std.specs.Prelude.{◌≡◌, ◌<◌, All, OnOk, Some};
+ghost use Rattle.th_block.specs.Rows.{EachBehind, IsAnswerTo};
 ghost use Rattle.th_block.specs.Together.{MakesEach, StopsAt, TakesMany};
 
 use crate::handle::Handle;
@@ -33,9 +34,9 @@ impl<O: Kind, S> Handle<O, S> {
         let room = &*shared.room;
         let mut held = room.held.lock(rt);
         let log = &mut *held;
-        let (news, end) = each_ready::<O, Q>(log, account, *number, queue, receipts);
+        let (awaited, end) = each_ready::<O, Q>(log, account, *number, queue, receipts);
         let total = log.total();
-        let wakes = news && log.wakes();
+        let wakes = awaited && log.wakes();
         drop(held);
         room.wake(wakes);
         see_all(rt, account, total);
@@ -53,8 +54,10 @@ impl<O: Kind, S> Handle<O, S> {
     ) -> Result<usize, Refused<O::Call>>
         requires lawful { O.lawful }
         requires some { 0 < limit }
-        ensures { TakesMany O.ends self.old self.new call limit
+        ensures taken { TakesMany O.ends self.old self.new call limit
             receipts.old.items receipts.new.items result }
+        ensures answered { EachBehind (IsAnswerTo O.machine O.is_sound call)
+            receipts.old.items receipts.new.items }
     {
         let Handle {
             shared,

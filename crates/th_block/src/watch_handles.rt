@@ -1,10 +1,10 @@
 //! Senders and readers of a watch channel.
-ghost use Rattle.std.specs.Prelude.{◌≡◌, ◌↔◌, [], IfErr, IfOk, OnOk};
+ghost use Rattle.std.specs.Prelude.{◌≡◌, ◌↔◌, [], IfErr, IfOk, IfSome, OnOk};
 ghost use Rattle.th_log.specs.History.{IsLimit};
 ghost use Rattle.th_model.specs.Limits.{ClonesAreEqual};
 ghost use Rattle.th_model.specs.WatchMachine.{IsExact};
-ghost use Rattle.th_log.specs.Replies.{made_by, watch_ends, watch_made_rx, watch_made_tx};
-ghost use Rattle.th_block.specs.Handles.{Calls, CallsFor, IsFirst, IsNext, rx, tx};
+ghost use Rattle.th_log.specs.Replies.{IsChanged, made_by, watch_ends, watch_made_rx, watch_made_tx};
+ghost use Rattle.th_block.specs.Handles.{Calls, CallsFor, IsFirst, IsNext, IsNextTold, rx, tx};
 ghost use Rattle.th_block.specs.Together.{MakesEach};
 
 use crate::handle::{Handle, is_limit, open};
@@ -197,7 +197,8 @@ impl<T: Clone + PartialEq + Drop> Handle<Watch<T>, Receives> {
     pub fn changed<R: Wait>(&mut self, rt: &R) -> Result<Receipt<Watch<T>>, Refused<WCall<T>>>
         requires clones { ClonesAreEqual T.is_clone }
         requires exact { IsExact T.eq }
-        ensures { Calls self.old self.new (WCall.Changed (rx self.old)) result }
+        ensures calls { Calls self.old self.new (WCall.Changed (rx self.old)) result }
+        ensures told { IfOk result (λ r. IsChanged r.reply) }
     {
         let number = self.number;
         self.call(rt, WCall::Changed(RxId(number)))
@@ -209,10 +210,27 @@ impl<T: Clone + PartialEq + Drop> Handle<Watch<T>, Receives> {
     pub fn next<R: Wait>(&mut self, rt: &R) -> Option<Result<Receipt<Watch<T>>, Refused<WCall<T>>>>
         requires clones { ClonesAreEqual T.is_clone }
         requires exact { IsExact T.eq }
-        ensures { IsNext watch_ends self.old self.new (WCall.Changed (rx self.old)) result }
+        ensures next { IsNext watch_ends self.old self.new (WCall.Changed (rx self.old)) result }
+        ensures told { IfSome result (λ told. IfOk told (λ r. IsChanged r.reply)) }
     {
         let number = self.number;
         self.next_call(rt, WCall::Changed(RxId(number)))
+    }
+
+    /// As `next`, for a loop whose diary is to be whole: it gives up no receipt, and says of each whether it is the last
+    /// one, after which nothing will come any more.
+    pub fn next_told<R: Wait>(
+        &mut self,
+        rt: &R,
+    ) -> Result<(Receipt<Watch<T>>, bool), Refused<WCall<T>>>
+        requires clones { ClonesAreEqual T.is_clone }
+        requires exact { IsExact T.eq }
+        ensures next { IsNextTold watch_ends self.old self.new
+            (WCall.Changed (rx self.old)) result }
+        ensures told { IfOk result (λ r. IsChanged r.0.reply) }
+    {
+        let number = self.number;
+        self.next_call_told(rt, WCall::Changed(RxId(number)))
     }
 
     /// Makes the newest value unseen.

@@ -20,7 +20,8 @@ last-snoc [] g = refl
 last-snoc (x ∷ []) g = refl
 last-snoc (x ∷ y ∷ ys) g = last-snoc (y ∷ ys) g
 
-get-last : (x : Glance) (xs : List Glance) → slice_get (x ∷ xs) (length xs) ≡ Some (last_of (x ∷ xs))
+-- the last glance stands behind all others
+pub get-last : (x : Glance) (xs : List Glance) → slice_get (x ∷ xs) (length xs) ≡ Some (last_of (x ∷ xs))
 get-last x [] = refl
 get-last x (y ∷ ys) = get-last y ys
 
@@ -29,7 +30,8 @@ pub count-length : (gs : List Glance) → IsCounted gs → last_count gs + 1 ≡
 count-length [] c = absurd (omega arith)
 count-length (x ∷ xs) c = let last : last_count (x ∷ xs) ≡ length xs = c.1 (length xs) (last_of (x ∷ xs)) (get-last x xs) in omega arith
 
-get-snoc : (gs : List Glance) (g : Glance) (k : ℕ) (h : Glance) → slice_get (gs ++ g ∷ []) k ≡ Some h → (slice_get gs k ≡ Some h)
+-- a glance of a list with one more is of the list, or that one
+pub get-snoc : (gs : List Glance) (g : Glance) (k : ℕ) (h : Glance) → slice_get (gs ++ g ∷ []) k ≡ Some h → (slice_get gs k ≡ Some h)
     ⊎ ((k ≡ length gs) × (g ≡ h))
 get-snoc [] g zero h e = inr (refl, cc (e))
 get-snoc [] g (suc k) h e = absurd (cc (e))

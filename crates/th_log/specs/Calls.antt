@@ -78,6 +78,40 @@ module _ {T : Type 0} where
   watch_waits (WCalls.Changed r) WReplies.NotYet = true
   watch_waits call reply = false
 
+  -- the number of the handle that makes a call
+  abbrev pub broadcast_handle_of : BCall T → ℕ
+  broadcast_handle_of (BCalls.Send t v) = t.0
+  broadcast_handle_of (BCalls.TryRecv r) = r.0
+  broadcast_handle_of (BCalls.Recv r) = r.0
+  broadcast_handle_of (BCalls.Subscribe t) = t.0
+  broadcast_handle_of (BCalls.SubscribeOldest t) = t.0
+  broadcast_handle_of (BCalls.Resubscribe r) = r.0
+  broadcast_handle_of (BCalls.CloneTx t) = t.0
+  broadcast_handle_of (BCalls.DropTx t) = t.0
+  broadcast_handle_of (BCalls.DropRx r) = r.0
+  broadcast_handle_of (BCalls.Queued t) = t.0
+  broadcast_handle_of (BCalls.Left r) = r.0
+  broadcast_handle_of (BCalls.Readers t) = t.0
+
+  abbrev pub watch_handle_of : WCall T → ℕ
+  watch_handle_of (WCalls.Send t v) = t.0
+  watch_handle_of (WCalls.Replace t v) = t.0
+  watch_handle_of (WCalls.EditBy t change) = t.0
+  watch_handle_of (WCalls.Borrow r) = r.0
+  watch_handle_of (WCalls.Take r) = r.0
+  watch_handle_of (WCalls.HasChanged r) = r.0
+  watch_handle_of (WCalls.TryChanged r) = r.0
+  watch_handle_of (WCalls.Changed r) = r.0
+  watch_handle_of (WCalls.MarkChanged r) = r.0
+  watch_handle_of (WCalls.MarkUnchanged r) = r.0
+  watch_handle_of (WCalls.Subscribe t) = t.0
+  watch_handle_of (WCalls.CloneRx r) = r.0
+  watch_handle_of (WCalls.CloneTx t) = t.0
+  watch_handle_of (WCalls.DropTx t) = t.0
+  watch_handle_of (WCalls.DropRx r) = r.0
+  watch_handle_of (WCalls.IsClosed t) = t.0
+  watch_handle_of (WCalls.Readers t) = t.0
+
   -- the sender that makes a call, of those calls that neither make nor spend a handle
   abbrev pub broadcast_sender_of : BCall T → Option ℕ
   broadcast_sender_of (BCalls.Send t v) = Some t.0

@@ -175,10 +175,11 @@ impl<T: Clone, S: Shelf<T> + Drop> Kind for Broadcast<T, S> {
     ghost use Rattle.th_model.specs.Places.{place_of};
     ghost use Rattle.th_model.specs.declared.broadcast.BCall.TheVariants.{CloneTx, DropRx, DropTx, Resubscribe};
     ghost use Rattle.th_model.specs.declared.broadcast.BReply.TheVariants.{Done};
-    ghost use Rattle.th_log.specs.Calls.{broadcast_asked, broadcast_by_receiver, broadcast_by_sender, broadcast_receiver_of, broadcast_sender_of, broadcast_subscribing, broadcast_waits};
-    ghost use Rattle.th_log.specs.Replies.{broadcast_ends, broadcast_made_rx, broadcast_made_tx};
+    ghost use Rattle.th_log.specs.Calls.{broadcast_asked, broadcast_by_receiver, broadcast_by_sender, broadcast_handle_of, broadcast_receiver_of, broadcast_sender_of, broadcast_subscribing, broadcast_waits};
+    ghost use Rattle.th_log.specs.Replies.{broadcast_ends, broadcast_is_news, broadcast_made_rx, broadcast_made_tx};
     ghost use Rattle.th_log.specs.KindLaws.{broadcast-asked, broadcast-by-receiver, broadcast-by-sender};
     ghost use Rattle.th_log.specs.KindLaws.{receiver-ends, sender-ends, stays};
+    ghost use Rattle.th_log.specs.NewsLaws.{broadcast-news};
 
     type Value = T;
 
@@ -204,6 +205,8 @@ impl<T: Clone, S: Shelf<T> + Drop> Kind for Broadcast<T, S> {
 
     ghost last_of_receiver = { λ rx. DropRx rx };
 
+    ghost handle_of = { broadcast_handle_of };
+
     ghost sender_of = { broadcast_sender_of };
 
     ghost receiver_of = { broadcast_receiver_of };
@@ -213,6 +216,8 @@ impl<T: Clone, S: Shelf<T> + Drop> Kind for Broadcast<T, S> {
     ghost made_rx = { broadcast_made_rx };
 
     ghost ends = { broadcast_ends };
+
+    ghost is_news = { broadcast_is_news };
 
     ghost done = { Done };
 
@@ -227,6 +232,8 @@ impl<T: Clone, S: Shelf<T> + Drop> Kind for Broadcast<T, S> {
     ghost receiver_ends_ok = { receiver-ends T };
 
     ghost stays_ok = { stays T };
+
+    ghost news_ok = { broadcast-news T };
 
     #[inline(always)]
     fn has_sender(&self, tx: TxId) -> bool {

@@ -6,7 +6,7 @@ ghost use Rattle.th_model.specs.declared.verb.Question.{Question};
 ghost use Rattle.th_model.specs.declared.verb.ReceiverVerb.{ReceiverVerb};
 ghost use Rattle.th_model.specs.declared.verb.SenderVerb.{SenderVerb};
 ghost use Rattle.th_model.specs.declared.verb.Start.{Start};
-ghost use Rattle.th_log.specs.CallLaws.{IsBy, IsLast, StaysBeside};
+ghost use Rattle.th_log.specs.CallLaws.{IsBy, IsLast, OnlyNewsEndsWaits, StaysBeside};
 ghost use Rattle.th_log.specs.Replies.{made_by};
 
 use crate::object::{Event, Object};
@@ -50,6 +50,9 @@ pub trait Kind: Object {
     /// The last call of a receiver.
     ghost last_of_receiver: { RxId → Self.Call };
 
+    /// The number of the handle that makes a call.
+    ghost handle_of: { Self.Call → ℕ };
+
     /// The number of the sender that makes a call, of those calls that neither make nor spend a handle.
     ghost sender_of: { Self.Call → Option ℕ };
 
@@ -64,6 +67,9 @@ pub trait Kind: Object {
 
     /// Whether nothing will come any more for a receiver that was told so.
     ghost ends: { Self.Reply → Bool };
+
+    /// Whether a call that was answered so put something into the channel for which receivers wait.
+    ghost is_news: { Self.Call → Self.Reply → Bool };
 
     /// The reply to the last call of a handle.
     ghost done: { Self.Reply };
@@ -141,9 +147,9 @@ pub trait Kind: Object {
     fn ends(reply: &Self::Reply) -> bool
         ensures { result ≡ ends reply.now };
 
-    /// Whether the call, which was answered so, put something into the channel for which receivers wait. It saves
-    /// wake-ups, and no clause rests on it.
-    fn is_news(call: &Self::Call, reply: &Self::Reply) -> bool;
+    /// Whether the call, which was answered so, put something into the channel for which receivers wait.
+    fn is_news(call: &Self::Call, reply: &Self::Reply) -> bool
+        ensures { result ≡ is_news call.now reply.now };
 
     /// A sender makes its calls of the table.
     ghost by_sender_ok: { (verb : SenderVerb Self.Value) (tx : TxId)
@@ -168,6 +174,9 @@ pub trait Kind: Object {
     /// A receiver that made another is still live.
     ghost stays_ok: { (rx : RxId) → StaysBeside Self.machine (made_by made_tx made_rx)
         (λ p. has_receiver p rx) (resubscribing rx) };
+
+    /// A handle's wait ends by news from another, or where no sender is left.
+    ghost news_ok: { OnlyNewsEndsWaits Self.machine Self.is_sound handle_of is_news };
 }
 
 /// The number of the handle that was made, where one was.

@@ -14,6 +14,7 @@ pub mod broadcast;
 pub mod closing;
 pub mod diary;
 pub mod kind;
+pub mod laws;
 pub mod logged;
 pub mod object;
 pub mod receipt;

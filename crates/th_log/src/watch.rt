@@ -140,10 +140,11 @@ impl<T: Clone + PartialEq + Drop> Kind for Watch<T> {
     ghost use Rattle.th_model.specs.WatchMachine.{reader_of};
     ghost use Rattle.th_model.specs.declared.watch.WCall.TheVariants.{CloneTx, DropRx, DropTx};
     ghost use Rattle.th_model.specs.declared.watch.WReply.TheVariants.{Done};
-    ghost use Rattle.th_log.specs.Calls.{watch_asked, watch_by_receiver, watch_by_sender, watch_receiver_of, watch_sender_of, watch_subscribing, watch_waits};
-    ghost use Rattle.th_log.specs.Replies.{watch_ends, watch_made_rx, watch_made_tx};
+    ghost use Rattle.th_log.specs.Calls.{watch_asked, watch_by_receiver, watch_by_sender, watch_handle_of, watch_receiver_of, watch_sender_of, watch_subscribing, watch_waits};
+    ghost use Rattle.th_log.specs.Replies.{watch_ends, watch_is_news, watch_made_rx, watch_made_tx};
     ghost use Rattle.th_log.specs.KindLaws.{watch-asked, watch-by-receiver, watch-by-sender};
     ghost use Rattle.th_log.specs.KindLaws.{reader-ends, watch-sender-ends};
+    ghost use Rattle.th_log.specs.NewsLaws.{watch-news};
 
     type Value = T;
 
@@ -169,6 +170,8 @@ impl<T: Clone + PartialEq + Drop> Kind for Watch<T> {
 
     ghost last_of_receiver = { λ rx. DropRx rx };
 
+    ghost handle_of = { watch_handle_of };
+
     ghost sender_of = { watch_sender_of };
 
     ghost receiver_of = { watch_receiver_of };
@@ -178,6 +181,8 @@ impl<T: Clone + PartialEq + Drop> Kind for Watch<T> {
     ghost made_rx = { watch_made_rx };
 
     ghost ends = { watch_ends };
+
+    ghost is_news = { watch_is_news };
 
     ghost done = { Done };
 
@@ -192,6 +197,8 @@ impl<T: Clone + PartialEq + Drop> Kind for Watch<T> {
     ghost receiver_ends_ok = { reader-ends T T.eq };
 
     ghost stays_ok = { λ rx. tt };
+
+    ghost news_ok = { watch-news T T.eq };
 
     #[inline(always)]
     fn has_sender(&self, tx: TxId) -> bool {

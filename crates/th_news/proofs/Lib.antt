@@ -1,2 +1,2 @@
-mod Waiting
-mod WatchWaiting
+pub mod Waiting
+pub mod WatchWaiting

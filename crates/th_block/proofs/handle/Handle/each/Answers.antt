@@ -8,7 +8,7 @@ use Rattle.th_block.proofs.handle.Handle.each.Goals as goal
 pub returns-clause-made : goal.returns-clause-made
 returns-clause-made g c =
     let i = c.self.inside in
-    let made = c.each_ready-news in
+    let made = c.each_ready-awaited in
     let seen = c.see_all.ensures in
     subst (λ (old : Holder). MakesEach (g.Q.Queued.call old.number) old (holder i.number c.see_all.new.account)
     c.args.queue.now.items made.new.queue.items c.args.receipts.now.items made.new.receipts.items made.result.1) c.self.view_is

@@ -5,8 +5,8 @@ use Rattle.th_block.proofs.Many.{takes}
 use Rattle.th_block.proofs.Rows.{holder}
 use Rattle.th_block.proofs.handle.Handle.many.Goals as goal
 
-pub returns : goal.returns
-returns g c =
+pub returns-clause-taken : goal.returns-clause-taken
+returns-clause-taken g c =
     let i = c.self.inside in
     let made = c.many_ready-answer.new in
     let seen = c.see_all.ensures in
