@@ -39,11 +39,11 @@ module _ {E S C R : Type 0} (m : Machine E S C R) (words : Words C R) where
   one_turn (ReplyDue e n c) line Illegal (On b) p q = absurd (p.2 q.0.0 (same_Some p.0 (m.step e c).0 (sym p.1 ∙ q.0.1)))
   one_turn (ReplyDue e n c) line Illegal Bad p q = no_both _ p.0 p.1 q
   one_turn (ReplyDue e n c) line Illegal Illegal p q = refl
-  one_turn (Ended n) line (On a) u p q = absurd p
-  one_turn (Ended n) line Bad (On b) p q = absurd q
-  one_turn (Ended n) line Bad Bad p q = refl
-  one_turn (Ended n) line Bad Illegal p q = absurd q
-  one_turn (Ended n) line Illegal u p q = absurd p
+  one_turn (Ended e n) line (On a) u p q = absurd p
+  one_turn (Ended e n) line Bad (On b) p q = absurd q
+  one_turn (Ended e n) line Bad Bad p q = refl
+  one_turn (Ended e n) line Bad Illegal p q = absurd q
+  one_turn (Ended e n) line Illegal u p q = absurd p
 
   -- and something it does
   module _ (same : R → R → Bool) (exact : IsExact same) where
@@ -70,16 +70,16 @@ module _ {E S C R : Type 0} (m : Machine E S C R) (words : Words C R) where
     some_turn : (stage : Stage E C) (line : List ℕ) → (t : Turn (Stage E C)) × Turns m words stage line t
     some_turn (CallDue e n) line = at_begun e n line (begun m words e n line) refl
     some_turn (ReplyDue e n call) line = at_said e n call line (words.reply_of call line) refl
-    some_turn (Ended n) line = (Bad, tt)
+    some_turn (Ended e n) line = (Bad, tt)
 
 -- the same at a point
-one_does : (here : Point) (line : Line) (t u : Turn Point) → Does here line t → Does here line u → t ≡ u
+pub one_does : (here : Point) (line : Line) (t u : Turn Point) → Does here line t → Does here line u → t ≡ u
 one_does here Long t u p q = p ∙ sym q
 one_does (InPicture place) (Good line) t u p q = p ∙ sym q
-one_does (InBroadcast version stage) (Good line) t u p q = p.2 ∙ ap (λ (a : Turn BroadcastStage). lifted (InBroadcast version) a)
+one_does (InBroadcast version from stage) (Good line) t u p q = p.2 ∙ ap (λ (a : Turn BroadcastStage). lifted (InBroadcast version from) a)
     (one_turn machines.broadcast (words_of_broadcast version) stage line p.0 q.0 p.1 q.1) ∙ sym q.2
-one_does (InWatch stage) (Good line) t u p q =
-    p.2 ∙ ap (λ (a : Turn WatchStage). lifted InWatch a) (one_turn watch_machine words_of_watch stage line p.0 q.0 p.1 q.1) ∙ sym q.2
+one_does (InWatch from stage) (Good line) t u p q =
+    p.2 ∙ ap (λ (a : Turn WatchStage). lifted (InWatch from) a) (one_turn watch_machine words_of_watch stage line p.0 q.0 p.1 q.1) ∙ sym q.2
 
 -- what lines say from a point on, where so many came before
 abbrev SaysOf : Turn Point → (Point → Type 0) → ℕ → Verdict → Type 0
@@ -101,12 +101,12 @@ module _ (breply : BReply Bytes → BReply Bytes → Bool) (bexact : IsExact bre
   some_does : (here : Point) (line : Line) → (t : Turn Point) × Does here line t
   some_does here Long = (Bad, refl)
   some_does (InPicture place) (Good line) = (picture_turn (pictures.step place line), refl)
-  some_does (InBroadcast version stage) (Good line) =
+  some_does (InBroadcast version from stage) (Good line) =
       let s = some_turn machines.broadcast (words_of_broadcast version) breply bexact stage line in
-      (lifted (InBroadcast version) s.0, (s.0, s.1, refl))
-  some_does (InWatch stage) (Good line) =
+      (lifted (InBroadcast version from) s.0, (s.0, s.1, refl))
+  some_does (InWatch from stage) (Good line) =
       let s = some_turn watch_machine words_of_watch wreply wexact stage line in
-      (lifted InWatch s.0, (s.0, s.1, refl))
+      (lifted (InWatch from) s.0, (s.0, s.1, refl))
 
   some_end : (o : Option ℕ) (n : ℕ) → (v : Verdict) × EndOf o n v
   some_end (Some count) n = (verdict.Legal count, refl)
@@ -178,6 +178,9 @@ so_said lines (verdict.BadTrace number) h =
     subst (λ (w : Verdict). Says h.here (length h.before) h.rest w) (ap verdict.BadTrace (sym h.counted))
     (bad_said h.here h.rest (length h.before) h.bad) in
     subst (λ (l : List Line). Says start 0 l v) (sym h.parts) (led_from start h.here h.before h.rest v h.led here)
+
+pub one_so : (lines : List Line) (v w : Verdict) → IsSo lines v → IsSo lines w → v ≡ w
+one_so lines v w p q = one_says start 0 lines v w (so_said lines v p) (so_said lines w q)
 
 end_so : (before : List Line) (here : Point) → Leads start before here → (o : Option ℕ) → ended_with here ≡ o → (v : Verdict) →
     EndOf o (length before) v

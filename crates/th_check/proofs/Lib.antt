@@ -10,3 +10,6 @@ mod PrintedBroadcast
 mod PrintedWatch
 mod Handing
 mod Walking
+mod Adding
+mod OneNext
+mod NextPart

@@ -27,7 +27,6 @@ use Rattle.th_traces.specs.Spelled.{Bytes, call_line, reply_line}
 use Rattle.th_traces.specs.Tables.{IsNumber}
 use Rattle.th_traces.specs.Traces.{broadcast_trace}
 use Rattle.th_traces.specs.Versions.{digit, has_call, version_from, version_of, version_with}
-use Rattle.th_traces.proofs.BroadcastAgain.{broadcast-again}
 use Rattle.th_traces.proofs.BroadcastSpelling.{reply_of-again, reply_of-found}
 use Rattle.th_check.specs.Printed.{IsBroadcastPrinted, IsPrinted}
 use Rattle.th_check.specs.Stages.{GivenBy, most_entries}
@@ -190,5 +189,5 @@ broadcast_legal p entries sound run values printed few =
     (all_has One entries) in
     printed_legal machines.broadcast grammar IsReplyTo ReplyFits answers (IsCall version) (λ call h. call_plain call h.0) reply_plain
     (head.Broadcast version) (picture.Broadcast p) (whole p) (λ lines count h. h) (told version p) (picture_told version p sound values)
-    (broadcast-again version p sound values)
+    (sound, values, refl)
     entries run each few

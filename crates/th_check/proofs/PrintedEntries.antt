@@ -7,9 +7,8 @@ use Rattle.th_lines.specs.Lines.{lines_of}
 use Rattle.th_log.specs.History.{Machine, IsRun}
 use Rattle.th_traces.specs.declared.head.Head.{Head}
 use Rattle.th_traces.specs.declared.picture.Picture.{Picture}
-use Rattle.th_traces.specs.declared.place.Place.TheVariants.{Nothing}
 use Rattle.th_traces.specs.Grammars.{Grammar, fields, reply_of}
-use Rattle.th_traces.specs.Pictures.{Begun, leads}
+use Rattle.th_traces.specs.Shown.{Spells}
 use Rattle.th_traces.specs.Spelled.{Bytes, PictureFields, call_line, end_line, entry_lines, picture_lines, reply_line, text, trace_lines}
 use Rattle.th_check.specs.Histories.{HasHistory, IsHistory, entry_fields}
 use Rattle.th_check.specs.Printed.{IsPrinted}
@@ -51,7 +50,7 @@ module _ {F E S C R : Type 0} (m : Machine E S C R) (g : Grammar F C R) (IsReply
         → ((reply : R) → Fits reply → IsLine (reply_line (g.reply_fields reply)))
         → (h : Head) (p : Picture) (state : E) →
         ((lines : List Bytes) (count : ℕ) → IsHistory m IsEntry (entry_fields g) state lines count → HasHistory h p lines count)
-        → (t : PictureFields) → ArePlainFields t → leads Nothing (picture_lines t) ≡ Some (Begun h p)
+        → (t : PictureFields) → ArePlainFields t → Spells h p (picture_lines t)
         → (entries : List (C × R)) → IsRun m state entries → AllByRecursion (IsPrinted IsCall Fits) entries → length entries ≤ most_entries
         → IsLegalText (lines_of (text (trace_lines t (fields g entries)))) (length entries)
     printed_legal call_plain reply_plain h p state is t plain read entries run printed few =

@@ -1,5 +1,5 @@
 -- Lines that were printed are read as they stand.
-use Rattle.std.proofs.Common.{◌≡◌, ℕ, zero, suc, ◌+◌, ◌-◌, ◌<◌, ◌≤◌, ◌^◌, Bool, true, false, cond, eqb, List, [], ◌∷◌, ◌++◌, length, map, take, get_or, refl, ap, ap₂, ◌∙◌, append_assoc, arith, length-append, Some}
+use Rattle.std.proofs.Common.{◌≡◌, ℕ, zero, suc, ◌+◌, ◌-◌, ◌<◌, ◌≤◌, ◌^◌, Bool, true, false, cond, eqb, List, [], ◌∷◌, ◌++◌, length, map, take, get_or, refl, ap, ap₂, ◌∙◌, append_assoc, arith, length-append}
 use Rattle.std.specs.Prelude.{◌&&◌, codes, nat_le}
 use Rattle.std.specs.Fmt.{decimal}
 use Rattle.std.specs.Io.BufRead.{ends_with_byte}
@@ -15,8 +15,7 @@ use Rattle.th_lines.proofs.LineLaws.{at_lf}
 use Rattle.th_lines.proofs.Numbers.{and_both, and_parts, decimal-digits}
 use Rattle.th_traces.specs.declared.head.Head.{Head}
 use Rattle.th_traces.specs.declared.picture.Picture.{Picture}
-use Rattle.th_traces.specs.declared.place.Place.TheVariants.{Nothing}
-use Rattle.th_traces.specs.Pictures.{Begun, leads}
+use Rattle.th_traces.specs.Shown.{Spells}
 use Rattle.th_traces.specs.Spelled.{Bytes, PictureFields, call_line, end_line, entry_lines, kept_line, line, picture_lines, receiver_line, reply_line, sender_line, start_line, text, trace_lines}
 use Rattle.th_traces.specs.Tables.{IsNumber}
 use Rattle.th_traces.proofs.Further.{not_true}
@@ -195,9 +194,9 @@ end_plain count h =
 -- the lines of a whole trace are those of its picture, and below them those of its history
 pub traced : (t : PictureFields) (es : List (List Bytes × List Bytes)) (h : Head) (p : Picture) (count : ℕ) → ArePlainFields t
     → AllByRecursion IsEntryPlain es → IsNumber (length es)
-    → leads Nothing (picture_lines t) ≡ Some (Begun h p) → HasHistory h p (entry_lines es ++ end_line (length es) ∷ []) count
+    → Spells h p (picture_lines t) → HasHistory h p (entry_lines es ++ end_line (length es) ∷ []) count
     → IsTrace (lines_of (text (trace_lines t es))) count
-traced t es h p count told each few drawn history = record {
+traced t es h p count told each few spelled history = record {
   front = picture_lines t;
   below = entry_lines es ++ end_line (length es) ∷ [];
   parts = lines_again (trace_lines t es)
@@ -205,6 +204,6 @@ traced t es h p count told each few drawn history = record {
       (all_both IsLine (entry_lines es) (end_line (length es) ∷ []) (entries_plain es each) (end_plain (length es) few, tt)));
   kind = h;
   shown = p;
-  drawn = drawn;
+  spelled = spelled;
   history = history;
 }

@@ -24,7 +24,6 @@ use Rattle.th_traces.specs.Spelled.{Bytes, call_line, reply_line}
 use Rattle.th_traces.specs.Traces.{watch_trace}
 use Rattle.th_traces.specs.Watch.{call_fields, reply_fields, seen_or_unseen, standing, told}
 use Rattle.th_traces.specs.WatchWords.{HandsBack, IsCall, IsReplyTo, ReplyFits, grammar, reply_of, value_given}
-use Rattle.th_traces.proofs.WatchAgain.{watch-again}
 use Rattle.th_traces.proofs.WatchSpelling.{reply_of-again, reply_of-found}
 use Rattle.th_check.specs.Points.{watch_machine}
 use Rattle.th_check.specs.Printed.{IsWatchPrinted}
@@ -169,4 +168,4 @@ pub watch_legal : (p : Picture Bytes) (entries : List Entry) → IsSound p → I
 watch_legal p entries sound run value printed few =
     printed_legal watch_machine grammar IsReplyTo ReplyFits answers IsCall call_plain reply_plain head.Watch (picture.Watch p) (whole p)
     (λ lines count h. h)
-    (told p) (picture_told p sound value) (watch-again p sound value) entries run printed few
+    (told p) (picture_told p sound value) (sound, value, refl) entries run printed few

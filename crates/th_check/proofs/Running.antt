@@ -20,7 +20,7 @@ use Rattle.th_check.specs.declared.point.Spot.TheVariants as spot
 use Rattle.th_check.specs.declared.verdict.Verdict.{Verdict}
 use Rattle.th_check.specs.declared.verdict.Verdict.TheVariants as verdict
 use Rattle.th_check.specs.Checked.{Checked, IsGoodSoFar, Stopped}
-use Rattle.th_check.specs.Judging.{Concludes, EndSays, Halts, Holds, IsReached, Passes, Reached, StopsAt, Takes, taken}
+use Rattle.th_check.specs.Judging.{Concludes, EndSays, Halts, Holds, IsHeldAfter, IsReached, Passes, Reached, StopsAt, Takes, taken}
 use Rattle.th_check.specs.Points.{Point, start}
 use Rattle.th_check.specs.Verdicts.{IsSo, Leads}
 
@@ -49,7 +49,7 @@ abbrev is_legal : Verdict → Bool
 is_legal (verdict.Legal n) = true
 is_legal v = false
 
-no_legal : {A : Type 0} (v : Verdict) (n : ℕ) → is_legal v ≡ false → v ≡ verdict.Legal n → A
+pub no_legal : {A : Type 0} (v : Verdict) (n : ℕ) → is_legal v ≡ false → v ≡ verdict.Legal n → A
 no_legal v n e f = absurd (false≢true (sym e ∙ ap is_legal f))
 
 so_at : (v : Verdict) (lines : List Line) (judged : ℕ) (there : Point) → Leads start lines there → EndSays there judged v →
@@ -93,6 +93,22 @@ module _ (r r' : Option (List ℕ)) where
             (so_at v (lines_of s.input) f.taken there.0 there.1 (says there.0 there.2) s.counted);
         whole = λ n e. s.whole;
       }
+
+  held_at_end : (f : Feeding) (now : Reached) (v : Verdict) → Finished Passes Halts r r' first f now →
+      ((here : Point) → Holds here now.0 → EndSays here f.taken v) → IsHeldAfter r r' v now.0
+  held_at_end f now (verdict.Legal count) s says =
+      let there = s.stands start refl in
+      record {
+        input = s.input;
+        read = s.read;
+        whole = s.whole;
+        end = there.0;
+        led = there.1;
+        ended = says there.0 there.2;
+        holds = there.2;
+      }
+  held_at_end f now (verdict.Illegal number) s says = tt
+  held_at_end f now (verdict.BadTrace number) s says = tt
 
   -- a line stopped the code
   halted : (f : Feeding) (now : Reached) (why : Stop) (v : Verdict) → Halted Passes Halts r r' first f why now →
@@ -174,6 +190,18 @@ module _ (r r' : Option (List ℕ)) where
     says_so why.Full (Ok said) s c = absurd c
     says_so why.Failed (Ok said) s c = absurd c
     says_so why.Spent (Ok said) s c = absurd c
+
+    pub held_so : (fed : Fed Stop) (result : Result (Verdict × A) CheckFault) →
+        Stands Passes Halts r r' first IsReached (kept_count calls' ≡ kept_count (calls + n)) n fed f now
+        → Concludes fed now.0 f.taken result → IfOk result (λ said. IsHeldAfter r r' said.0 now.0)
+    held_so fed (Err e) s c = tt
+    held_so why.Ended (Ok said) s c = held_at_end f now said.0 s c
+    held_so (why.Stopped stop.Bad) (Ok said) s c = subst (λ (v : Verdict). IsHeldAfter r r' v now.0) (sym c) tt
+    held_so (why.Stopped (stop.Illegal own)) (Ok said) s c = subst (λ (v : Verdict). IsHeldAfter r r' v now.0) (sym c) tt
+    held_so (why.Stopped stop.Short) (Ok said) s c = absurd c
+    held_so why.Full (Ok said) s c = absurd c
+    held_so why.Failed (Ok said) s c = absurd c
+    held_so why.Spent (Ok said) s c = absurd c
 
     pub stops_so : (fed : Fed Stop) (result : Result (Verdict × A) CheckFault) →
         Stands Passes Halts r r' first IsReached (kept_count calls' ≡ kept_count (calls + n)) n fed f now

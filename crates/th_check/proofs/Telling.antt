@@ -9,6 +9,7 @@ use Rattle.th_lines.specs.Fields.{number_last}
 use Rattle.th_lines.proofs.Grammar.{table-finds, number_last-finds, number_last-again}
 use Rattle.th_lines.proofs.Tables.{◌&◌}
 use Rattle.th_log.specs.History.{Machine, IsRun}
+use Rattle.th_log.specs.History.{end_of as end_state}
 use Rattle.th_traces.specs.Entries.{end_of}
 use Rattle.th_traces.specs.Spelled.{Bytes, call_line, end_line, entry_lines, reply_line}
 use Rattle.th_traces.specs.Tables.{Table}
@@ -60,40 +61,45 @@ module _ {E S C R : Type 0} (m : Machine E S C R) (words : Words C R) (IsCall : 
   fields e = (call_fields e.0, reply_fields e.1)
 
   -- what is left below a stage
-  pub record From (state : E) (before : ℕ) (lines : List Bytes) (count : ℕ) : Type 0 where
+  pub record From (state : E) (before : ℕ) (lines : List Bytes) (count : ℕ) (last : E) : Type 0 where
     pub entries : List (C × R)
     pub run : IsRun m state entries
     pub each : AllByRecursion IsEntry entries
     pub told : lines ≡ entry_lines (map fields entries) ++ end_line count ∷ []
+    pub to : end_state m state entries ≡ last
     pub counted : before + length entries ≡ count
     pub most : count ≤ most_entries
 
-  pub history_of : (state : E) (lines : List Bytes) (count : ℕ) → From state 0 lines count → IsHistory m IsEntry fields state lines count
-  history_of state lines count f = record {
-    entries = f.entries;
-    run = f.run;
-    each = f.each;
-    told = f.told;
-    counted = omega (arith, f.counted);
-    most = f.most;
-  }
+  pub history_of : (state : E) (lines : List Bytes) (count : ℕ) (last : E) → From state 0 lines count last →
+      (h : IsHistory m IsEntry fields state lines count) × (end_state m state h.entries ≡ last)
+  history_of state lines count last f = (
+    record {
+      entries = f.entries;
+      run = f.run;
+      each = f.each;
+      told = f.told;
+      counted = omega (arith, f.counted);
+      most = f.most;
+    },
+    f.to,
+  )
 
-  abbrev pub Below : Stage E C → List Bytes → ℕ → Type 0
-  Below (CallDue state before) lines count = From state before lines count
-  Below (ReplyDue state before call) lines count =
+  abbrev pub Below : Stage E C → List Bytes → ℕ → E → Type 0
+  Below (CallDue state before) lines count last = From state before lines count last
+  Below (ReplyDue state before call) lines count last =
       (line : Bytes) × (later : List Bytes) × (lines ≡ line ∷ later) × SaysReply m words state call line
-      × From (m.step state call).1 (before + 1) later count
-  Below (Ended told) lines count = (lines ≡ []) × (told ≡ count)
+      × From (m.step state call).1 (before + 1) later count last
+  Below (Ended state told) lines count last = (lines ≡ []) × (told ≡ count) × (state ≡ last)
 
   abbrev pub Fits : Stage E C → Type 0
   Fits (CallDue state before) = before ≤ most_entries
   Fits (ReplyDue state before call) = before < most_entries
-  Fits (Ended told) = told ≤ most_entries
+  Fits (Ended state told) = told ≤ most_entries
 
   -- what a line was where a call was due
   abbrev Begins : E → ℕ → Option C → Option ℕ → Stage E C → Type 0
   Begins state before said told stage = ((call : C) × (said ≡ Some call) × (before < most_entries) × (stage ≡ ReplyDue state before call))
-      ⊎ ((told ≡ Some before) × (stage ≡ Ended before))
+      ⊎ ((told ≡ Some before) × (stage ≡ Ended state before))
 
   module _ (state : E) (before : ℕ) (stage : Stage E C) where
     by_call : (call : C) (told : Option ℕ) → begins m words state before (Some call) told ≡ Some stage →
@@ -112,7 +118,7 @@ module _ {E S C R : Type 0} (m : Machine E S C R) (words : Words C R) (IsCall : 
           (none-some stage (sym (ap (λ (b : Bool). cond b (Some (ReplyDue state before call)) None) (le-ltb before most_entries high)) ∙ h))
     ]
 
-    by_end : (told : ℕ) (b : Bool) → eqb told before ≡ b → cond b (Some (Ended before)) None ≡ Some stage →
+    by_end : (told : ℕ) (b : Bool) → eqb told before ≡ b → cond b (Some (Ended state before)) None ≡ Some stage →
         Begins state before None (Some told) stage
     by_end told true e h = inr (ap Some (eqb-true told before e), sym (same_Some _ _ h))
     by_end told false e h = absurd (none-some stage h)
@@ -132,8 +138,9 @@ module _ {E S C R : Type 0} (m : Machine E S C R) (words : Words C R) (IsCall : 
       (no_call : (count : ℕ) → words.call_of (end_line count) ≡ None) where
     -- one line more
     one_entry : (state : E) (before : ℕ) (line : List ℕ) (call : C) → words.call_of line ≡ Some call
-        → (lines : List Bytes) (count : ℕ) → Below (ReplyDue state before call) lines count → From state before (line ∷ lines) count
-    one_entry state before line call said lines count b =
+        → (lines : List Bytes) (count : ℕ) (last : E) → Below (ReplyDue state before call) lines count last
+        → From state before (line ∷ lines) count last
+    one_entry state before line call said lines count last b =
         let reply : R = (m.step state call).0 in
         let c = call_found line call said in
         let r = reply_found call b.0 reply b.3.1 in
@@ -143,17 +150,19 @@ module _ {E S C R : Type 0} (m : Machine E S C R) (words : Words C R) (IsCall : 
           run = (b.3.0, refl, f.run);
           each = ((c.0, r.0), f.each);
           told = ap₂ (λ (l : Bytes) (ls : List Bytes). l ∷ ls) c.1 (b.2 ∙ ap₂ (λ (l : Bytes) (ls : List Bytes). l ∷ ls) r.1 f.told);
+          to = f.to;
           counted = omega (arith, f.counted);
           most = f.most;
         }
 
     at_end : (state : E) (before : ℕ) (line : List ℕ) → before ≤ most_entries → end_of line ≡ Some before
-        → (lines : List Bytes) (count : ℕ) → lines ≡ [] → before ≡ count → From state before (line ∷ lines) count
+        → (lines : List Bytes) (count : ℕ) → lines ≡ [] → before ≡ count → From state before (line ∷ lines) count state
     at_end state before line few said lines count none same = record {
       entries = [];
       run = tt;
       each = tt;
       told = ap₂ (λ (l : Bytes) (ls : List Bytes). l ∷ ls) (end_found line before said ∙ ap end_line same) none;
+      to = refl;
       counted = omega (arith, same);
       most = omega (arith, few, same);
     }
@@ -165,26 +174,28 @@ module _ {E S C R : Type 0} (m : Machine E S C R) (words : Words C R) (IsCall : 
     ]
     fits (ReplyDue state before call) line next f t =
         let more : before + 1 ≤ most_entries = omega (arith, f) in subst Fits (sym t.1) more
-    fits (Ended told) line next f t = absurd t
+    fits (Ended state told) line next f t = absurd t
 
-    pub below : (stage : Stage E C) (line : List ℕ) (next : Stage E C) (lines : List Bytes) (count : ℕ) → Fits stage →
+    pub below : (stage : Stage E C) (line : List ℕ) (next : Stage E C) (lines : List Bytes) (count : ℕ) (last : E) → Fits stage →
         Turns m words stage line (On next)
-        → Below next lines count → Below stage (line ∷ lines) count
-    below (CallDue state before) line next lines count f t b = elim (begins_cases state before next (words.call_of line) (end_of line) t) [
-      | inl c ↦ one_entry state before line c.0 c.1 lines count (subst (λ (s : Stage E C). Below s lines count) c.3 b)
+        → Below next lines count last → Below stage (line ∷ lines) count last
+    below (CallDue state before) line next lines count last f t b = elim (begins_cases state before next (words.call_of line) (end_of line) t) [
+      | inl c ↦ one_entry state before line c.0 c.1 lines count last (subst (λ (s : Stage E C). Below s lines count last) c.3 b)
       | inr e ↦
-          (let d : Below (Ended before) lines count = subst (λ (s : Stage E C). Below s lines count) e.1 b in
-          at_end state before line f e.0 lines count d.0 d.1)
+          (let d : Below (Ended state before) lines count last = subst (λ (s : Stage E C). Below s lines count last) e.1 b in
+          subst (λ (l : E). From state before (line ∷ lines) count l) d.2 (at_end state before line f e.0 lines count d.0 d.1))
     ]
-    below (ReplyDue state before call) line next lines count f t b =
-        (line, lines, refl, t.0, subst (λ (s : Stage E C). Below s lines count) t.1 b)
-    below (Ended told) line next lines count f t b = absurd t
+    below (ReplyDue state before call) line next lines count last f t b =
+        (line, lines, refl, t.0, subst (λ (s : Stage E C). Below s lines count last) t.1 b)
+    below (Ended state told) line next lines count last f t b = absurd t
 
     -- at the end
-    pub nothing_below : (stage : Stage E C) (count : ℕ) → ended_stage stage ≡ Some count → Below stage [] count
+    pub nothing_below : (stage : Stage E C) (count : ℕ) → ended_stage stage ≡ Some count
+        → (last : E) × (stage ≡ Ended last count) × Below stage [] count last
     nothing_below (CallDue state before) count e = absurd (none-some count e)
     nothing_below (ReplyDue state before call) count e = absurd (none-some count e)
-    nothing_below (Ended told) count e = (refl, same_Some told count e)
+    nothing_below (Ended state told) count e =
+        let same = same_Some told count e in (state, ap (λ (n : ℕ). Ended state n) same, (refl, same, refl))
 
     -- on the points of a kind
     module _ (point : Stage E C → Point)
@@ -194,14 +205,22 @@ module _ {E S C R : Type 0} (m : Machine E S C R) (words : Words C R) (IsCall : 
         Does (point stage) (Good line) (On (point next)))
         (ended : (stage : Stage E C) → ended_with (point stage) ≡ ended_stage stage) where
       pub lines_below : (stage : Stage E C) → Fits stage → (lines : List Line) (there : Point) → Leads (point stage) lines there
-          → (count : ℕ) → ended_with there ≡ Some count → (left : List Bytes) × (lines ≡ map Good left) × Below stage left count
-      lines_below stage f [] there led count e = ([], refl, nothing_below stage count (sym (ended stage) ∙ ap ended_with (sym led) ∙ e))
+          → (count : ℕ) → ended_with there ≡ Some count
+          → (left : List Bytes) × (lines ≡ map Good left) × (last : E) × (there ≡ point (Ended last count)) × Below stage left count last
+      lines_below stage f [] there led count e =
+          let n = nothing_below stage count (sym (ended stage) ∙ ap ended_with (sym led) ∙ e) in
+          ([], refl, n.0, led ∙ ap point n.1, n.2)
       lines_below stage f (Long ∷ lines) there led count e = on_bad led.0 led.1
       lines_below stage f (Good line ∷ lines) there led count e =
           let d = does_on stage line led.0 led.1 in
           let later =
-          lines_below d.0 (fits stage line d.0 f d.1) lines there (subst (λ (p : Point). Leads p lines there) d.2 led.2) count e in
-          (line ∷ later.0, ap (λ (l : List Line). Good line ∷ l) later.1, below stage line d.0 later.0 count f d.1 later.2)
+          lines_below d.0 (fits stage line d.0 f d.1) lines there (subst (λ (p : Point). Leads p lines there) d.2 led.2) count e in (
+            line ∷ later.0,
+            ap (λ (l : List Line). Good line ∷ l) later.1,
+            later.2,
+            later.3,
+            below stage line d.0 later.0 count later.2 f d.1 later.4,
+          )
 
       -- and back
       call_turn : (state : E) (before : ℕ) (call : C) → IsCall call → before < most_entries
@@ -210,20 +229,22 @@ module _ {E S C R : Type 0} (m : Machine E S C R) (words : Words C R) (IsCall : 
           ap (λ (o : Option C). begins m words state before o (end_of (call_line (call_fields call)))) (call_again call is)
           ∙ ap (λ (b : Bool). cond b (Some (ReplyDue state before call)) None) (lt-ltb before most_entries low)
 
-      end_turn : (state : E) (count : ℕ) → count ≤ most_entries → Turns m words (CallDue state count) (end_line count) (On (Ended count))
+      end_turn : (state : E) (count : ℕ) → count ≤ most_entries → Turns m words (CallDue state count) (end_line count) (On (Ended state count))
       end_turn state count few = ap (λ (o : Option C). begins m words state count o (end_of (end_line count))) (no_call count)
           ∙ ap (λ (o : Option ℕ). begins m words state count None o) (end_again count (omega (arith, few)))
-          ∙ ap (λ (b : Bool). cond b (Some (Ended count)) None) (eq-eqb count count refl)
+          ∙ ap (λ (b : Bool). cond b (Some (Ended state count)) None) (eq-eqb count count refl)
 
       pub entries_lead : (state : E) (before : ℕ) (entries : List (C × R)) (count : ℕ) → IsRun m state entries →
           AllByRecursion IsEntry entries
           → before + length entries ≡ count → count ≤ most_entries
-          → Leads (point (CallDue state before)) (map Good (entry_lines (map fields entries) ++ end_line count ∷ [])) (point (Ended count))
+          → Leads (point (CallDue state before)) (map Good (entry_lines (map fields entries) ++ end_line count ∷ []))
+          (point (Ended (end_state m state entries) count))
       entries_lead state before [] count run each counted most =
           let same : count ≡ before = omega (arith, counted) in (
-            point (Ended count),
-            on_does (CallDue state before) (end_line count) (Ended count)
-                (subst (λ (k : ℕ). Turns m words (CallDue state k) (end_line count) (On (Ended count))) same (end_turn state count most)),
+            point (Ended state count),
+            on_does (CallDue state before) (end_line count) (Ended state count)
+                (subst (λ (k : ℕ). Turns m words (CallDue state k) (end_line count) (On (Ended state count))) same
+                (end_turn state count most)),
             refl,
           )
       entries_lead state before (e ∷ es) count run each counted most =
@@ -240,8 +261,9 @@ module _ {E S C R : Type 0} (m : Machine E S C R) (words : Words C R) (IsCall : 
             ),
           )
 
-      pub history_leads : (state : E) (lines : List Bytes) (count : ℕ) → IsHistory m IsEntry fields state lines count
-          → Leads (point (CallDue state 0)) (map Good lines) (point (Ended count))
+      pub history_leads : (state : E) (lines : List Bytes) (count : ℕ) (h : IsHistory m IsEntry fields state lines count)
+          → Leads (point (CallDue state 0)) (map Good lines) (point (Ended (end_state m state h.entries) count))
       history_leads state lines count h =
-          subst (λ (l : List Bytes). Leads (point (CallDue state 0)) (map Good l) (point (Ended count))) (sym h.told)
+          subst (λ (l : List Bytes). Leads (point (CallDue state 0)) (map Good l) (point (Ended (end_state m state h.entries) count)))
+          (sym h.told)
           (entries_lead state 0 h.entries count h.run h.each (omega (arith, h.counted)) h.most)

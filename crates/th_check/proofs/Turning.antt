@@ -41,22 +41,23 @@ module _ {E S C R : Type 0} (m : Machine E S C R) (IsProper : E → Type 0) (wor
     )
 
     -- no call: the end line, or a bad one
-    module _ (held : Course S C) (same : held.count ≡ count) (over : held.due ≡ due.Nothing) where
+    module _ (held : Course S C) (shown : IsShown m IsProper state held.channel) (same : held.count ≡ count)
+        (over : held.due ≡ due.Nothing) where
       end_turns : (told : Option ℕ) (result : Result (Unit {0}) Stop) → end_of line ≡ told → words.call_of line ≡ None
           → EndsAt count told result
           → TurnsTo m IsProper words (CallDue state count) line (taken result held)
       end_turns told (Ok done) t e h = (
-        Ended count,
+        Ended state count,
         ap (λ (o : Option C). begins m words state count o (end_of line)) e
             ∙ ap (λ (o : Option ℕ). begins m words state count None o) (t ∙ h)
-            ∙ ap (λ (b : Bool). cond b (Some (Ended count)) None) (eq-eqb count count refl),
-        subst (λ (d : Due C). ShowsBy m IsProper (Ended count) held.channel held.count d) (sym over) same,
+            ∙ ap (λ (b : Bool). cond b (Some (Ended state count)) None) (eq-eqb count count refl),
+        subst (λ (d : Due C). ShowsBy m IsProper (Ended state count) held.channel held.count d) (sym over) (shown, same),
       )
       end_turns None (Err stop.Bad) t e h = ap (λ (o : Option C). begins m words state count o (end_of line)) e
           ∙ ap (λ (o : Option ℕ). begins m words state count None o) t
       end_turns (Some told) (Err stop.Bad) t e h = ap (λ (o : Option C). begins m words state count o (end_of line)) e
           ∙ ap (λ (o : Option ℕ). begins m words state count None o) t
-          ∙ ap (λ (b : Bool). cond b (Some (Ended count)) None) (ne_eqb told count (λ k. h (ap Some k)))
+          ∙ ap (λ (b : Bool). cond b (Some (Ended state count)) None) (ne_eqb told count (λ k. h (ap Some k)))
       end_turns told (Err (stop.Illegal own)) t e h = absurd h
       end_turns told (Err stop.Short) t e h = absurd h
 
@@ -114,7 +115,7 @@ module _ {E S C R : Type 0} (m : Machine E S C R) (IsProper : E → Type 0) (wor
       by_stage (CallDue state told) k = absurd k
       by_stage (ReplyDue state told given) k = subst (λ (c : C). TurnsTo m IsProper words (ReplyDue state told c) line result) k.2
           (h state told k.0 k.1)
-      by_stage (Ended told) k = absurd k
+      by_stage (Ended state told) k = absurd k
 
   pub at_end : (object : S) (count : ℕ) (next : Due C) → next ≡ due.Nothing → (line : List ℕ)
       → (stage : Stage E C) → ShowsBy m IsProper stage object count next → TurnsTo m IsProper words stage line (Err stop.Bad)
@@ -124,4 +125,4 @@ module _ {E S C R : Type 0} (m : Machine E S C R) (IsProper : E → Type 0) (wor
           → TurnsTo m IsProper words stage line (Err stop.Bad)
       by_stage (CallDue state told) k = absurd k
       by_stage (ReplyDue state told given) k = absurd k
-      by_stage (Ended told) k = tt
+      by_stage (Ended state told) k = tt

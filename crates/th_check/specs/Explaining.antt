@@ -1,5 +1,7 @@
 -- What is told of a trace that is not legal.
 use Rattle.std.specs.Prelude.{◌≡◌, ℕ, List, ◌++◌, map, nat_lt, ◌==◌, if◌then◌else◌}
+use Rattle.th_check.specs.declared.parts.Joined.{Joined}
+use Rattle.th_check.specs.declared.parts.Joined.TheVariants.{Judged, Apart}
 use Rattle.th_check.specs.declared.verdict.Verdict.{Verdict}
 use Rattle.th_check.specs.declared.verdict.Verdict.TheVariants.{Legal, Illegal, BadTrace}
 
@@ -17,3 +19,8 @@ abbrev pub Explains : Verdict → List ℕ → List ℕ → Type 0
 Explains (Legal count) old new = new ≡ old
 Explains (Illegal number) old new = AddsPlain old new
 Explains (BadTrace number) old new = AddsPlain old new
+
+-- the same of what is said of a text that comes next in a history
+abbrev pub ExplainsNext : Joined → List ℕ → List ℕ → Type 0
+ExplainsNext (Judged said) old new = Explains said old new
+ExplainsNext Apart old new = new ≡ old

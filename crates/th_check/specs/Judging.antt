@@ -1,8 +1,11 @@
 -- How the code goes through a trace: what it holds at a point, and what each of its steps does.
-use Rattle.std.specs.Prelude.{◌≡◌, ℕ, ◌+◌, Bool, true, List, [], ◌∷◌, ◌++◌, length, Option, Some, None, is_some, Result, Ok, Err}
+use Rattle.std.specs.Prelude.{◌≡◌, ℕ, ◌+◌, true, List, [], ◌∷◌, ◌++◌, Option, Some, None, is_some, Result, Ok, Err}
+use Rattle.std.specs.Io.KnownBytes.{Consumes, IsAtEnd}
 use Rattle.th_model.specs.BroadcastMachine as broadcast
+use Rattle.th_model.specs.BroadcastPicture as broadcast_picture
 use Rattle.th_model.specs.WatchMachine as watch
-use Rattle.th_lines.specs.Lines.{Line}
+use Rattle.th_model.specs.WatchPicture as watch_picture
+use Rattle.th_lines.specs.Lines.{Line, lines_of}
 use Rattle.th_lines.specs.declared.feeder.Fed.{Fed}
 use Rattle.th_lines.specs.declared.feeder.Fed.TheVariants as why
 use Rattle.th_log.specs.History.{Machine}
@@ -22,7 +25,7 @@ use Rattle.th_check.specs.declared.fault.CheckFault.{CheckFault}
 use Rattle.th_check.specs.declared.fault.CheckFault.TheVariants as fault
 use Rattle.th_check.specs.declared.verdict.Verdict.{Verdict}
 use Rattle.th_check.specs.declared.verdict.Verdict.TheVariants as verdict
-use Rattle.th_check.specs.Points.{Point, InPicture, InBroadcast, InWatch, Does, ExpectsAt, ended_with, entries_of, watch_machine}
+use Rattle.th_check.specs.Points.{Point, InPicture, InBroadcast, InWatch, Does, ExpectsAt, ended_with, entries_of, start, watch_machine}
 use Rattle.th_check.specs.Stages.{Stage, CallDue, ReplyDue, Ended, On, Bad, Illegal, Expects, Turns, Words}
 use Rattle.th_check.specs.Verdicts.{Leads}
 
@@ -42,7 +45,7 @@ module _ {E S C R : Type 0} (m : Machine E S C R) (IsProper : E → Type 0) wher
   ShowsBy (CallDue state count) picture told due.Call = IsShown state picture × (told ≡ count)
   ShowsBy (ReplyDue state count call) picture told (due.Reply given) =
       IsShown state picture × (told ≡ count + 1) × (given ≡ call)
-  ShowsBy (Ended count) picture told due.Nothing = told ≡ count
+  ShowsBy (Ended state count) picture told due.Nothing = IsShown state picture × (told ≡ count)
   ShowsBy stage picture told next = ⊥
 
   abbrev pub Shows : Stage E C → Course S C → Type 0
@@ -56,6 +59,10 @@ module _ {E S C R : Type 0} (m : Machine E S C R) (IsProper : E → Type 0) wher
   TurnsTo words stage line (Err (stop.Illegal expected)) =
       Turns m words stage line Illegal × Expects m words stage expected
   TurnsTo words stage line (Err stop.Short) = Unit {0}
+
+-- what is held where the entries begin
+abbrev pub unbegun : {S C : Type 0} → S → Course S C
+unbegun picture = record { channel = picture; count = 0; due = due.Call }
 
 -- the number of entries was told, or another line is bad
 abbrev pub EndsAt : ℕ → Option ℕ → Result (Unit {0}) Stop → Type 0
@@ -81,12 +88,18 @@ abbrev pub IsJudged : {R : Type 0} → Option R → R → Expected → Result (U
 IsJudged said reply own (Ok done) = said ≡ Some reply
 IsJudged said reply own (Err why) = IsOther said own why × (said ≡ Some reply → ⊥)
 
+-- the picture that is kept is the one at which the entries began, and is sound
+abbrev pub IsFrom : {S : Type 0} → (S → Type 0) → S → S → Type 0
+IsFrom is_sound from kept = is_sound from × (kept ≡ from)
+
 -- the code holds this point
 abbrev pub Holds : Point → Spot → Type 0
 Holds (InPicture place) (spot.InPicture draft) = draft ≡ place
-Holds (InBroadcast version stage) (spot.InBroadcast told held) =
-    (told ≡ version) × Shows machines.broadcast broadcast.IsProper stage held
-Holds (InWatch stage) (spot.InWatch held) = Shows watch_machine watch.IsProper stage held
+Holds (InBroadcast version from stage) (spot.InBroadcast told kept held) = (told ≡ version)
+    × IsFrom broadcast_picture.IsSound from kept
+    × Shows machines.broadcast broadcast.IsProper stage held
+Holds (InWatch from stage) (spot.InWatch kept held) =
+    IsFrom watch_picture.IsSound from kept × Shows watch_machine watch.IsProper stage held
 Holds point held = ⊥
 
 -- The line is a reply of good form that is not the machine's. That one is this.
@@ -147,6 +160,21 @@ abbrev pub EndSays : Point → ℕ → Verdict → Type 0
 EndSays here judged (verdict.Legal count) = ended_with here ≡ Some count
 EndSays here judged (verdict.Illegal number) = ⊥
 EndSays here judged (verdict.BadTrace number) = (ended_with here ≡ None) × (number ≡ judged + 1)
+
+-- This was read to its end, and is a legal text with so many entries, which lead to what the code holds.
+pub record IsEndedWith (reader reader' : Option (List ℕ)) (count : ℕ) (held : Spot) : Type 0 where
+  pub input : List ℕ
+  pub read : Consumes reader reader' input
+  pub whole : IsAtEnd reader'
+  pub end : Point
+  pub led : Leads start (lines_of input) end
+  pub ended : ended_with end ≡ Some count
+  pub holds : Holds end held
+
+-- what is held after a verdict
+abbrev pub IsHeldAfter : Option (List ℕ) → Option (List ℕ) → Verdict → Spot → Type 0
+IsHeldAfter reader reader' (verdict.Legal count) held = IsEndedWith reader reader' count held
+IsHeldAfter reader reader' said held = Unit {0}
 
 -- what comes of a check after so many lines, by why no further line is fed
 abbrev pub Concludes : {A : Type 0} → Fed Stop → Spot → ℕ → Result (Verdict × A) CheckFault → Type 0

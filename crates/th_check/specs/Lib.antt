@@ -6,3 +6,5 @@ pub mod Checked
 pub mod Judging
 pub mod Printed
 pub mod Explaining
+pub mod Joined
+pub mod Spans

@@ -33,11 +33,12 @@ BroadcastStage = Stage (broadcast.Endless Bytes) (BCall Bytes)
 abbrev pub WatchStage : Type 0
 WatchStage = Stage (watch.Endless Bytes) (WCall Bytes)
 
--- how far a trace was judged: within its picture, or below it
+-- how far a trace was judged: within its picture, or below it, where the entries began from a picture
 pub data Point : Type 0 where
   InPicture : (place : Place) → Point
-  InBroadcast : (version : Version) (stage : Stage (broadcast.Endless Bytes) (BCall Bytes)) → Point
-  InWatch : (stage : Stage (watch.Endless Bytes) (WCall Bytes)) → Point
+  InBroadcast : (version : Version) (from : broadcast_picture.Picture Bytes)
+      (stage : Stage (broadcast.Endless Bytes) (BCall Bytes)) → Point
+  InWatch : (from : watch_picture.Picture Bytes) (stage : Stage (watch.Endless Bytes) (WCall Bytes)) → Point
 
 -- no line was judged
 abbrev pub start : Point
@@ -57,8 +58,8 @@ words_of_watch = words_of watch_words.grammar expected.Watch tt
 -- Where the picture is whole the entries begin, from the state that remembers no more than it shows.
 abbrev pub entries_of : Head → Picture → Turn Point
 entries_of (head.Broadcast version) (picture.Broadcast p) =
-    On (InBroadcast version (CallDue (broadcast_picture.whole p) 0))
-entries_of head.Watch (picture.Watch p) = On (InWatch (CallDue (watch_picture.whole p) 0))
+    On (InBroadcast version p (CallDue (broadcast_picture.whole p) 0))
+entries_of head.Watch (picture.Watch p) = On (InWatch p (CallDue (watch_picture.whole p) 0))
 entries_of h p = Bad
 
 -- where a line of a picture leads
@@ -77,27 +78,27 @@ lifted point Illegal = Illegal
 abbrev pub Does : Point → Line → Turn Point → Type 0
 Does point Long turn = turn ≡ Bad
 Does (InPicture place) (Good line) turn = turn ≡ picture_turn (pictures.step place line)
-Does (InBroadcast version stage) (Good line) turn =
+Does (InBroadcast version from stage) (Good line) turn =
     (at : Turn BroadcastStage)
     × Turns machines.broadcast (words_of_broadcast version) stage line at
-    × (turn ≡ lifted (InBroadcast version) at)
-Does (InWatch stage) (Good line) turn =
+    × (turn ≡ lifted (InBroadcast version from) at)
+Does (InWatch from stage) (Good line) turn =
     (at : Turn WatchStage) × Turns watch_machine words_of_watch stage line at
-    × (turn ≡ lifted InWatch at)
+    × (turn ≡ lifted (InWatch from) at)
 
 -- the reply to a call is due at a point, and this is the one that is expected
 abbrev pub ExpectsAt : Point → Expected → Type 0
 ExpectsAt (InPicture place) reply = ⊥
-ExpectsAt (InBroadcast version stage) reply =
+ExpectsAt (InBroadcast version from stage) reply =
     Expects machines.broadcast (words_of_broadcast version) stage reply
-ExpectsAt (InWatch stage) reply = Expects watch_machine words_of_watch stage reply
+ExpectsAt (InWatch from stage) reply = Expects watch_machine words_of_watch stage reply
 
 -- the number of entries of a trace that has ended
 abbrev pub ended_stage : {E C : Type 0} → Stage E C → Option ℕ
-ended_stage (Ended count) = Some count
+ended_stage (Ended state count) = Some count
 ended_stage stage = None
 
 abbrev pub ended_with : Point → Option ℕ
 ended_with (InPicture place) = None
-ended_with (InBroadcast version stage) = ended_stage stage
-ended_with (InWatch stage) = ended_stage stage
+ended_with (InBroadcast version from stage) = ended_stage stage
+ended_with (InWatch from stage) = ended_stage stage

@@ -15,7 +15,7 @@ most_entries = 1000000
 pub data Stage (E C : Type 0) : Type 0 where
   CallDue : (state : E) (count : ℕ) → Stage E C
   ReplyDue : (state : E) (count : ℕ) (call : C) → Stage E C
-  Ended : (count : ℕ) → Stage E C
+  Ended : (state : E) (count : ℕ) → Stage E C
 
 -- What a line does: it leads on, or it is bad, or it is a reply of good form that is not the machine's.
 pub data Turn (P : Type 0) : Type 0 where
@@ -51,7 +51,7 @@ module _ {E S C R : Type 0} (m : Machine E S C R) (words : Words C R) where
   abbrev pub begins : E → ℕ → Option C → Option ℕ → Option (Stage E C)
   begins state count (Some call) end =
       if nat_lt count most_entries then Some (ReplyDue state count call) else None
-  begins state count None (Some told) = if told == count then Some (Ended count) else None
+  begins state count None (Some told) = if told == count then Some (Ended state count) else None
   begins state count None None = None
 
   -- the stage after a line where a call is due, or the end line
@@ -91,6 +91,6 @@ module _ {E S C R : Type 0} (m : Machine E S C R) (words : Words C R) where
       SaysReply state call line × (next ≡ answered state count call)
   Turns (ReplyDue state count call) line Bad = words.reply_of call line ≡ None
   Turns (ReplyDue state count call) line Illegal = SaysAnother state call line
-  Turns (Ended count) line (On next) = ⊥
-  Turns (Ended count) line Bad = Unit {0}
-  Turns (Ended count) line Illegal = ⊥
+  Turns (Ended state count) line (On next) = ⊥
+  Turns (Ended state count) line Bad = Unit {0}
+  Turns (Ended state count) line Illegal = ⊥

@@ -4,7 +4,7 @@ ghost use Rattle.th_lines.specs.Feeding.{beginning, failures_by};
 ghost use Rattle.th_traces.specs.declared.place.Place.TheVariants.{Nothing};
 ghost use Rattle.th_check.specs.declared.point.Spot.TheVariants as spot;
 ghost use Rattle.th_check.specs.Checked.{Checked, Stopped, failures_of, within_most};
-ghost use Rattle.th_check.specs.Judging.{Concludes, EndSays, Holds};
+ghost use Rattle.th_check.specs.Judging.{Concludes, EndSays, Holds, IsHeldAfter};
 ghost use Rattle.th_check.specs.Points.{Point};
 
 use crate::fault::{CheckFault, Expected, Stop};
@@ -22,7 +22,7 @@ const NO_BOUND: u64 = u64::MAX - 1;
 #[derive(Drop)]
 pub struct Checker {
     // What the lines that were judged led to.
-    spot: Spot,
+    pub(crate) spot: Spot,
     // What was read.
     pub(crate) feeder: Feeder,
     // How many of its lines were judged.
@@ -93,6 +93,8 @@ impl Checker {
         requires reads { reads ≤ 2 ^ 32 }
         ensures verdict { IfOk result (λ said. Checked
             (R.remaining reader.old.device) (R.remaining reader.new.device) said) }
+        ensures held { IfOk result (λ said. IsHeldAfter
+            (R.remaining reader.old.device) (R.remaining reader.new.device) said self.new.spot) }
         ensures fault { IfErr result (λ e. Stopped
             (R.remaining reader.old.device) (R.remaining reader.new.device)
             reader.old.calls reader.new.calls reads e) }
@@ -151,6 +153,8 @@ pub fn judge<R: Read>(
 ) -> Result<(Verdict, Checker), CheckFault>
     ensures verdict { IfOk result (λ said. Checked
         (R.remaining reader.old.device) (R.remaining reader.new.device) said.0) }
+    ensures held { IfOk result (λ said. IsHeldAfter
+        (R.remaining reader.old.device) (R.remaining reader.new.device) said.0 said.1.spot) }
     ensures fault { IfErr result (λ e. Stopped
         (R.remaining reader.old.device) (R.remaining reader.new.device)
         reader.old.calls reader.new.calls (within_most reads) e) }

@@ -1,7 +1,7 @@
 //! A channel that goes through the entries of a trace again.
-ghost use Rattle.std.specs.Prelude.{◌≡◌, ◌+◌, ℕ};
+ghost use Rattle.std.specs.Prelude.{◌≡◌, ◌+◌, ℕ, IfErr, IfOk};
 ghost use Rattle.th_traces.specs.Entries.{end_of};
-ghost use Rattle.th_check.specs.Judging.{EndsAt, IsShown, Shows, TurnsTo, seen, taken};
+ghost use Rattle.th_check.specs.Judging.{EndsAt, IsFrom, IsShown, Shows, TurnsTo, seen, taken, unbegun};
 ghost use Rattle.th_check.specs.Stages.{CallDue, IsKnown, ReplyDue, Stage, words_of};
 
 use crate::fault::Stop;
@@ -42,6 +42,33 @@ pub enum Due<C> {
     Reply(C),
     /// None: the trace has ended.
     Nothing,
+}
+
+// The channel that looks like a picture, before the entries of its trace; beside it the picture, as it is kept.
+pub(crate) fn begin<C: JudgedCall, K: Object<Call = C, Reply = C::Reply>>(
+    alloc: Global,
+    picture: K::State,
+) -> Result<(K::State, Course<K, C>), Stop>
+    requires lawful { K.lawful }
+    requires sound { K.is_sound picture }
+    ensures kept { IfOk result (λ begun. IsFrom K.is_sound picture begun.0) }
+    ensures begun { IfOk result (λ begun. seen K.shows begun.1 ≡ unbegun picture) }
+    ensures short { IfErr result (λ why. why ≡ Stop.Short) }
+{
+    let Ok(channel) = K::resume(alloc, picture) else {
+        return Err(Stop::Short);
+    };
+    // What is true of every channel's picture is said here.
+    let _live = channel.live();
+    let Ok(from) = channel.picture(alloc) else {
+        return Err(Stop::Short);
+    };
+    let course = Course {
+        channel,
+        count: 0,
+        due: Due::Call,
+    };
+    Ok((from, course))
 }
 
 // Judges one more line, without its line end. The course goes on in place.

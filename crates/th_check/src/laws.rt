@@ -1,8 +1,11 @@
 //! Laws of the definitions. The contract of each function is the law: what the body does is of no use but to its proof.
-ghost use Rattle.std.specs.Prelude.{◌≡◌, ◌↔◌, ◌≤◌, ℕ, List, length};
+ghost use Rattle.std.specs.Prelude.{◌≡◌, ◌↔◌, ◌≤◌, ◌⊎◌, ℕ, List, ◌∷◌, length, Option, None};
 ghost use Rattle.th_lines.specs.Lines.{Line, lines_of};
 ghost use Rattle.th_traces.specs.Traces.{broadcast_trace, watch_trace};
+ghost use Rattle.th_traces.specs.declared.picture.Picture.{Picture};
+ghost use Rattle.th_check.specs.declared.parts.Joined.{Joined};
 ghost use Rattle.th_check.specs.Histories.{IsTrace};
+ghost use Rattle.th_check.specs.Joined.{AreAdded, IsBroadcastHistory, IsWatchHistory, SaysNext};
 ghost use Rattle.th_check.specs.Stages.{most_entries};
 ghost use Rattle.th_check.specs.Verdicts.{IsLegalText, IsSo};
 
@@ -24,11 +27,28 @@ pub fn one_verdict()
     ValueWatch::are_exact();
 }
 
-/// Lines are a legal text with so many entries exactly where they are those of a picture, and below
-/// them the spelling of a history that is legal from it, with as many entries and no more than
-/// 1,000,000.
+/// Lines are a legal text with so many entries exactly where they are the spelling of a picture, and
+/// below it that of a history that is legal from it, with as many entries and no more than 1,000,000.
 pub fn legal_texts()
     ensures { (lines : List Line) (count : ℕ) → IsLegalText lines count ↔ IsTrace lines count }
+{}
+
+/// Of a text that comes next in a history one thing is said, and the history ends in one place then.
+pub fn one_next()
+    ensures { (here : Option Picture) (lines : List Line)
+        → (said other : Joined) (there elsewhere : Option Picture)
+        → SaysNext here lines said there → SaysNext here lines other elsewhere
+        → (said ≡ other) × (there ≡ elsewhere) }
+{}
+
+/// Texts are added one after the other, the first of them to a history without a part yet, exactly where they tell one
+/// legal history: each is a legal text, and begins with the picture to which the entries before it lead.
+pub fn joined_texts()
+    ensures { (text : List Line) (later : List (List Line))
+        → (count : ℕ) (there : Option Picture)
+        → AreAdded None (text ∷ later) count there
+        ↔ (IsBroadcastHistory (text ∷ later) count there
+        ⊎ IsWatchHistory (text ∷ later) count there) }
 {}
 
 /// What a segment of a broadcast channel's history is printed as is a legal text, with as many entries:

@@ -13,11 +13,13 @@ mod explain;
 pub mod fault;
 mod judged;
 pub mod laws;
+pub mod parts;
 pub mod point;
 mod printed;
 mod run;
 pub mod verdict;
 
 pub use fault::CheckFault;
+pub use parts::{Joined, Joining};
 pub use run::{check, check_bounded, check_explained};
 pub use verdict::Verdict;

@@ -18,10 +18,10 @@ use th_traces::{Draft, Head, Picture, Version, read_picture};
 pub enum Spot {
     /// Some lines of its picture.
     InPicture(Draft),
-    /// The picture of a broadcast channel, and maybe some lines below it.
-    InBroadcast(Version, Course<RingBroadcast, BCall<Value>>),
+    /// The picture of a broadcast channel, which is kept, and maybe some lines below it.
+    InBroadcast(Version, th_bcast::PictureParts<Value>, Course<RingBroadcast, BCall<Value>>),
     /// The same of a watch channel.
-    InWatch(Course<ValueWatch, WCall<Value>>),
+    InWatch(th_watch::PictureParts<Value>, Course<ValueWatch, WCall<Value>>),
 }
 
 /// Judges one more line, given without its end, or as `None` where it is too long. The spot goes on in place.
@@ -34,10 +34,10 @@ pub fn take_line(alloc: Global, spot: &mut Spot, line: Option<&[u8]>) -> Result<
         return Err(Stop::Bad);
     };
     let begun = match spot {
-        Spot::InBroadcast(version, course) => {
+        Spot::InBroadcast(version, _from, course) => {
             return course::take_line(alloc, *version, course, line);
         }
-        Spot::InWatch(course) => return course::take_line(alloc, (), course, line),
+        Spot::InWatch(_from, course) => return course::take_line(alloc, (), course, line),
         Spot::InPicture(draft) => take_of_picture(alloc, draft, line),
     };
     match begun {
@@ -73,33 +73,17 @@ fn begin(alloc: Global, head: Head, picture: Picture) -> Result<Spot, Stop>
 {
     match (head, picture) {
         (Head::Broadcast(version), Picture::Broadcast(parts)) => {
-            match RingBroadcast::resume(alloc, parts) {
-                Ok(channel) => {
-                    // What is true of every channel's picture is said here.
-                    let _live = channel.live();
-                    Ok(Spot::InBroadcast(
-                        version,
-                        Course {
-                            channel,
-                            count: 0,
-                            due: Due::Call,
-                        },
-                    ))
-                }
-                Err(_) => Err(Stop::Short),
+            match course::begin::<BCall<Value>, RingBroadcast>(alloc, parts) {
+                Ok((from, course)) => Ok(Spot::InBroadcast(version, from, course)),
+                Err(why) => Err(why),
             }
         }
-        (Head::Watch, Picture::Watch(parts)) => match ValueWatch::resume(alloc, parts) {
-            Ok(channel) => {
-                let _live = channel.live();
-                Ok(Spot::InWatch(Course {
-                    channel,
-                    count: 0,
-                    due: Due::Call,
-                }))
+        (Head::Watch, Picture::Watch(parts)) => {
+            match course::begin::<WCall<Value>, ValueWatch>(alloc, parts) {
+                Ok((from, course)) => Ok(Spot::InWatch(from, course)),
+                Err(why) => Err(why),
             }
-            Err(_) => Err(Stop::Short),
-        },
+        }
         _ => Err(Stop::Bad),
     }
 }
@@ -110,11 +94,11 @@ pub fn ended_with(spot: &Spot) -> Option<u64>
 {
     match spot {
         Spot::InPicture(_) => None,
-        Spot::InBroadcast(_, course) => match course.due {
+        Spot::InBroadcast(_, _, course) => match course.due {
             Due::Nothing => Some(course.count),
             _ => None,
         },
-        Spot::InWatch(course) => match course.due {
+        Spot::InWatch(_, course) => match course.due {
             Due::Nothing => Some(course.count),
             _ => None,
         },

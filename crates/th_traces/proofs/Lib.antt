@@ -10,3 +10,6 @@ pub mod BroadcastAgain
 pub mod WatchAgain
 pub mod Few
 pub mod Pieces
+pub mod BroadcastFound
+pub mod WatchFound
+pub mod PicturesFound

@@ -18,3 +18,4 @@ pub mod LiveHandles
 pub mod BroadcastDrafts
 pub mod WatchDrafts
 pub mod Pictures
+pub mod Shown

@@ -4,21 +4,17 @@ ghost use Rattle.th_model.specs.declared.broadcast.BCall.{BCall};
 ghost use Rattle.th_model.specs.declared.broadcast.BReply.{BReply};
 ghost use Rattle.th_model.specs.declared.watch.WCall.{WCall};
 ghost use Rattle.th_model.specs.declared.watch.WReply.{WReply};
-ghost use Rattle.std.specs.List.{AllByRecursion};
-ghost use Rattle.th_lines.specs.Commands.{IsValue};
-ghost use Rattle.th_model.specs.BroadcastPicture as broadcast_picture;
-ghost use Rattle.th_model.specs.WatchPicture as watch_picture;
 ghost use Rattle.th_traces.specs.Pictures.{Begun, leads};
 ghost use Rattle.th_traces.specs.declared.place.Place.TheVariants.{Nothing};
 ghost use Rattle.th_traces.specs.Broadcast as broadcast;
 ghost use Rattle.th_traces.specs.BroadcastWords as broadcast_words;
-ghost use Rattle.th_traces.specs.Spelled.{Bytes, call_line, picture_lines, reply_line};
+ghost use Rattle.th_traces.specs.Spelled.{Bytes, call_line, reply_line};
+ghost use Rattle.th_traces.specs.Shown.{Spells};
 ghost use Rattle.th_traces.specs.Watch as watch;
 ghost use Rattle.th_traces.specs.WatchWords as watch_words;
+ghost use Rattle.th_traces.specs.declared.head.Head.{Head};
 ghost use Rattle.th_traces.specs.declared.head.Version.{Version};
-
-use crate::head::Head;
-use crate::picture::Picture;
+ghost use Rattle.th_traces.specs.declared.picture.Picture.{Picture};
 
 /// What is read in the first line of a broadcast channel's entry is a call and the line its
 /// spelling, and each call's spelling is read as that call.
@@ -60,14 +56,11 @@ pub fn one_spelling_of_watch_replies()
         watch_words.reply_of call (reply_line (watch.reply_fields reply)) ≡ Some reply }
 {}
 
-/// The lines of a sound picture are read as that picture: none of them is bad, and the last one tells
-/// the whole.
-pub fn pictures_are_read_as_printed()
-    ensures broadcast { (version : Version) (p : broadcast_picture.Picture Bytes) →
-        broadcast_picture.IsSound p → AllByRecursion IsValue p.window.kept →
-        leads Nothing (picture_lines (broadcast.told version p))
-        ≡ Some (Begun (Head.Broadcast version) (Picture.Broadcast p)) }
-    ensures watch { (p : watch_picture.Picture Bytes) → watch_picture.IsSound p →
-        IsValue p.last →
-        leads Nothing (picture_lines (watch.told p)) ≡ Some (Begun Head.Watch (Picture.Watch p)) }
+/// What lines are read as is a sound picture, and the lines its spelling; and the spelling of each sound picture is read as
+/// that picture.
+pub fn one_spelling_of_pictures()
+    ensures found { (lines : List (List ℕ)) (head : Head) (picture : Picture) →
+        leads Nothing lines ≡ Some (Begun head picture) → Spells head picture lines }
+    ensures again { (lines : List (List ℕ)) (head : Head) (picture : Picture) →
+        Spells head picture lines → leads Nothing lines ≡ Some (Begun head picture) }
 {}

@@ -9,7 +9,7 @@ returns-in-Err-BadLine g c = λ state shown.
     let kind = g.K.Object in
     let words = words_of g.C.EntryLines.grammar g.C.JudgedCall.told c.args.form in
     let course = c.args.course.now in
-    says_no_call kind.machine kind.is_proper words state course.count c.args.line.now (seen kind.shows course) refl c.requires
+    says_no_call kind.machine kind.is_proper words state course.count c.args.line.now (seen kind.shows course) shown refl c.requires
     c.take_end.result
     (reads_bad _ _ _ c.in-Err-BadLine.field-0-is c.in-Err-BadLine.ensures) c.take_end.ensures
 
