@@ -5,13 +5,13 @@ use Rattle.std.proofs.lemmas.Option.{none-some, same_Some}
 use Rattle.th_orders.specs.declared.rests.EventAt.{EventAt}
 use Rattle.th_orders.specs.Orders.{Along, AreOver, IsNext, IsOrder, Nexts, NoChoiceIsWrong, Sessions, Takes, advanced}
 
-head_is : {X : Type 0} (x y : X) (xs ys : List X) → (x ∷ xs) ≡ (y ∷ ys) → x ≡ y
+pub head_is : {X : Type 0} (x y : X) (xs ys : List X) → (x ∷ xs) ≡ (y ∷ ys) → x ≡ y
 head_is x y xs ys e = cc
 
-tail_is : {X : Type 0} (x y : X) (xs ys : List X) → (x ∷ xs) ≡ (y ∷ ys) → xs ≡ ys
+pub tail_is : {X : Type 0} (x y : X) (xs ys : List X) → (x ∷ xs) ≡ (y ∷ ys) → xs ≡ ys
 tail_is x y xs ys e = cc
 
-cons_not : {X : Type 0} (x : X) (xs : List X) → [] ≡ (x ∷ xs) → ⊥
+pub cons_not : {X : Type 0} (x : X) (xs : List X) → [] ≡ (x ∷ xs) → ⊥
 cons_not x xs e = cc
 
 -- nothing is taken where all are over
@@ -56,7 +56,7 @@ swap (n ∷ c) zero (suc t) = refl
 swap (n ∷ c) (suc s) zero = refl
 swap (n ∷ c) (suc s) (suc t) = ap (λ (d : Nexts). n ∷ d) (swap c s t)
 
-other : (c : Nexts) (t u : ℕ) → u ≢ t → slice_get (advanced c t) u ≡ slice_get c u
+pub other : (c : Nexts) (t u : ℕ) → u ≢ t → slice_get (advanced c t) u ≡ slice_get c u
 other [] t u ne = refl
 other (n ∷ c) zero zero ne = absurd (ne refl)
 other (n ∷ c) zero (suc u) ne = refl
@@ -64,14 +64,14 @@ other (n ∷ c) (suc t) zero ne = refl
 other (n ∷ c) (suc t) (suc u) ne = other c t u (λ e. ne (ap suc e))
 
 -- at least as far as before, and further where it is that topic's
-more : (c : Nexts) (t u n : ℕ) → slice_get c u ≡ Some n → (m : ℕ) × (slice_get (advanced c t) u ≡ Some m) × (n ≤ m)
+pub more : (c : Nexts) (t u n : ℕ) → slice_get c u ≡ Some n → (m : ℕ) × (slice_get (advanced c t) u ≡ Some m) × (n ≤ m)
 more [] t u n h = absurd (none-some n h)
 more (k ∷ c) zero zero n h = (k + 1, refl, omega (arith, same_Some k n h))
 more (k ∷ c) zero (suc u) n h = (n, h, omega arith)
 more (k ∷ c) (suc t) zero n h = (n, h, omega arith)
 more (k ∷ c) (suc t) (suc u) n h = more c t u n h
 
-raised : (c : Nexts) (t n : ℕ) → slice_get c t ≡ Some n → slice_get (advanced c t) t ≡ Some (n + 1)
+pub raised : (c : Nexts) (t n : ℕ) → slice_get c t ≡ Some n → slice_get (advanced c t) t ≡ Some (n + 1)
 raised [] t n h = absurd (none-some n h)
 raised (k ∷ c) zero n h = ap (λ (i : ℕ). Some (i + 1)) (same_Some k n h)
 raised (k ∷ c) (suc t) n h = raised c t n h

@@ -1,4 +1,5 @@
-mod Greedy
+pub mod Greedy
 mod NextLemmas
 mod RestLemmas
-mod Searching
+pub mod Searching
+pub mod Waking

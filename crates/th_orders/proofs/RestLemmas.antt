@@ -49,6 +49,16 @@ module _ {Z : Type 0} where
       inl (drop (n + 1) r.items, drop-next r.items m e (sym (first-drop r.items m) ∙ h) ∙ ap (λ j. e ∷ drop j r.items) next, refl)
   takes-at (m ∷ ns) (r ∷ ss) (suc k) n e at h = inr (rests (set ns k (n + 1)) ss, refl, takes-at ns ss k n e at h)
 
+  pub takes-others : (ns : List ℕ) (ss : List (Vec EventAt Z)) (k n j : ℕ) → (j ≡ k → ⊥) →
+      slice_get (rests (set ns k n) ss) j ≡ slice_get (rests ns ss) j
+  takes-others [] ss k n j ne = refl
+  takes-others (m ∷ ns) [] zero n j ne = refl
+  takes-others (m ∷ ns) [] (suc k) n j ne = refl
+  takes-others (m ∷ ns) (r ∷ ss) zero n zero ne = absurd (ne refl)
+  takes-others (m ∷ ns) (r ∷ ss) zero n (suc j) ne = refl
+  takes-others (m ∷ ns) (r ∷ ss) (suc k) n zero ne = refl
+  takes-others (m ∷ ns) (r ∷ ss) (suc k) n (suc j) ne = takes-others ns ss k n j (λ e. ne (ap suc e))
+
   -- of such an event
   pub session-within : (ns : List ℕ) (ss : List (Vec EventAt Z)) (k : ℕ) (e : EventAt) → first_of (slice_get (rests ns ss) k) ≡ Some e →
       k < length ns

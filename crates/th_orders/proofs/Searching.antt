@@ -1,6 +1,5 @@
 -- How a search for an order goes on, and where it ends.
-use Rattle.std.proofs.Common.{◌≡◌, ℕ, zero, suc, ◌+◌, ◌<◌, ◌≤◌, true, false, eqb, List, [], ◌∷◌, ◌++◌, length, replicate, map, Some, None, slice_get, refl, sym, ap, subst, ◌∙◌, inl, inr, arith, append_assoc, append-nil, length-append}
-use Rattle.std.proofs.lemmas.Bool.{eqb-true, eqb-false}
+use Rattle.std.proofs.Common.{◌≡◌, ℕ, zero, suc, ◌+◌, ◌<◌, List, [], ◌∷◌, ◌++◌, length, replicate, map, Some, None, slice_get, refl, sym, ap, subst, ◌∙◌, inl, inr, arith, append_assoc, append-nil, length-append}
 use Rattle.std.proofs.lemmas.Option.{none-some}
 use Rattle.std.specs.declared.vec.Vec.{Vec}
 use Rattle.th_orders.specs.declared.rests.EventAt.{EventAt}
@@ -9,7 +8,7 @@ use Rattle.th_orders.specs.Rests.{events_of, left, rests}
 use Rattle.th_orders.specs.Search.{Goes}
 use Rattle.th_orders.proofs.Greedy.{greedy}
 
-first-within : (ss : Sessions) (k : ℕ) (e : EventAt) → first_of (slice_get ss k) ≡ Some e → k < length ss
+pub first-within : (ss : Sessions) (k : ℕ) (e : EventAt) → first_of (slice_get ss k) ≡ Some e → k < length ss
 first-within [] k e f = absurd (none-some e f)
 first-within (s ∷ ss) zero e f = omega arith
 first-within (s ∷ ss) (suc k) e f = omega (arith, first-within ss k e f)
@@ -53,48 +52,6 @@ goes-on c ss o c1 s1 o1 c2 s2 o2 g h = (
   h.1 ∙ ap (λ (l : List EventAt). l ++ h.0) g.1 ∙ append_assoc o g.0 h.0,
   along-on c ss g.0 c1 s1 h.0 c2 s2 g.2 h.2,
 )
-
--- with nothing more in the order nothing has changed
-pub goes-still : (c : Nexts) (ss : Sessions) (o : List EventAt) (c' : Nexts) (ss' : Sessions) (o' : List EventAt) → Goes c ss o c' ss' o' →
-    length o' ≡ length o → (c' ≡ c) × (ss' ≡ ss)
-goes-still c ss o c' ss' o' ([], is, m) same = m
-goes-still c ss o c' ss' o' (e ∷ es, is, m) same =
-    let more : length o' ≡ length o + length (e ∷ es) = ap length is ∙ length-append o (e ∷ es) in
-    absurd (omega (arith, more, same))
-
-pub longer : (c : Nexts) (ss : Sessions) (o : List EventAt) (c' : Nexts) (ss' : Sessions) (o' : List EventAt) → Goes c ss o c' ss' o' →
-    (n : ℕ) × (length o' ≡ length o + n)
-longer c ss o c' ss' o' g = (length g.0, ap length g.1 ∙ length-append o g.0)
-
--- the search so far, and more of it
-pub along-goes : (c : Nexts) (ss : Sessions) (es : List EventAt) (c1 : Nexts) (s1 : Sessions) (c2 : Nexts) (s2 : Sessions)
-    (o : List EventAt) → Along c ss es c1 s1 → Goes c1 s1 es c2 s2 o → Along c ss o c2 s2
-along-goes c ss es c1 s1 c2 s2 o m g = subst (λ (l : List EventAt). Along c ss l c2 s2) (sym g.1) (along-on c ss es c1 s1 g.0 c2 s2 m g.2)
-
--- where nothing was taken, the sessions before are held up as they were, and so is this one
-pub held-next : (c : Nexts) (ss : Sessions) (o : List EventAt) (c1 : Nexts) (s1 : Sessions) (o1 : List EventAt) (c2 : Nexts) (s2 : Sessions)
-    (o2 : List EventAt) (n : ℕ) → Goes c ss o c1 s1 o1 → Goes c1 s1 o1 c2 s2 o2 →
-    (length o1 ≡ length o → (k : ℕ) → k < n → IsHeldAt c1 s1 k) → IsHeldAt c2 s2 n →
-    length o2 ≡ length o → (k : ℕ) → k < n + 1 → IsHeldAt c2 s2 k
-held-next c ss o c1 s1 o1 c2 s2 o2 n g h before here same k lt =
-    let a = longer c ss o c1 s1 o1 g in
-    let b = longer c1 s1 o1 c2 s2 o2 h in
-    let none : length o1 ≡ length o = omega (arith, a.1, b.1, same) in
-    let still = goes-still c1 s1 o1 c2 s2 o2 h (omega (arith, a.1, b.1, same)) in
-    elim (eqb k n) as (λ b. eqb k n ≡ b → IsHeldAt c2 s2 k) [
-      | true ↦ λ e. subst (λ (j : ℕ). IsHeldAt c2 s2 j) (sym (eqb-true k n e)) here
-      | false ↦ λ e. subst (λ (d : Nexts). IsHeldAt d s2 k) (sym still.0)
-          (subst (λ (s : Sessions). IsHeldAt c1 s k) (sym still.1) (before none k (omega (arith, lt, eqb-false k n e))))
-    ] refl
-
--- no session stands behind the last one
-pub none-past : (c : Nexts) (ss : Sessions) (o : List EventAt) (c' : Nexts) (ss' : Sessions) (o' : List EventAt) (n : ℕ) →
-    Goes c ss o c' ss' o' → (length o' ≡ length o → (k : ℕ) → k < n → IsHeldAt c' ss' k) → length ss ≤ n →
-    length o' ≡ length o → (k : ℕ) → IsHeldAt c' ss' k
-none-past c ss o c' ss' o' n g held past same k e f next =
-    let still = goes-still c ss o c' ss' o' g same in
-    let there : first_of (slice_get ss k) ≡ Some e = ap (λ (s : Sessions). first_of (slice_get s k)) (sym still.1) ∙ f in
-    held same k (omega (arith, past, first-within ss k e there)) e f next
 
 -- fewer are left
 pub left-takes : (ss : Sessions) (e : EventAt) (ss' : Sessions) → Takes ss e ss' → left ss ≡ left ss' + 1
@@ -148,13 +105,21 @@ no-order c ss k e [] held f (c', ss', m, over) = not-over ss k e (subst AreOver 
 no-order c ss k e (x ∷ all) held f (c', ss', m, over) = let t = first-taken ss x m.0 m.1 in held t.0 x t.1 m.2
 
 pub held-up : (c : Nexts) (ss : Sessions) (es : List EventAt) (c' : Nexts) (ss' : Sessions) (k : ℕ) (e : EventAt) → Along c ss es c' ss' →
-    ((j : ℕ) → IsHeldAt c' ss' j) → first_of (slice_get ss' k) ≡ Some e → IsHeldUp c ss k e
-held-up c ss es c' ss' k e m held f = record {
+    ((j : ℕ) → IsHeldAt c' ss' j) → first_of (slice_get ss' k) ≡ Some e → ((j : ℕ) → j < k → first_of (slice_get ss' j) ≡ None) →
+    IsHeldUp c ss k e
+held-up c ss es c' ss' k e m held f over = record {
   taken = es;
   nexts' = c';
   ss' = ss';
   along = m;
   held = held;
   here = f;
+  first = over;
   none = λ all o. (let r = rest c ss es c' ss' all m o in no-order c' ss' k e r.0 held f r.1);
 }
+
+-- from no event on
+pub from-none : (c : Nexts) (ss : Sessions) (o0 o : List EventAt) (c' : Nexts) (ss' : Sessions) → o0 ≡ [] → Goes c ss o0 c' ss' o →
+    Along c ss o c' ss'
+from-none c ss o0 o c' ss' none g =
+    subst (λ (l : List EventAt). Along c ss l c' ss') (sym (g.1 ∙ ap (λ (l : List EventAt). l ++ g.0) none)) g.2

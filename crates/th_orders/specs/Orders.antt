@@ -1,5 +1,5 @@
 -- One order of what several sessions were told of several topics (docs/HISTORIES.md, "One order").
-use Rattle.std.specs.Prelude.{◌≡◌, ◌⊎◌, ℕ, zero, suc, ◌+◌, List, [], ◌∷◌, Option, Some, None, slice_get}
+use Rattle.std.specs.Prelude.{◌≡◌, ◌⊎◌, ℕ, zero, suc, ◌+◌, ◌<◌, List, [], ◌∷◌, Option, Some, None, slice_get}
 use Rattle.std.specs.List.{AllByRecursion}
 use Rattle.th_orders.specs.declared.rests.EventAt.{EventAt}
 
@@ -61,8 +61,8 @@ first_of (Some (e ∷ es)) = Some e
 abbrev pub IsHeldAt : Nexts → Sessions → ℕ → Type 0
 IsHeldAt nexts ss k = (e : EventAt) → first_of (slice_get ss k) ≡ Some e → IsNext nexts e → ⊥
 
--- The search has come to an end before it had an order: after these events each session that is not over is held up, and of
--- the session of this number this event is the first that is left. So there is no order.
+-- The search has come to an end before it had an order: after these events each session that is not over is held up. The first
+-- of them has this number, and this event is the first that is left of it. So there is no order.
 pub record IsHeldUp (nexts : Nexts) (ss : Sessions) (session : ℕ) (e : EventAt) : Type 0 where
   pub taken : List EventAt
   pub nexts' : Nexts
@@ -70,4 +70,5 @@ pub record IsHeldUp (nexts : Nexts) (ss : Sessions) (session : ℕ) (e : EventAt
   pub along : Along nexts ss taken nexts' ss'
   pub held : (k : ℕ) → IsHeldAt nexts' ss' k
   pub here : first_of (slice_get ss' session) ≡ Some e
+  pub first : (k : ℕ) → k < session → first_of (slice_get ss' k) ≡ None
   pub none : (es : List EventAt) → IsOrder nexts ss es → ⊥

@@ -1,5 +1,5 @@
 //! The next place of each topic.
-ghost use Rattle.std.specs.Prelude.{◌≡◌, ◌↔◌, IfOk, IsTrue, Some, slice_get};
+ghost use Rattle.std.specs.Prelude.{◌≡◌, ◌^◌, ◌<◌, ◌↔◌, IfNone, IfOk, IfSome, IsTrue, Some, slice_get};
 ghost use Rattle.th_orders.specs.Orders.{IsNext, advanced};
 
 use crate::rests::EventAt;
@@ -45,6 +45,21 @@ impl NextPlaces {
         match self.places[event.topic as usize] {
             Some(place) => place == event.place,
             None => false,
+        }
+    }
+
+    /// The next event of a topic. None of a topic that is not there, or behind its last place.
+    pub(crate) fn next(&self, topic: u64) -> Option<EventAt>
+        ensures some { IfSome result (λ e. (e.topic ≡ topic) × IsNext self.now e) }
+        ensures none { IfNone result ((e : EventAt) → e.topic ≡ topic → e.place < 2 ^ 64
+            → IsNext self.now e → ⊥) }
+    {
+        if topic >= self.places.len() as u64 {
+            return None;
+        }
+        match self.places[topic as usize] {
+            Some(place) => Some(EventAt { topic, place }),
+            None => None,
         }
     }
 

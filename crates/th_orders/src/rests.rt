@@ -1,5 +1,5 @@
 //! What is left of sessions.
-ghost use Rattle.std.specs.Prelude.{◌≡◌, length, map, slice_get, IfOk, Some};
+ghost use Rattle.std.specs.Prelude.{◌≡◌, ℕ, length, map, slice_get, IfOk, Some};
 ghost use Rattle.th_orders.specs.Rests.{events_of};
 ghost use Rattle.th_orders.specs.Orders.{Takes, first_of};
 
@@ -69,7 +69,9 @@ impl Rests {
     /// Takes the first event that is left of a session.
     pub(crate) fn take(&mut self, session: usize, event: EventAt)
         requires { first_of (slice_get self.old session) ≡ Some event }
-        ensures { Takes self.old event self.new }
+        ensures takes { Takes self.old event self.new }
+        ensures others { (k : ℕ) → (k ≡ session → ⊥)
+            → slice_get self.new k ≡ slice_get self.old k }
     {
         self.taken[session] += 1;
     }

@@ -1,0 +1,6 @@
+mod Telling
+mod Passing
+mod Weaving
+mod HubRuns
+mod LoopLemmas
+mod Scheduling
