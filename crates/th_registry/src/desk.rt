@@ -10,12 +10,13 @@ ghost use Rattle.th_registry.specs.Typed.{ended, made_rx, made_tx, replied, spen
 use crate::channel::{TopicReceipt, TopicSegment};
 use crate::opening::{Found, Refusal, TopicId};
 use crate::outcome::{Made, NoEvent, Unspent};
+use std::time::Duration;
 use th_model::{Listing, Making, NameRef, Question, ReceiverVerb, SenderVerb, Short, Start, Value};
 
 /// The most calls of one handle that a desk is asked to have ready at once ([`Desk::ready`], [`Desk::send_ahead`]).
 pub const MOST_READY: usize = 64;
 
-/// Topics by name. Each call but `find`, `list`, `cut`, `wake`, `ready` and `send_ahead` is one event, on the topic of that
+/// Topics by name. Each call but `find`, `list`, `cut`, `wake`, `ready`, `wait` and `send_ahead` is one event, on the topic of that
 /// number or of the registry, or none; `resubscribe` is both of its events, or none. By which side of handles an event is made
 /// is the call's name and the type of its verb. An event's receipt is handed out, but for the end of a handle.
 pub trait Desk: Drop {
@@ -138,6 +139,12 @@ pub trait Desk: Drop {
     /// events here, as many as it answers, and then hands out the receipts to those calls, in their order. It saves writes
     /// and locks, and no clause rests on it. The receiver keeps its number.
     fn ready(&mut self, topic: TopicId, receiver: &mut Self::Rx, most: usize) -> usize
+        ensures desk { self.new ≡ self.old }
+        ensures receiver { rx receiver.new ≡ rx receiver.old };
+
+    /// Waits until this receiver's next call by a verb that waits has its answer, but no longer than so: whether it has. It
+    /// is no event, and no clause rests on it. The receiver keeps its number.
+    fn wait(&mut self, topic: TopicId, receiver: &mut Self::Rx, longest: Duration) -> bool
         ensures desk { self.new ≡ self.old }
         ensures receiver { rx receiver.new ≡ rx receiver.old };
 

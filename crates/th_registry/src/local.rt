@@ -11,6 +11,7 @@ use crate::topics::{Channels, list, open_broadcast, open_watch};
 use indexmap::IndexMap;
 use std::alloc::Global;
 use std::marker::Model;
+use std::time::Duration;
 use th_log::MOST_ENTRIES;
 use th_model::{
     Listing, Making, NameRef, Question, ReceiverVerb, RxId, SenderVerb, Short, Start, TxId, Value,
@@ -226,5 +227,9 @@ impl Desk for LocalDesk {
 
     fn ready(&mut self, _topic: TopicId, _receiver: &mut RxId, most: usize) -> usize {
         most
+    }
+
+    fn wait(&mut self, _topic: TopicId, _receiver: &mut RxId, _longest: Duration) -> bool {
+        true
     }
 }

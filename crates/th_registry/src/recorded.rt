@@ -1,6 +1,6 @@
 //! A channel with its history, at a desk of one thread.
-ghost use Rattle.std.specs.Prelude.{◌≡◌, ◌<◌, ◌≤◌, true, false, IfOk, OnOk, IfErr, IsOk, option_copied};
-ghost use Rattle.th_log.specs.History.{last_reply, live_after};
+ghost use Rattle.std.specs.Prelude.{◌≡◌, ◌↔◌, ◌<◌, ◌≤◌, true, false, IfOk, OnOk, IfErr, IsOk, option_copied};
+ghost use Rattle.th_log.specs.History.{IsLimit, last_reply, live_after};
 ghost use Rattle.th_registry.specs.History.{cut, is_full, opened, recorded, segment};
 ghost use Rattle.th_registry.specs.Receipts.{receipt_of};
 ghost use Rattle.th_registry.specs.Refusals.{RefusesEvent};
@@ -38,7 +38,10 @@ impl<O: Object> Recorded<O> {
     /// The channel with no event yet. A segment has at most `limit` entries.
     pub fn new(alloc: Global, object: O, limit: u64, key: u64) -> Result<Recorded<O>, MakeFault>
         requires { O.lawful }
-        ensures { IfOk result (λ r. r ≡ opened limit key (O.shows object) (O.shows object)) }
+        ensures new { IfOk result (λ r. r ≡ opened limit key (O.shows object) (O.shows object)) }
+        ensures limit { OnOk result (IsLimit limit (O.machine.live (O.shows object))) }
+        ensures bad { IfErr result (λ fault.
+            fault ≡ MakeFault.BadLimit ↔ ¬ (IsLimit limit (O.machine.live (O.shows object)))) }
     {
         let (log, share) = Logged::new(alloc, object, limit, key)?;
         Ok(Recorded { log, share })

@@ -28,7 +28,7 @@ use Rattle.th_session.specs.declared.session.Answer as session
 use Rattle.th_session.specs.Answer.{said}
 use Rattle.th_session.specs.Ending.{AppendsFront, Devices}
 use Rattle.th_session.specs.Kept.{IsKept, Kept, Tells, kept_by, told}
-use Rattle.th_session.specs.Run.{AnsweredBy, Enters, Progress, Halts, IsAnswered, IsOver, Ran, Served, Serves, Took, fault_by, beginning, line_turn, may_wait, nothing_had, quitting, stands, tells_bye, writer_failures}
+use Rattle.th_session.specs.Run.{AnsweredBy, EndsBefore, Enters, HeldBack, Progress, Halts, IsAnswered, IsOver, Ran, Served, Serves, Took, fault_by, beginning, line_turn, may_wait, nothing_had, quitting, stands, tells_bye, writer_failures}
 use Rattle.th_session.specs.Script.{Answer, Replied, Told, Traced, has_quit}
 use Rattle.th_session.proofs.Endings.{all_answered, appended, first_halted, first_whole, first_within, fronts, held_back, past_lines, whole_answered}
 use Rattle.th_session.proofs.Kept.{as-before, keeps_as}
@@ -46,6 +46,7 @@ module _ {D : Type 0} (keeping : Keeping) (says : D → (q : Query) → Said q �
   unfolding breaks_here
   halts_here line at before after stop.Quit never = absurd never
   halts_here line at before after stop.Gate said = (breaks_here true ((at, false), before) (line ∷ []) after said, omega arith)
+  halts_here line at before after stop.Gone said = (breaks_here true ((at, false), before) (line ∷ []) after said, omega arith)
   halts_here line at before after stop.Write said = (false, breaks_here false ((at, false), before) (line ∷ []) after said)
 
   -- a line was not let through
@@ -61,14 +62,22 @@ module _ {D : Type 0} (keeping : Keeping) (says : D → (q : Query) → Said q �
   keeps_line (Good bytes) old new answer w = keeps_as says old.0 old.1 new.0 new.1 answer (command_of bytes) w
   keeps_line Long old new answer w = as-before says old.0 old.1 new.0 answer (Refused Codes.LongLine) w.0 (ap (λ (s : Kept × D). s.0) w.1)
 
+  -- nothing was said before it
+  enters_after : (before entered after : Output) (why : Stop) → Adds [] before entered → Enters {A = Unit {0}} entered after (Err why)
+      → Enters {A = Unit {0}} before after (Err why)
+  enters_after before entered after stop.Quit p never = never
+  enters_after before entered after stop.Gate p q = adds_both p q
+  enters_after before entered after stop.Gone p q = adds_both p q
+  enters_after before entered after stop.Write p f = front_after [] p f
+
   -- it was let through
   module _ (line : Line) (s : Kept) (d e : D) (new : Kept × D) (before entered after : Output) (same : e ≡ d) (p : Adds [] before entered)
     where
-      -- the writer failed before it was carried out
-      pub in_time_broken : new ≡ (s, e) → WritesFront (entered.waiting ++ []) entered after →
-          Halts keeping says ((s, d), before) (line ∷ []) stop.Write (new, after)
-      in_time_broken at f = subst (λ (x : Kept × D). Halts keeping says ((s, d), before) (line ∷ []) stop.Write (x, after))
-          (sym (at ∙ ap (λ (x : D). (s, x)) same)) (halts_here line (s, d) before after stop.Write (front_after [] p f))
+      -- and not carried out
+      pub in_time_broken : (why : Stop) → new ≡ (s, e) → Enters {A = Unit {0}} entered after (Err why) →
+          Halts keeping says ((s, d), before) (line ∷ []) why (new, after)
+      in_time_broken why at said = subst (λ (x : Kept × D). Halts keeping says ((s, d), before) (line ∷ []) why (x, after))
+          (sym (at ∙ ap (λ (x : D). (s, x)) same)) (halts_here line (s, d) before after why (enters_after before entered after why p said))
 
       -- it was carried out
       module _ (mid : Output) (tells : session.Answer) (t : Tells tells (λ answer. IsAnswered says line (s, e) answer new))
@@ -115,6 +124,7 @@ module _ {D : Type 0} (keeping : Keeping) (says : D → (q : Query) → Said q �
   unfolding breaks_after
   halts_after from old new lines more stop.Quit a b = breaks_after a b
   halts_after from old new lines more stop.Gate a b = (breaks_after a b.0, b.1)
+  halts_after from old new lines more stop.Gone a b = (breaks_after a b.0, b.1)
   halts_after from old new lines more stop.Write a b = (b.0, breaks_after a b.1)
 
 module _ {W D : Type 0} (says : D → (q : Query) → Said q → D → Type 0) (contents : W → Option (List ℕ)) where
@@ -213,6 +223,7 @@ module _ {W D : Type 0} (keeping : Keeping) (says : D → (q : Query) → Said q
     ends_at_once why.Ended s same e = absurd (false≢true (sym e))
     ends_at_once (why.Stopped stop.Quit) s same e = absurd (false≢true (sym e))
     ends_at_once (why.Stopped stop.Gate) s same e = absurd (false≢true (sym e))
+    ends_at_once (why.Stopped stop.Gone) s same e = absurd (false≢true (sym e))
     ends_at_once (why.Stopped stop.Write) s same e =
         let b = s.stands.1 in
         let text : List ℕ = concat b.texts in
@@ -227,6 +238,31 @@ module _ {W D : Type 0} (keeping : Keeping) (says : D → (q : Query) → Said q
     ends_at_once why.Spent s same e = absurd (false≢true (sym e))
 
     module _ (after : Output) (same : new.contents ≡ after.written) where
+      -- it ended before a line, at which the lines in front had been answered
+      abbrev Before : List Line → Type 0
+      Before lines = HeldBack keeping says (stands contents first) lines at
+
+      before_written : (stopped : Stop) (s : Here (why.Stopped stopped)) → Before s.done → WritesAll at.1.waiting at.1 after →
+          EndsBefore keeping says f.limit reads old new d at.0
+          × (after.failures ≡ w.failures)
+      before_written stopped s h g =
+          let b = h.0 in
+          let text : List ℕ = concat b.texts in
+          let all = wrote_all refl b.said g in
+          let ran = held_back (By false) old new first now f few Appends stopped s b.done b.later b.parts text
+          (b.texts, b.turned, refl) (wrote after same text all) h.1 in
+          (ran, all.same)
+
+      before_broken : (stopped : Stop) (s : Here (why.Stopped stopped)) → Before s.done → WritesFront at.1.waiting at.1 after →
+          Comes reads after.failures (Some Write)
+      before_broken stopped s h g =
+          let b = h.0 in
+          let text : List ℕ = concat b.texts in
+          let front = wrote_front refl b.said g in
+          let ran = first_halted (By false) old new first now f few AppendsFront stopped s b.done b.later b.parts text
+          (b.texts, b.turned, refl) (wrote_part after same text front) in
+          ((false, ran), front.failed)
+
       -- and then all replies were written
       pub ends_written : (fed : Fed Stop) → Here fed → WritesAll at.1.waiting at.1 after → may_wait (fault_by fed) ≡ true →
           Comes reads after.failures (fault_by fed)
@@ -239,13 +275,8 @@ module _ {W D : Type 0} (keeping : Keeping) (says : D → (q : Query) → Said q
           let ran = first_halted (By true) old new first now f few Appends stop.Quit s b.done b.later b.parts text
           (b.texts, b.turned, refl) (wrote after same text all) in
           (inr ran, all.same)
-      ends_written (why.Stopped stop.Gate) s g e =
-          let b = s.stands.0 in
-          let text : List ℕ = concat b.texts in
-          let all = wrote_all refl b.said g in
-          let ran = held_back (By false) old new first now f few Appends stop.Gate s b.done b.later b.parts text
-          (b.texts, b.turned, refl) (wrote after same text all) s.stands.1 in
-          (ran, all.same)
+      ends_written (why.Stopped stop.Gate) s g e = before_written stop.Gate s s.stands g
+      ends_written (why.Stopped stop.Gone) s g e = before_written stop.Gone s s.stands g
       ends_written (why.Stopped stop.Write) s g e = absurd (false≢true e)
       ends_written why.Full s g e =
           (inl (past_lines (By false) old new first now f few reads s.0 s.1 (shown after same g)), g.same ∙ s.0.stands.1.said.same)
@@ -267,13 +298,8 @@ module _ {W D : Type 0} (keeping : Keeping) (says : D → (q : Query) → Said q
           let ran = first_halted (By true) old new first now f few AppendsFront stop.Quit s b.done b.later b.parts text
           (b.texts, b.turned, refl) (wrote_part after same text front) in
           ((true, ran), front.failed)
-      ends_broken (why.Stopped stop.Gate) s g e =
-          let b = s.stands.0 in
-          let text : List ℕ = concat b.texts in
-          let front = wrote_front refl b.said g in
-          let ran = first_halted (By false) old new first now f few AppendsFront stop.Gate s b.done b.later b.parts text
-          (b.texts, b.turned, refl) (wrote_part after same text front) in
-          ((false, ran), front.failed)
+      ends_broken (why.Stopped stop.Gate) s g e = before_broken stop.Gate s s.stands g
+      ends_broken (why.Stopped stop.Gone) s g e = before_broken stop.Gone s s.stands g
       ends_broken (why.Stopped stop.Write) s g e = absurd (false≢true e)
       ends_broken why.Full s g e = (
         (false, first_within (By false) old new first now f few reads s.0 AppendsFront (shown_front after same g)),

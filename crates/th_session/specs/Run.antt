@@ -16,7 +16,7 @@ use Rattle.th_session.specs.declared.keeping.Keeping.{Keeping}
 use Rattle.th_session.specs.declared.session.Answer as session
 use Rattle.th_session.specs.declared.session.Answer.TheVariants as answers
 use Rattle.th_session.specs.declared.fault.SessionFault.{SessionFault}
-use Rattle.th_session.specs.declared.fault.SessionFault.TheVariants.{Read, Write, TooLong, Gate, Short}
+use Rattle.th_session.specs.declared.fault.SessionFault.TheVariants.{Read, Write, TooLong, Gate, Gone, Short}
 use Rattle.th_session.specs.declared.fault.Stop.{Stop}
 use Rattle.th_session.specs.declared.fault.Stop.TheVariants as stop
 use Rattle.th_session.specs.Answer as desk
@@ -53,6 +53,7 @@ abbrev pub fault_by : Fed Stop → Option SessionFault
 fault_by why.Ended = None
 fault_by (why.Stopped stop.Quit) = None
 fault_by (why.Stopped stop.Gate) = Some Gate
+fault_by (why.Stopped stop.Gone) = Some Gone
 fault_by (why.Stopped stop.Write) = Some Write
 fault_by why.Full = Some TooLong
 fault_by why.Failed = Some Read
@@ -79,10 +80,11 @@ tells_bye (answers.Reply reply) = has_quit (Replied reply)
 tells_bye answers.Event = false
 tells_bye answers.Trace = false
 
--- a line was let through, and nothing was said; or it was not, or the writer failed
+-- a line may be carried out, and nothing was said; or it may not, or the writer failed
 abbrev pub Enters : {A : Type 0} → Output → Output → Result A Stop → Type 0
 Enters before after (Ok a) = Adds [] before after
 Enters before after (Err stop.Gate) = Adds [] before after
+Enters before after (Err stop.Gone) = Adds [] before after
 Enters before after (Err stop.Write) = WritesFront (before.waiting ++ []) before after
 Enters before after (Err stop.Quit) = ⊥
 
@@ -92,13 +94,13 @@ module _ {D : Type 0} (says : D → (q : Query) → Said q → D → Type 0) whe
   IsAnswered Long old answer new = (answer ≡ Replied (Refused Codes.LongLine)) × (new ≡ old)
   IsAnswered (Good bytes) old answer new = desk.Answers says old.0 old.1 bytes answer new.0 new.1
 
-  -- a line was answered, and its text is still to come; or nothing was done, and the writer failed
-  abbrev pub AnswersInTime : {E : Type 0} → Line → Kept × D → Kept × D → Output → Output →
-      Result session.Answer E → Type 0
+  -- a line was answered, and its text is still to come; or nothing was done, since it may not be or the writer failed
+  abbrev pub AnswersInTime : Line → Kept × D → Kept × D → Output → Output →
+      Result session.Answer Stop → Type 0
   AnswersInTime line old new before after (Ok tells) =
       Tells tells (λ answer. IsAnswered line old answer new) × Adds [] before after
-  AnswersInTime line old new before after (Err e) =
-      (new ≡ old) × WritesFront (before.waiting ++ []) before after
+  AnswersInTime line old new before after (Err why) =
+      (new ≡ old) × Enters {A = Unit {0}} before after (Err why)
 
 -- where a run keeps so much of its answers
 module _ {D : Type 0} (keeping : Keeping) (says : D → (q : Query) → Said q → D → Type 0) where
@@ -110,14 +112,19 @@ module _ {D : Type 0} (keeping : Keeping) (says : D → (q : Query) → Said q �
       × (new.0.0 ≡ kept_by keeping has) × (text ≡ said answer)
       × (old.1 ≡ false) × (new.1 ≡ has_quit answer)
 
+  -- the line behind those that were answered was not carried out
+  abbrev pub HeldBack : (Kept × D) × Output → List Line → (Kept × D) × Output → Type 0
+  HeldBack old lines new =
+      (b : Breaks line_turn true (quitting false old) lines (quitting false new))
+      × (0 < length b.later)
+
   -- These lines were answered, as far as they were done, and no further one is: the last was answered BYE; or one of them was
-  -- not let through; or the writer failed.
+  -- not let through, or given up; or the writer failed.
   abbrev pub Halts : (Kept × D) × Output → List Line → Stop → (Kept × D) × Output → Type 0
   Halts old lines stop.Quit new =
       Breaks line_turn true (quitting false old) lines (quitting true new)
-  Halts old lines stop.Gate new =
-      (b : Breaks line_turn true (quitting false old) lines (quitting false new))
-      × (0 < length b.later)
+  Halts old lines stop.Gate new = HeldBack old lines new
+  Halts old lines stop.Gone new = HeldBack old lines new
   Halts old lines stop.Write new =
       (quit : Bool) × Breaks line_turn false (quitting false old) lines (quitting quit new)
 
@@ -136,9 +143,14 @@ module _ {D : Type 0} (keeping : Keeping) (says : D → (q : Query) → Said q �
 
   -- at most so many lines and reads; where the devices and the desk stood, and where they and the actor stand then
   module _ (lines reads : ℕ) (old new : Devices) (desk : D) (last : Kept × D) where
+    -- the line behind those that are answered was not carried out
+    abbrev pub EndsBefore : Type 0
+    EndsBefore = (f : FirstAnswered (AnsweredBy desk last false) lines old new Appends)
+        × (0 < length f.later)
+
     -- How a run ends. Without a fault the whole input was read and its lines are answered, or the last answer was BYE. At Read
     -- all lines that came are answered. At TooLong a line beyond the bound began, or all reads were made and the input had
-    -- not ended. At Gate the line behind those that are answered was not let through. At Short nothing was read.
+    -- not ended. At Gate and Gone a line was not let through, or given up while it waited. At Short nothing was read.
     abbrev pub Ran : Option SessionFault → Type 0
     Ran None =
         WholeAnswered (AnsweredBy desk last false) lines old new
@@ -147,8 +159,8 @@ module _ {D : Type 0} (keeping : Keeping) (says : D → (q : Query) → Said q �
     Ran (Some Write) = (quit : Bool)
         × FirstAnswered (AnsweredBy desk last quit) lines old new AppendsFront
     Ran (Some TooLong) = WasTooLong (AnsweredBy desk last false) lines old new reads
-    Ran (Some Gate) = (f : FirstAnswered (AnsweredBy desk last false) lines old new Appends)
-        × (0 < length f.later)
+    Ran (Some Gate) = EndsBefore
+    Ran (Some Gone) = EndsBefore
     Ran (Some Short) = (new ≡ old) × (last ≡ (nothing_had, desk))
 
   -- And then every handle was spent, in the order of QUIT, whatever was said of it.

@@ -15,9 +15,13 @@ pub trait Gate {
     /// The reply to this line of this session is written and flushed. This comes once for each line that was carried
     /// out, in their order; after a failed write it comes no more.
     fn answered(&self, session: u64, line: u64);
+
+    /// Whether this session is to wait on for the answer to its line. It is asked about once a second, and all replies to the
+    /// lines in front are written then. After a no the line is not carried out, and the session ends.
+    fn waits_on(&self, session: u64) -> bool;
 }
 
-/// Lets every line through.
+/// Lets every line through, and lets it wait for its answer.
 #[derive(Clone, Copy, Debug, Drop)]
 pub struct OpenGate;
 
@@ -29,4 +33,11 @@ impl Gate for OpenGate {
     }
 
     fn answered(&self, _session: u64, _line: u64) {}
+
+    // A line that is let through may wait.
+    fn waits_on(&self, session: u64) -> bool
+        ensures { result ≡ true }
+    {
+        self.may(session, 1)
+    }
 }

@@ -12,7 +12,7 @@
 //! let mut reader = Counted::new(&b"READERS news\nSUB news\nQUIT\n"[..]);
 //! let mut writer = Counted::new(Vec::new(alloc));
 //! let (carol, fault) = run_session(&rt, alloc, &mut reader, &mut writer, &mut desk, &OpenGate, 1,
-//!     Keeping::All);
+//!     Keeping::All, Bounds::usual());
 //! // fault is None, writer.device() has "OK 0\nOK\nBYE\n", and carol holds nothing
 //! let (receipts, segments) = carol.parts();                              // the two receipts, and no segment
 //! ```
@@ -21,6 +21,7 @@
 mod action;
 pub mod answer;
 mod as_reply;
+mod bounds;
 mod fault;
 mod gate;
 pub mod handles;
@@ -36,6 +37,7 @@ pub mod session;
 mod table;
 mod trace;
 
+pub use bounds::Bounds;
 pub use fault::SessionFault;
 pub use gate::{Gate, OpenGate};
 pub use handles::Handles;

@@ -2,7 +2,7 @@
 ghost use Rattle.std.specs.Prelude.{◌≡◌, []};
 ghost use Rattle.th_lines.specs.Commands.{carries_value, command_of};
 ghost use Rattle.th_lines.specs.Reads.{Reads};
-ghost use Rattle.th_lines.specs.Output.{AddsOrFails, Flushes, output};
+ghost use Rattle.th_lines.specs.Output.{Flushes, output};
 ghost use Rattle.th_session.specs.Answer.{PutsTold};
 ghost use Rattle.th_session.specs.Run.{Enters};
 
@@ -27,6 +27,9 @@ const SENT_ROOM: usize = 32;
 
 /// How long a session sleeps at a gate before it asks again, in milliseconds.
 const PAUSE: u64 = 10;
+
+/// How long a session waits for an answer before it asks its gate whether to wait on, in milliseconds.
+const LOOK: u64 = 1000;
 
 /// The replies of a session that wait, and its gate.
 #[derive(Drop)]
@@ -95,6 +98,28 @@ fn let_through<G: Gate>(gate: &G, session: u64, answered: u64, most: usize) -> u
         }
     }
     most
+}
+
+// Waits until the command has its answer; or not, where the gate gives it up for the session of this number.
+fn wait<G: Gate, D: Desk>(
+    gate: &G,
+    number: u64,
+    session: &mut Session<D>,
+    desk: &mut D,
+    command: &Command<'_>,
+) -> bool
+    ensures session { session.new ≡ session.old }
+    ensures desk { desk.new ≡ desk.old }
+{
+    for _ in 0..u64::MAX {
+        if session.wait(desk, command, Duration::from_millis(LOOK)) {
+            return true;
+        }
+        if !gate.waits_on(number) {
+            return false;
+        }
+    }
+    false
 }
 
 impl<'a, C: Clock, G: Gate> Replies<'a, C, G> {
@@ -199,9 +224,9 @@ impl<'a, C: Clock, G: Gate> Replies<'a, C, G> {
         self.sends.begin();
     }
 
-    /// Settles where lines were answered since and this command would wait at the desk. So many lines were answered. Its
-    /// line is the one that was handed out last: of lines behind it that are the same the desk is asked too, once for all. And
-    /// where it sends, the desk is told of the sends behind it.
+    /// Where this command would wait at the desk, it settles, and waits until it has its answer, or the gate gives it up.
+    /// So many lines were answered. Its line is the one that was handed out last: of lines behind it that are the same the
+    /// desk is asked too, once for all. And where it sends, the desk is told of the sends behind it.
     pub(crate) fn settle_before<D: Desk, W: Write>(
         &mut self,
         session: &mut Session<D>,
@@ -210,10 +235,10 @@ impl<'a, C: Clock, G: Gate> Replies<'a, C, G> {
         answered: u64,
         command: &Command<'_>,
         intake: &Intake,
-    ) -> Result<(), WriteFailed>
+    ) -> Result<(), Stop>
         ensures session { session.new ≡ session.old }
         ensures desk { desk.new ≡ desk.old }
-        ensures wrote { AddsOrFails []
+        ensures wrote { Enters
             (output W.contents writer.old self.old) (output W.contents writer.new self.new) result }
     {
         if !waits(command) {
@@ -228,20 +253,28 @@ impl<'a, C: Clock, G: Gate> Replies<'a, C, G> {
             self.sure -= 1;
             return Ok(());
         }
-        if self.told == answered {
-            return Ok(());
-        }
         let same = if takes_a_value(command) {
             self.same_ahead(intake, answered)
         } else {
             0
         };
         match session.ready(desk, command, same.saturating_add(1)) {
-            0 => self.settle(desk, writer, answered),
+            0 => {}
             ready => {
                 self.sure = ready - 1;
-                Ok(())
+                return Ok(());
             }
+        }
+        if self.told != answered {
+            match self.settle(desk, writer, answered) {
+                Ok(()) => {}
+                Err(_) => return Err(Stop::Write),
+            }
+        }
+        if wait(self.gate, self.session, session, desk, command) {
+            Ok(())
+        } else {
+            Err(Stop::Gone)
         }
     }
 

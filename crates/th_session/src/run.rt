@@ -9,6 +9,7 @@ ghost use Rattle.th_session.specs.Run.{AnswersInTime, Ran, Served, Serves, begin
 ghost use Rattle.th_session.specs.Script.{Replied, has_quit};
 
 use crate::answer::refused;
+use crate::bounds::Bounds;
 use crate::fault::{SessionFault, Stop};
 use crate::gate::Gate;
 use crate::keeping::Keeping;
@@ -18,10 +19,7 @@ use std::alloc::{AllocError, Global};
 use std::io::{Read, Write};
 use std::marker::Model;
 use std::time::Clock;
-use th_lines::{
-    Code, Counted, Fed, Feeder, Intake, MOST_LINES, MOST_READS, Reply, TakesLines, WriteBuffer,
-    WriteFailed,
-};
+use th_lines::{Code, Counted, Fed, Feeder, Intake, Reply, TakesLines, WriteBuffer};
 use th_registry::Desk;
 
 /// How far a session's run has got.
@@ -80,7 +78,7 @@ fn answer_in_time<C: Clock, G: Gate, D: Desk, W: Write>(
     answered: u64,
     line: Option<&[u8]>,
     intake: &Intake,
-) -> Result<Answer, WriteFailed>
+) -> Result<Answer, Stop>
     ensures { AnswersInTime D.says (line_given line.entry)
         (session.old, desk.old) (session.new, desk.new)
         (output W.contents writer.old replies.old) (output W.contents writer.new replies.new)
@@ -134,7 +132,7 @@ fn serve<C: Clock, G: Gate, D: Desk, W: Write>(
                 Err(_) => Err(Stop::Write),
             }
         }
-        Err(_) => Err(Stop::Write),
+        Err(why) => Err(why),
     }
 }
 
@@ -254,16 +252,18 @@ fn fault_by(fed: Fed<Stop>) -> Option<SessionFault>
         Fed::Ended => None,
         Fed::Stopped(Stop::Quit) => None,
         Fed::Stopped(Stop::Gate) => Some(SessionFault::Gate),
+        Fed::Stopped(Stop::Gone) => Some(SessionFault::Gone),
         Fed::Stopped(Stop::Write) => Some(SessionFault::Write),
         Fed::Failed => Some(SessionFault::Read),
         Fed::Full | Fed::Spent => Some(SessionFault::TooLong),
     }
 }
 
-// How many lines were answered, of so many that were handed out: a line that the gate did not let through was not.
+// How many lines were answered, of so many that were handed out: a line that the gate did not let through, or gave up, was not.
 fn answered_of(fault: Option<SessionFault>, taken: u64) -> u64 {
     match fault {
         Some(SessionFault::Gate) => taken.saturating_sub(1),
+        Some(SessionFault::Gone) => taken.saturating_sub(1),
         _ => taken,
     }
 }
@@ -291,7 +291,7 @@ fn may_wait(fault: Option<SessionFault>) -> bool
 /// wakes who waits for what was done: so a peer that does not read holds up nobody else. The gate is told of each line whose
 /// reply is written, but where 60 KiB waited, by the next of the other writes.
 ///
-/// It answers at most 1,000,000 lines and makes at most 2^32 reads, of which an interrupted one is made again and
+/// It answers no more lines and makes no more reads than its bounds say, where an interrupted read is made again and
 /// counts; at most 1,000 interrupted writes and flushes are made again. All its buffers, 132 KiB, are made at the start;
 /// where memory is refused later, the line is answered `ERR 21 no-memory` and nothing else has changed. A line of more
 /// than 4,096 bytes is answered `ERR 23 long-line`. A line costs no call of the reader or the writer, and no memory but
@@ -301,9 +301,9 @@ fn may_wait(fault: Option<SessionFault>) -> bool
 /// # Faults
 ///
 /// `Read` and `Write` exactly where the reader and the writer failed; `Gate` at the 1,000th no to one line, some 10 seconds
-/// after the first; `TooLong` where a line beyond the bound begins or one more read would be needed; `Short` where there
-/// is no memory for the buffers, before the first read. All lines that were carried out are answered, and but for `Write`
-/// all replies are written.
+/// after the first; `Gone` where the gate gave up a line that waited; `TooLong` where a line beyond the bound begins or one
+/// more read would be needed; `Short` where there is no memory for the buffers, before the first read. All lines that were
+/// carried out are answered, and but for `Write` all replies are written.
 pub fn run_session<C: Clock, R: Read, W: Write, D: Desk, G: Gate>(
     rt: &C,
     alloc: Global,
@@ -313,22 +313,23 @@ pub fn run_session<C: Clock, R: Read, W: Write, D: Desk, G: Gate>(
     gate: &G,
     number: u64,
     keeping: Keeping,
+    bounds: Bounds,
 ) -> (Session<D>, Option<SessionFault>)
-    ensures served { Served keeping D.says 1000000 (2 ^ 32)
+    ensures served { Served keeping D.says bounds.lines bounds.reads
         (devices R.remaining reader.old W.contents writer.old)
         (devices R.remaining reader.new W.contents writer.new)
         desk.old desk.new result.0 result.1 }
-    ensures reads { reader.new.calls ≤ reader.old.calls + 2 ^ 32 }
+    ensures reads { reader.new.calls ≤ reader.old.calls + bounds.reads }
     ensures reader { reader.new.failures ≡ reader_failures reader.old.failures result.1 }
     ensures writer { writer.new.failures ≡ writer_failures writer.old.failures result.1 }
 {
-    let Ok(mut feeder) = Feeder::new(alloc, MOST_LINES) else {
+    let Ok(mut feeder) = Feeder::new(alloc, bounds.lines) else {
         return (Session::new(alloc), Some(SessionFault::Short));
     };
-    let Ok(mut run) = Run::new(rt, alloc, gate, number, MOST_LINES, keeping) else {
+    let Ok(mut run) = Run::new(rt, alloc, gate, number, bounds.lines, keeping) else {
         return (Session::new(alloc), Some(SessionFault::Short));
     };
-    let fault = run.go(&mut feeder, alloc, reader, writer, desk, MOST_READS);
+    let fault = run.go(&mut feeder, alloc, reader, writer, desk, bounds.reads);
     let mut session = run.into_session();
     session.spend_all(desk);
     desk.wake();

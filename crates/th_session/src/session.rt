@@ -14,6 +14,7 @@ use crate::quit::quit;
 use crate::table::{is_for, replied_list, replied_none, replied_opening};
 use std::alloc::Global;
 use std::marker::Model;
+use std::time::Duration;
 use th_lines::{Action, Code, Command, Reply};
 use th_model::{NameRef, Value};
 use th_numbered::ByNumber;
@@ -125,6 +126,26 @@ fn ready<D: Desk>(
         return most;
     };
     desk.ready(topic, receiver, most)
+}
+
+// Waits until the next call by the actor's own receiver of this topic has its answer, but no longer than so: whether it has. It
+// has where there is no such receiver.
+fn wait<D: Desk>(
+    handles: &mut ByNumber<Handles<D::Tx, D::Rx>>,
+    desk: &mut D,
+    topic: TopicId,
+    longest: Duration,
+) -> bool
+    ensures held { held D.tx D.rx handles.new.entries ≡ held D.tx D.rx handles.old.entries }
+    ensures desk { desk.new ≡ desk.old }
+{
+    let Some(own) = handles.get_mut(topic.0) else {
+        return true;
+    };
+    let Some(receiver) = &mut own.receiver else {
+        return true;
+    };
+    desk.wait(topic, receiver, longest)
 }
 
 // These are what the actor's own sender of this topic sends next, if there is one.
@@ -306,6 +327,23 @@ impl<D: Desk> Session<D> {
             Ok(()) => ready(&mut self.handles, desk, found.topic, most),
             Err(_) => 0,
         }
+    }
+
+    /// Waits until this command, that waits, has its answer, but no longer than so: whether it has.
+    pub(crate) fn wait(&mut self, desk: &mut D, command: &Command<'_>, longest: Duration) -> bool
+        ensures session { self.new ≡ self.old }
+        ensures desk { desk.new ≡ desk.old }
+    {
+        let Command::On(name, action) = command else {
+            return true;
+        };
+        let Some(found) = desk.find(name) else {
+            return true;
+        };
+        if !is_for(found.kind, action) {
+            return true;
+        }
+        wait(&mut self.handles, desk, found.topic, longest)
     }
 
     /// The next commands send these values to the topic of this name: the desk may make their events. There is room then for

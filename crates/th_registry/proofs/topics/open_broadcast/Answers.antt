@@ -58,7 +58,7 @@ returns c =
     made-some (pictures c.args.limit) (length ts + 1) c.args.asked c.args.base c.in-Ok.capacity
     (omega arith) c.in-Ok.ensures.in_force in
     let opened : c.in-Ok-new.channel ≡ (pictures c.args.limit).broadcast_opened c.in-Ok.capacity c.args.base (length ts + 1) =
-    c.in-Ok-new.ensures
+    c.in-Ok-new.ensures.new
     ∙ ap (λ (p : Picture Bytes). opened c.args.limit (c.len-2.result + 1) p p) c.in-Ok-starting_at.ensures
     ∙ (let count : c.len-2.result ≡ length ts = omega (arith, c.len-2.ensures.len) in let p =
     see (machine.opened c.in-Ok.capacity c.args.base) in ap (λ (n : ℕ). opened c.args.limit (n + 1) p p) count) in

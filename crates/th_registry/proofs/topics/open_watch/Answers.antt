@@ -35,7 +35,7 @@ returns c =
     let ts = c.args.channels.now.entries in
     let room : length ts < 1024 = omega (arith, c.len.ensures.len, c.if-len-ge-MOST_TOPICS.false) in
     let opened : c.in-Ok-new.channel ≡ (pictures c.args.limit).watch_opened c.args.value (length ts + 1) =
-    c.in-Ok-new.ensures
+    c.in-Ok-new.ensures.new
     ∙ ap (λ (p : Picture Bytes). opened c.args.limit (c.len-2.result + 1) p p) c.in-Ok.ensures.opened
     ∙ (let count : c.len-2.result ≡ length ts = omega (arith, c.len-2.ensures.len) in let p = see (machine.opened c.args.value 1) in
     ap (λ (n : ℕ). opened c.args.limit (n + 1) p p) count) in

@@ -1,4 +1,4 @@
-use Rattle.std.proofs.Common.{◌≡◌, ◌∙◌, ◌^◌, [], ap, subst, ℕ}
+use Rattle.std.proofs.Common.{◌≡◌, ◌∙◌, [], ap, subst, ℕ}
 use Rattle.th_lines.specs.Feeding.{Feeding}
 use Rattle.th_lines.specs.declared.reply.Reply.TheVariants.{Bye}
 use Rattle.th_session.specs.declared.keeping.Keeping.{Keeping}
@@ -11,11 +11,11 @@ use Rattle.th_session.proofs.run.run_session.Goals as goal
 
 pub returns-in_default-clause-served : goal.returns-in_default-clause-served
 returns-in_default-clause-served g c =
-    served_short c.args.keeping g.D.Desk.says 1000000 (2 ^ 32) _ _ _ c.new-in_default.ensures
+    served_short c.args.keeping g.D.Desk.says c.args.bounds.lines c.args.bounds.reads _ _ _ c.new-in_default.ensures
 
 pub returns-in_default-new-clause-served : goal.returns-in_default-new-clause-served
 returns-in_default-new-clause-served g c =
-    served_short c.args.keeping g.D.Desk.says 1000000 (2 ^ 32) _ _ _ c.new-in_default-new.ensures
+    served_short c.args.keeping g.D.Desk.says c.args.bounds.lines c.args.bounds.reads _ _ _ c.new-in_default-new.ensures
 
 pub returns-clause-served : goal.returns-clause-served
 returns-clause-served g c =
@@ -26,11 +26,11 @@ returns-clause-served g c =
     let kept = c.into_session-session.ensures in
     let end = c.spend_all.ensures in
     let same : c.in-Ok-new.run'.keeping ≡ c.args.keeping = ap (λ (k : Progress). k.keeping) c.in-Ok-new.ensures in
-    let limit : c.in-Ok.feeder.limit ≡ 1000000 = ap (λ (f : Feeding). f.limit) c.in-Ok.ensures in
+    let limit : c.in-Ok.feeder.limit ≡ c.args.bounds.lines = ap (λ (f : Feeding). f.limit) c.in-Ok.ensures in
     rw c.wake.ensures (record {
       last = last;
-      ran = subst (λ (n : ℕ). Ran c.args.keeping says n (2 ^ 32) old new c.args.desk.now last c.go-fault.result) limit
-          (subst (λ (k : Keeping). Ran k says c.in-Ok.feeder.limit (2 ^ 32) old new c.args.desk.now last c.go-fault.result) same
+      ran = subst (λ (n : ℕ). Ran c.args.keeping says n c.args.bounds.reads old new c.args.desk.now last c.go-fault.result) limit
+          (subst (λ (k : Keeping). Ran k says c.in-Ok.feeder.limit c.args.bounds.reads old new c.args.desk.now last c.go-fault.result) same
           c.go-fault.ensures.ran.0);
       spent = subst (λ (k : Kept). Plays says (spend_all k.handles) c.go-fault.new.desk (Replied Bye) [] c.spend_all.new.desk) kept
           end.spent;

@@ -12,7 +12,7 @@ pub returns-in-Err-answer_in_time : goal.returns-in-Err-answer_in_time
 returns-in-Err-answer_in_time g c =
     let failed = c.in-Err-answer_in_time.ensures in
     in_time_broken c.args.keeping g.D.Desk.says (line_given c.args.line) c.args.session.now c.args.desk.now c.enter.new.desk _ _ _ _
-    c.in-Ok.ensures.desk c.in-Ok.ensures.wrote failed.0 failed.1
+    c.in-Ok.ensures.desk c.in-Ok.ensures.wrote c.in-Err-answer_in_time.why failed.0 failed.1
 
 pub returns-in-Ok-put : goal.returns-in-Ok-put
 returns-in-Ok-put g c =
