@@ -1,6 +1,6 @@
 -- What is said of an event, by what the call of a handle came to.
-use Rattle.std.proofs.Common.{◌≡◌, ℕ, true, false, is_some, Option, Some, None, Result, Ok, Err, IfOk, refl, sym, ap, subst, ◌∙◌, inl, inr}
-use Rattle.th_block.specs.Handles.{Holder, Known}
+use Rattle.std.proofs.Common.{◌≡◌, ℕ, ◌≤◌, ◌<◌, true, false, is_some, List, [], Option, Some, None, Result, Ok, Err, IfOk, refl, sym, ap, subst, ◌∙◌, inl, inr, arith}
+use Rattle.th_block.specs.Handles.{Holder, Known, seen_of}
 use Rattle.th_log.specs.Outcome.{Told}
 use Rattle.th_model.specs.declared.kind.Kind.TheVariants as Kinds
 use Rattle.th_model.specs.declared.handles.RxId.{RxId}
@@ -12,24 +12,30 @@ use Rattle.th_model.specs.declared.watch.WCall.{WCall}
 use Rattle.th_model.specs.declared.watch.WCall.TheVariants as WCalls
 use Rattle.th_model.specs.declared.watch.WReply.{WReply}
 use Rattle.th_model.specs.declared.watch.WReply.TheVariants as WReplies
-use Rattle.th_registry.specs.declared.channel.Channel.{Channel}
 use Rattle.th_registry.specs.declared.channel.Channel.TheVariants.{Broadcast, Watch}
 use Rattle.th_registry.specs.declared.outcome.NoEvent.{NoEvent}
 use Rattle.th_registry.specs.declared.outcome.NoEvent.TheVariants.{NoTopic, WrongKind, NoSender, NotLive, Blocked, LogFull, Short}
 use Rattle.th_registry.specs.Calls.{Bytes, tx}
-use Rattle.th_registry.specs.Events.{By, DropsRx, DropsTx, Ended, Event, Hub, Subscribes, any_sender, broadcast_call, broadcast_outcome, ended_or, is_broadcast_done, is_by_hub, is_end, is_watch_done, sender_of, watch_call, watch_outcome}
+use Rattle.th_registry.specs.Events.{By, DropsRx, DropsTx, Ended, Event, Hub, broadcast_call, broadcast_outcome, ended_or, is_broadcast_done, is_by_hub, is_end, is_watch_done, sender_of, watch_call, watch_outcome}
 use Rattle.th_registry.specs.Typed.{ended}
 use Rattle.th_registry.specs.Hub.{Noted, On}
-use Rattle.th_registry.specs.Receipts.{BroadcastReceipt, ChannelReceipt, WatchReceipt}
+use Rattle.th_registry.specs.Receipts.{BroadcastReceipt, WatchReceipt}
 use Rattle.th_seats.specs.Tally.{Part}
+use Rattle.th_shared.specs.Ahead.{Ahead, told_before, told_in}
 use Rattle.th_shared.specs.declared.handles.TopicReceiver.{TopicReceiver}
 use Rattle.th_shared.specs.declared.handles.TopicReceiver.TheVariants.{Live, Spent}
-use Rattle.th_shared.specs.Doing.{Declines, DeclinesHub, Does, EndsHub, Enters, EntersHub, HasEnded, HasMade, KnowsAfter, Moves, OwnDoes, ReceiverMoves, TellsKind, noted_of}
-use Rattle.std.specs.Option.{option_map}
-use Rattle.th_model.specs.declared.verb.Start.{Start}
-use Rattle.th_shared.specs.Numbers.{sender}
+use Rattle.th_shared.specs.Doing.{Declines, DeclinesHub, Does, EndsHub, Enters, EntersAnew, EntersHub, HasEnded, HearsOf, IsTold, MovesAnew, ReceiverMoves, TellsKind, noted_of}
+use Rattle.th_shared.specs.Numbers.{TopicHandle, told_of}
 use Rattle.th_shared.specs.Reasons.{through_hub}
-use Rattle.th_shared.specs.Saying.{MayRefuse, MaySay, first}
+use Rattle.th_shared.specs.Saying.{IsOf, MayRefuse, MaySay, first}
+
+-- what was told of a handle that was told of all
+below-told : (h : Ahead) (place : ℕ) → h.untold ≡ [] → place < seen_of h.handle.known → place < told_in h
+below-told h place none below =
+    subst (λ (l : List BroadcastReceipt). place < told_before l (seen_of h.handle.known)) (sym none) below
+
+same-told : (old new : TopicHandle) → new ≡ old → told_of old ≤ told_of new
+same-told old new same = subst (λ (h : TopicHandle). told_of old ≤ told_of h) (sym same) (omega arith)
 
 -- of an event by a handle that stays
 module _ (n : ℕ) (e : Event) (own : is_by_hub e ≡ false) (stays : is_end e ≡ false) where
@@ -49,7 +55,7 @@ module _ (n : ℕ) (e : Event) (own : is_by_hub e ≡ false) (stays : is_end e �
   broadcast-kind NotLive there = there
   broadcast-kind Blocked bad = absurd bad
   broadcast-kind LogFull there = there
-  broadcast-kind Short there = tt
+  broadcast-kind Short there = there
 
   watch-refuses : (why : NoEvent) → Declines (watch_call e) why → MayRefuse e why
   watch-refuses NoTopic bad = absurd bad
@@ -67,43 +73,61 @@ module _ (n : ℕ) (e : Event) (own : is_by_hub e ≡ false) (stays : is_end e �
   watch-kind NotLive there = there
   watch-kind Blocked bad = absurd bad
   watch-kind LogFull there = there
-  watch-kind Short there = tt
+  watch-kind Short there = there
+
+  broadcast-did : (old new : Ahead) (said : Result BroadcastReceipt NoEvent) → EntersAnew n (broadcast_call e) old new said →
+      Does n e (Broadcast old) (Broadcast new) (noted_of (broadcast_outcome e) (λ r. Broadcast r) said)
+  broadcast-did old new (Ok r) enters = record {
+    says = ((enters.0, refl), stays);
+    kind = ap is_some enters.0.0;
+    number = enters.1.number;
+    knows = (enters.1.made, enters.1.told);
+    rises = (enters.1.later, below-told new r.place enters.1.told enters.1.made.seen);
+  }
+  broadcast-did old new (Err why) enters = record {
+    says = (refl, broadcast-refuses why enters.0);
+    kind = broadcast-kind why enters.0;
+    number = ap (λ (h : Ahead). h.handle.number) enters.1;
+    knows = ap (λ (h : Ahead). Broadcast h) enters.1;
+    rises = same-told (Broadcast old) (Broadcast new) (ap (λ (h : Ahead). Broadcast h) enters.1);
+  }
+
+  pub broadcast-does : (old new : Ahead) (said : Result BroadcastReceipt NoEvent) (noted : Noted) →
+      noted ≡ noted_of (broadcast_outcome e) (λ r. Broadcast r) said →
+      EntersAnew n (broadcast_call e) old new said → Does n e (Broadcast old) (Broadcast new) noted
+  broadcast-does old new said noted is enters = subst (Does n e (Broadcast old) (Broadcast new)) (sym is) (broadcast-did old new said enters)
+
+  -- of an event that was made before
+  pub hears : (old new : Ahead) (r : BroadcastReceipt) (noted : Noted) →
+      noted ≡ noted_of (broadcast_outcome e) (λ r. Broadcast r) (Ok r) → IsOf n (broadcast_call e) r → IsTold old new r →
+      HearsOf n e (Broadcast old) (Broadcast new) noted
+  hears old new r noted is of told = subst (HearsOf n e (Broadcast old) (Broadcast new)) (sym is) (record {
+    receipt = r;
+    told = told;
+    is = refl;
+    says = ((of, refl), stays);
+  })
 
   module _ (old new : Holder) (same : new.number ≡ old.number) where
-    broadcast-did : (said : Result BroadcastReceipt NoEvent) → Enters n (broadcast_call e) old.known new.known said →
-        Does n e (Broadcast old) (Broadcast new) (noted_of (broadcast_outcome e) (λ r. Broadcast r) said)
-    broadcast-did (Ok r) enters = record {
-      says = ((enters.0, refl), stays);
-      kind = ap is_some enters.0.0;
-      number = same;
-      knows = enters.1;
-    }
-    broadcast-did (Err why) enters = record {
-      says = (refl, broadcast-refuses why enters.0);
-      kind = broadcast-kind why enters.0;
-      number = same;
-      knows = enters.1;
-    }
-
     watch-did : (said : Result WatchReceipt NoEvent) → Enters n (watch_call e) old.known new.known said →
         Does n e (Watch old) (Watch new) (noted_of (watch_outcome e) (λ r. Watch r) said)
     watch-did (Ok r) enters = record {
       says = ((enters.0, refl), stays);
       kind = ap is_some enters.0.0;
       number = same;
-      knows = enters.1;
+      knows = (enters.1, refl);
+      rises = (enters.1.later, enters.1.seen);
     }
-    watch-did (Err why) enters = record {
-      says = (refl, watch-refuses why enters.0);
-      kind = watch-kind why enters.0;
-      number = same;
-      knows = enters.1;
-    }
-
-    pub broadcast-does : (said : Result BroadcastReceipt NoEvent) (noted : Noted) →
-        noted ≡ noted_of (broadcast_outcome e) (λ r. Broadcast r) said →
-        Enters n (broadcast_call e) old.known new.known said → Does n e (Broadcast old) (Broadcast new) noted
-    broadcast-does said noted is enters = subst (Does n e (Broadcast old) (Broadcast new)) (sym is) (broadcast-did said enters)
+    watch-did (Err why) enters =
+        let back : new ≡ old = ap (λ (i : ℕ). record { number = i; known = new.known }) same
+        ∙ ap (λ (k : Known). record { number = old.number; known = k }) enters.1 in
+        record {
+          says = (refl, watch-refuses why enters.0);
+          kind = watch-kind why enters.0;
+          number = same;
+          knows = ap (λ (h : Holder). Watch h) back;
+          rises = same-told (Watch old) (Watch new) (ap (λ (h : Holder). Watch h) back);
+        }
 
     pub watch-does : (said : Result WatchReceipt NoEvent) (noted : Noted) →
         noted ≡ noted_of (watch_outcome e) (λ r. Watch r) said →
@@ -190,21 +214,21 @@ if-through-hub P (Ok a) result is here = subst (λ r. IfOk r P) (sym is) here
 if-through-hub P (Err why) result is here = subst (λ r. IfOk r P) (sym is) tt
 
 -- what is left of a broadcast receiver, once another was asked for in its place
-abbrev pub left_of : ℕ → Option Holder → TopicReceiver
+abbrev pub left_of : ℕ → Option Ahead → TopicReceiver
 left_of n None = Spent n
 left_of n (Some h) = Live (Broadcast h)
 
-module _ {M C R : Type 0} (n : ℕ) (call : Option C) (old : Holder) where
-  pub moved : (left : Option Holder) (new : Told C R × Option Holder) (share : Option Part) (made : M) (receipt : ChannelReceipt) →
-      ((k : Known) → HasMade old.known k new.0 → KnowsAfter old.known k (Some receipt)) →
-      Moves n call old left (Ok (new, share)) →
-      ReceiverMoves (Broadcast old) (left_of old.number left) (Ok (made, share)) (Some receipt)
-  moved None (r, Some h) (Some share) made receipt knows moves = (refl, moves.2)
-  moved None (r, Some h) None made receipt knows moves = absurd moves
-  moved None (r, None) share made receipt knows moves = absurd moves
-  moved (Some left) (r, None) None made receipt knows moves = (moves.1, knows left.known moves.2)
-  moved (Some left) (r, None) (Some share) made receipt knows moves = absurd moves
-  moved (Some left) (r, Some h) share made receipt knows moves = absurd moves
+module _ {M : Type 0} (n : ℕ) (call : Option (BCall Bytes)) (old : Ahead) where
+  pub moved : (left : Option Ahead) (new : BroadcastReceipt × Option Holder) (share : Option Part) (made : M) →
+      MovesAnew n call old left (Ok (new, share)) →
+      ReceiverMoves (Broadcast old) (left_of old.handle.number left) (Ok (made, share)) (Some (Broadcast new.0))
+  moved None (r, Some h) (Some share) made moves = ((refl, moves.later), moves.moves.2)
+  moved None (r, Some h) None made moves = absurd moves.moves
+  moved None (r, None) share made moves = absurd moves.moves
+  moved (Some left) (r, None) None made moves =
+      (moves.moves.1, (moves.moves.2, moves.stays), (moves.later, below-told left r.place moves.stays moves.moves.2.seen))
+  moved (Some left) (r, None) (Some share) made moves = absurd moves.moves
+  moved (Some left) (r, Some h) share made moves = absurd moves.moves
 
 -- the last event of a handle, which the channel is done with
 done-broadcast : (reply : BReply Bytes) → reply ≡ BReplies.Done → Ended ≡ ended_or (is_broadcast_done reply) (Broadcast reply)
@@ -250,9 +274,3 @@ module _ (n : ℕ) where
   hub-ends-watch (Some k) None None (Err why) h = no-end why h.0
   hub-ends-watch (Some k) (Some l) share (Err why) h = no-end why h.0
   hub-ends-watch None new share (Err why) h = no-end why h.0
-
--- there was no memory for the share of one handle more
-pub subscribes-short : (n : ℕ) (start : Start) (by : Option (Channel Holder Holder)) →
-    OwnDoes n (Subscribes start (any_sender (option_map sender by))) by by (Err Short, None)
-subscribes-short n start None = refl
-subscribes-short n start (Some h) = record { says = (refl, refl); kind = tt; number = refl; knows = refl }

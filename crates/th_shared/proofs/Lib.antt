@@ -1,3 +1,4 @@
+pub mod Ahead
 pub mod Doing
 pub mod Named
 pub mod Opened

@@ -1,3 +1,4 @@
+pub mod Ahead
 pub mod Cache
 pub mod Doing
 pub mod Numbers

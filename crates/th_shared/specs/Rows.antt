@@ -1,11 +1,14 @@
 -- What is said of the topics under their lock, by the hub's own definitions (th_registry, specs/Hub.antt). Of a channel that
 -- threads share nothing is seen but its kind.
-use Rattle.std.specs.Prelude.{◌≡◌, ◌++◌, ℕ, Result, map}
+use Rattle.std.specs.Prelude.{◌≡◌, ◌++◌, ℕ, Option, Some, None, Result, Ok, Err, map}
 use Rattle.th_model.specs.declared.making.Making.{Making}
 use Rattle.th_registry.specs.Calls.{Bytes}
 use Rattle.th_registry.specs.declared.channel.Channel.{Channel}
 use Rattle.th_registry.specs.declared.channel.Channel.TheVariants.{Broadcast, Watch}
 use Rattle.th_registry.specs.declared.opening.Refusal.{Refusal}
+use Rattle.th_registry.specs.declared.outcome.NoEvent.{NoEvent}
+use Rattle.th_registry.specs.declared.outcome.NoEvent.TheVariants as NoEvents
+use Rattle.th_registry.specs.Kinds.{kind_of}
 use Rattle.th_registry.specs.Hub.{Machines, Open, Says, Topics}
 
 -- topics in order of opening, each with its name and its kind
@@ -37,3 +40,10 @@ module _ {B W : Type 0} where
   abbrev pub Opens : (old : Topics B W) → Bytes → Making → Result ℕ Refusal → (new : Topics B W)
       → Type 0
   Opens old name making said new = SaysOpen (rows old) name making said (rows new) × Stay old new
+
+  -- an owner of the channel of this topic is of its kind; or there is no such topic, or there are too many owners
+  abbrev pub Owns : {X Y : Type 0} → Option (Bytes × Channel B W) → Result (Channel X Y) NoEvent
+      → Type 0
+  Owns None said = said ≡ Err NoEvents.NoTopic
+  Owns (Some topic) (Ok owner) = kind_of owner ≡ kind_of topic.1
+  Owns (Some topic) (Err why) = why ≡ NoEvents.Short

@@ -9,6 +9,7 @@ ghost use Rattle.th_shared.specs.Reasons.{through_hub};
 ghost use Rattle.th_shared.specs.Saying.{IsNumbered, first};
 
 use crate::new_handle::New;
+use crate::shares::Shares;
 use crate::topic::{Own, Topic};
 use crate::{event, new_handle};
 use std::sync::Wait;
@@ -47,7 +48,12 @@ impl<O: Kind> Topic<O> {
     }
 
     /// A new sender.
-    pub(crate) fn bind<R: Wait>(&mut self, rt: &R, topic: TopicId) -> Result<New<O, Sends>, NoEvent>
+    pub(crate) fn bind<R: Wait>(
+        &mut self,
+        rt: &R,
+        topic: TopicId,
+        shares: &mut Shares,
+    ) -> Result<New<O, Sends>, NoEvent>
         requires { O.lawful }
         ensures enters { EntersHub topic.0 (Some (O.cloning (tx 1)))
             (option_map (λ own. own.sender.known) self.old.own)
@@ -56,7 +62,7 @@ impl<O: Kind> Topic<O> {
             IsNumbered (made_by O.made_tx O.made_rx new.0.reply) new.1) }
     {
         match &mut self.own {
-            Some(own) => through_hub(new_handle::bind(rt, topic, &mut own.sender)),
+            Some(own) => through_hub(new_handle::bind(rt, topic, &mut own.sender, shares)),
             None => Err(NoEvent::NoSender),
         }
     }
@@ -67,6 +73,7 @@ impl<O: Kind> Topic<O> {
         rt: &R,
         topic: TopicId,
         start: Start,
+        shares: &mut Shares,
     ) -> Result<New<O, Receives>, NoEvent>
         requires { O.lawful }
         ensures enters { EntersHub topic.0 (O.subscribing start (tx 1))
@@ -79,7 +86,9 @@ impl<O: Kind> Topic<O> {
             return Err(NoEvent::WrongKind);
         };
         match &mut self.own {
-            Some(own) => through_hub(new_handle::subscribe(rt, topic, &mut own.sender, start)),
+            Some(own) => {
+                through_hub(new_handle::subscribe(rt, topic, &mut own.sender, start, shares))
+            }
             None => Err(NoEvent::NoSender),
         }
     }

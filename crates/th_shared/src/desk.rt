@@ -7,16 +7,17 @@ use crate::cut::cut;
 use crate::deferred_wake::{DeferredWake, defer, is_deferred, wake};
 use crate::ended::{Ended, end_of};
 use crate::handles::{TopicReceiver, TopicSender};
-use crate::receipts_ahead::ReceiptsAhead;
 use crate::registry::{another_owner, ask, bind, end, find, open, subscribe};
 use crate::shared_topics::SharedTopics;
 use crate::shares::Shares;
 use crate::told;
 use crate::topic_cache::TopicCache;
+use crate::untold::Room;
 use std::alloc::Global;
 use std::marker::Model;
 use std::mem::replace;
 use std::sync::{Arc, Wait};
+use std::time::{Clock, Duration};
 use th_model::{
     Listing, Making, NameRef, Question, ReceiverVerb, RxId, SenderVerb, Short, Start, Value, WCall,
 };
@@ -36,8 +37,9 @@ use th_seats::Share;
 ///
 /// `ready` makes the receives of a broadcast receiver that it answers, at most 64 under one lock, and `by_receiver` hands out
 /// their receipts without it. `send_ahead` likewise makes the sends of a broadcast sender under one lock, wakes once, and
-/// `by_sender` hands out their receipts. A handle that is spent before it was told of all of them is not told of the others:
-/// their events stand in the history, and its share counts them.
+/// `by_sender` hands out their receipts. The handle holds them meanwhile. Where it makes another event before it was told of
+/// all of them, or is spent, it is not told of the others: they stand in the history, and its share counts them. So what a
+/// handle is told stands above all that it was told before.
 #[derive(Drop)]
 pub struct SharedDesk<R: Wait + Clone> {
     // By which it waits.
@@ -49,10 +51,8 @@ pub struct SharedDesk<R: Wait + Clone> {
     deferred: Option<DeferredWake>,
     // Topics that it finds without their lock.
     cache: TopicCache,
-    // Receives that it made before they were asked for.
-    received: ReceiptsAhead,
-    // Sends that it made so.
-    sent: ReceiptsAhead,
+    // Room for the receipts of calls that a handle makes ahead.
+    spare: Option<Room>,
 }
 
 impl<R: Wait + Clone> Model for SharedDesk<R> {
@@ -90,8 +90,7 @@ impl<R: Wait + Clone> SharedDesk<R> {
             shares: Shares::new(alloc),
             deferred: None,
             cache: TopicCache::new(alloc),
-            received: ReceiptsAhead::new(alloc),
-            sent: ReceiptsAhead::new(alloc),
+            spare: None,
         }
     }
 
@@ -148,8 +147,7 @@ impl<R: Wait + Clone> SharedDesk<R> {
             shares,
             deferred,
             cache,
-            received,
-            sent,
+            spare,
         } = self;
         match Arc::try_unwrap(hub) {
             Ok(shared) => {
@@ -165,8 +163,7 @@ impl<R: Wait + Clone> SharedDesk<R> {
                 shares,
                 deferred,
                 cache,
-                received,
-                sent,
+                spare,
             }),
         }
     }
@@ -188,13 +185,13 @@ fn deferred_after<R: Wait>(
     }
 }
 
-impl<R: Wait + Clone> Desk for SharedDesk<R> {
+impl<R: Wait + Clock + Clone> Desk for SharedDesk<R> {
     ghost use Rattle.std.specs.Option.{option_map};
     ghost use Rattle.std.specs.Prelude.{IfErr};
-    ghost use Rattle.th_registry.specs.Events.{Asks, DropsRx, DropsTx, Own, Receives, Sends, Subscribes, any_sender};
+    ghost use Rattle.th_registry.specs.Events.{Asks, DropsRx, DropsTx, Own, Receives, Resubscribes, Sends, Subscribes, any_sender};
     ghost use Rattle.th_registry.specs.Hub.{On};
     ghost use Rattle.th_registry.specs.Typed.{made_rx, replied, spent};
-    ghost use Rattle.th_shared.specs.Doing.{DoesOrDid, OwnDoes, ReceiverDoes};
+    ghost use Rattle.th_shared.specs.Doing.{DoesOrDid, OwnDoes, ReceiverDoes, ReceiverGoesAhead, ReceiverLeaves, SenderGoesAhead};
     ghost use Rattle.th_shared.specs.Numbers.{receiver as rx_of, sender as tx_of};
     ghost use Rattle.th_shared.specs.Saying.{Says};
 
@@ -236,12 +233,9 @@ impl<R: Wait + Clone> Desk for SharedDesk<R> {
             cache,
             ..
         } = self;
-        let Ok(()) = shares.make_room() else {
-            return Err(NoEvent::Short);
-        };
         let mut topics = hub.topics.lock(rt);
         cache.add(&*topics, topic);
-        let made = bind(rt, &mut *topics, topic);
+        let made = bind(rt, &mut *topics, topic, shares);
         shares.count(&made);
         made
     }
@@ -265,15 +259,12 @@ impl<R: Wait + Clone> Desk for SharedDesk<R> {
             cache,
             ..
         } = self;
-        let Ok(()) = shares.make_room() else {
-            return Err(NoEvent::Short);
-        };
         let made = match sender {
-            Some(sender) => told::subscribe(rt, topic, start, sender),
+            Some(sender) => told::subscribe(rt, topic, start, sender, shares),
             None => {
                 let mut topics = hub.topics.lock(rt);
                 cache.add(&*topics, topic);
-                subscribe(rt, &mut *topics, topic, start)
+                subscribe(rt, &mut *topics, topic, start, shares)
             }
         };
         shares.count(&made);
@@ -296,11 +287,11 @@ impl<R: Wait + Clone> Desk for SharedDesk<R> {
         let SharedDesk {
             rt,
             deferred,
-            sent,
+            spare,
             ..
         } = self;
         // Whoever waits for it was woken when it was made.
-        if let Some(receipt) = told::sent(topic, sent, sender, &verb) {
+        if let Some(receipt) = told::sent(topic, sender, &verb, spare) {
             return Ok(receipt);
         }
         let said = told::send(rt, topic, sender, verb);
@@ -346,7 +337,7 @@ impl<R: Wait + Clone> Desk for SharedDesk<R> {
         let SharedDesk {
             rt,
             deferred,
-            received,
+            spare,
             ..
         } = self;
         match verb {
@@ -354,7 +345,7 @@ impl<R: Wait + Clone> Desk for SharedDesk<R> {
             _ => {}
         }
         match receiver {
-            TopicReceiver::Live(receiver) => told::receive(rt, topic, received, receiver, verb),
+            TopicReceiver::Live(receiver) => told::receive(rt, topic, receiver, verb, spare),
             TopicReceiver::Spent(_) => Err(NoEvent::NotLive),
         }
     }
@@ -363,21 +354,15 @@ impl<R: Wait + Clone> Desk for SharedDesk<R> {
         &mut self,
         topic: TopicId,
         receiver: &mut TopicReceiver,
-    ) -> Result<Made<TopicReceiver>, NoEvent> {
-        let SharedDesk {
-            rt,
-            shares,
-            received,
-            ..
-        } = self;
-        let Ok(()) = shares.make_room() else {
-            return Err(NoEvent::Short);
-        };
+    ) -> Result<Made<TopicReceiver>, NoEvent>
+        ensures event { let event = Resubscribes (rx_of receiver.old) in
+            Says self.old (On topic.0 event) (made_rx rx_of result) self.new }
+        ensures receiver { rx_of receiver.new ≡ rx_of receiver.old }
+        ensures does { ReceiverLeaves receiver.old receiver.new (made_rx rx_of result).1 }
+    {
+        let SharedDesk { rt, shares, .. } = self;
         let (after, said) = match replace(receiver, TopicReceiver::Spent(0)) {
-            TopicReceiver::Live(old) => {
-                received.forget(&old);
-                told::resubscribe(rt, topic, old)
-            }
+            TopicReceiver::Live(old) => told::resubscribe(rt, topic, old, shares),
             TopicReceiver::Spent(number) => (TopicReceiver::Spent(number), Err(NoEvent::NotLive)),
         };
         *receiver = after;
@@ -402,13 +387,7 @@ impl<R: Wait + Clone> Desk for SharedDesk<R> {
         ensures back { IfErr result (λ unspent. tx_of unspent.handle ≡ tx_of sender) }
         ensures same { IfErr result (λ unspent. unspent.handle ≡ sender) }
     {
-        let SharedDesk {
-            rt,
-            shares,
-            sent,
-            ..
-        } = self;
-        sent.forget(&sender);
+        let SharedDesk { rt, shares, .. } = self;
         match told::end_sender(rt, topic, sender) {
             Ok(share) => {
                 shares.keep(topic, share);
@@ -428,23 +407,15 @@ impl<R: Wait + Clone> Desk for SharedDesk<R> {
         ensures back { IfErr result (λ unspent. rx_of unspent.handle ≡ rx_of receiver) }
         ensures same { IfErr result (λ unspent. unspent.handle ≡ receiver) }
     {
-        let SharedDesk {
-            rt,
-            shares,
-            received,
-            ..
-        } = self;
+        let SharedDesk { rt, shares, .. } = self;
         match receiver {
-            TopicReceiver::Live(receiver) => {
-                received.forget(&receiver);
-                match told::end_receiver(rt, topic, receiver) {
-                    Ok(share) => {
-                        shares.keep(topic, share);
-                        Ok(())
-                    }
-                    Err(unspent) => Err(unspent),
+            TopicReceiver::Live(receiver) => match told::end_receiver(rt, topic, receiver) {
+                Ok(share) => {
+                    shares.keep(topic, share);
+                    Ok(())
                 }
-            }
+                Err(unspent) => Err(unspent),
+            },
             TopicReceiver::Spent(number) => Err(Unspent {
                 handle: TopicReceiver::Spent(number),
                 why: NoEvent::NotLive,
@@ -475,11 +446,20 @@ impl<R: Wait + Clone> Desk for SharedDesk<R> {
         wake(rt, deferred);
     }
 
-    fn ready(&mut self, topic: TopicId, receiver: &mut TopicReceiver, most: usize) -> usize {
-        let SharedDesk { rt, received, .. } = self;
+    fn ready(&mut self, topic: TopicId, receiver: &mut TopicReceiver, most: usize) -> usize
+        ensures desk { self.new ≡ self.old }
+        ensures receiver { rx_of receiver.new ≡ rx_of receiver.old }
+        ensures ahead { ReceiverGoesAhead most result receiver.old receiver.new }
+    {
+        let SharedDesk {
+            rt,
+            shares,
+            spare,
+            ..
+        } = self;
         match receiver {
             TopicReceiver::Live(Channel::Broadcast(receiver)) => {
-                received.receive_ahead(rt, topic, receiver, most)
+                receiver.receive_ahead(rt, topic, most, spare, shares.allocator())
             }
             TopicReceiver::Live(Channel::Watch(reader)) => {
                 if reader.would_wait(rt, &WCall::Changed(RxId(reader.number()))) {
@@ -492,10 +472,37 @@ impl<R: Wait + Clone> Desk for SharedDesk<R> {
         }
     }
 
-    fn send_ahead(&mut self, topic: TopicId, sender: &mut TopicSender, values: &[Value]) {
-        let SharedDesk { rt, sent, .. } = self;
+    fn wait(&mut self, topic: TopicId, receiver: &mut TopicReceiver, longest: Duration) -> bool
+        ensures desk { self.new ≡ self.old }
+        ensures receiver { rx_of receiver.new ≡ rx_of receiver.old }
+        ensures same { receiver.new ≡ receiver.old }
+    {
+        let SharedDesk { rt, deferred, .. } = self;
+        wake(rt, deferred);
+        match receiver {
+            TopicReceiver::Live(Channel::Broadcast(receiver)) => receiver.wait_for(rt, longest),
+            TopicReceiver::Live(Channel::Watch(reader)) => {
+                reader.wait_for(rt, &WCall::Changed(RxId(reader.number())), longest)
+            }
+            TopicReceiver::Spent(_) => true,
+        }
+    }
+
+    fn send_ahead(&mut self, topic: TopicId, sender: &mut TopicSender, values: &[Value])
+        ensures desk { self.new ≡ self.old }
+        ensures sender { tx_of sender.new ≡ tx_of sender.old }
+        ensures ahead { SenderGoesAhead values.now sender.old sender.new }
+    {
+        let SharedDesk {
+            rt,
+            shares,
+            spare,
+            ..
+        } = self;
         match sender {
-            Channel::Broadcast(sender) => sent.send_ahead(rt, topic, sender, values),
+            Channel::Broadcast(sender) => {
+                sender.send_ahead(rt, topic, values, spare, shares.allocator())
+            }
             Channel::Watch(_) => {}
         }
     }

@@ -27,7 +27,8 @@ pub(crate) fn why<C: Drop>(refused: Refused<C>) -> NoEvent
 
 /// Whether the handle is on this topic: a channel's key is its topic's number, counted from 1.
 pub(crate) fn is_on<O: Kind, S: Side<O>>(handle: &Handle<O, S>, topic: TopicId) -> bool
-    ensures { IsTrue result → handle.now.known.share.key ≡ topic.0 + 1 }
+    ensures on { IsTrue result → handle.now.known.share.key ≡ topic.0 + 1 }
+    ensures off { handle.now.known.share.key ≡ topic.0 + 1 → IsTrue result }
 {
     topic.0.checked_add(1) == Some(handle.key())
 }

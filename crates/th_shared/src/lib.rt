@@ -22,6 +22,7 @@
 //! ```
 #![tactic(auto)]
 
+mod ahead_handle;
 mod by_hub;
 mod cut;
 mod deferred_wake;
@@ -31,7 +32,6 @@ mod event;
 pub mod handles;
 mod new_handle;
 pub mod observer;
-mod receipts_ahead;
 mod registry;
 mod said;
 pub mod serve;
@@ -40,9 +40,10 @@ mod shares;
 mod told;
 mod topic;
 mod topic_cache;
+mod untold;
 
 pub use desk::SharedDesk;
 pub use ended::Ended;
-pub use handles::{TopicReceiver, TopicSender};
+pub use handles::{AheadHandle, TopicReceiver, TopicSender};
 pub use observer::{Observer, Unheard};
 pub use serve::{Attended, ServeFault, Served, serve_on};

@@ -1,4 +1,5 @@
-//! The events that make handles of any kind of channel, each on the topic that is named.
+//! The events that make handles of any kind of channel, each on the topic that is named. Room for the share of the new handle is
+//! asked for last, where nothing but its channel's log can refuse it.
 ghost use Rattle.std.specs.Prelude.{◌≡◌, IfOk, IfSome, Some};
 ghost use Rattle.th_log.specs.Replies.{made_by};
 ghost use Rattle.th_block.specs.Handles.{rx, tx};
@@ -6,6 +7,7 @@ ghost use Rattle.th_shared.specs.Doing.{Enters, Moves};
 ghost use Rattle.th_shared.specs.Saying.{IsNumbered, first};
 
 use crate::event::{is_on, why};
+use crate::shares::Shares;
 use std::sync::Wait;
 use th_block::{Handle, Receives, Replaced, Sends};
 use th_log::{Kind, Receipt};
@@ -21,6 +23,7 @@ pub(crate) fn bind<O: Kind, R: Wait>(
     rt: &R,
     topic: TopicId,
     sender: &mut Handle<O, Sends>,
+    shares: &mut Shares,
 ) -> Result<New<O, Sends>, NoEvent>
     requires { O.lawful }
     ensures number { sender.new.number ≡ sender.old.number }
@@ -32,6 +35,9 @@ pub(crate) fn bind<O: Kind, R: Wait>(
     if !is_on(sender, topic) {
         return Err(NoEvent::NotLive);
     }
+    let Ok(()) = shares.make_room() else {
+        return Err(NoEvent::Short);
+    };
     match sender.clone_tx(rt) {
         Ok(new) => Ok(new),
         Err(refused) => Err(why(refused)),
@@ -44,6 +50,7 @@ pub(crate) fn subscribe<O: Kind, R: Wait>(
     topic: TopicId,
     sender: &mut Handle<O, Sends>,
     start: Start,
+    shares: &mut Shares,
 ) -> Result<New<O, Receives>, NoEvent>
     requires { O.lawful }
     ensures number { sender.new.number ≡ sender.old.number }
@@ -58,6 +65,9 @@ pub(crate) fn subscribe<O: Kind, R: Wait>(
     if !is_on(sender, topic) {
         return Err(NoEvent::NotLive);
     }
+    let Ok(()) = shares.make_room() else {
+        return Err(NoEvent::Short);
+    };
     match sender.subscribe_from(rt, start) {
         Some(Ok(new)) => Ok(new),
         Some(Err(refused)) => Err(why(refused)),
@@ -77,6 +87,7 @@ pub(crate) fn resubscribe<O: Kind, R: Wait>(
     rt: &R,
     topic: TopicId,
     old: Handle<O, Receives>,
+    shares: &mut Shares,
 ) -> Moved<O>
     requires { O.lawful }
     ensures moves { Moves topic.0 (O.resubscribing (rx old)) old result.0 result.1 }
@@ -89,6 +100,9 @@ pub(crate) fn resubscribe<O: Kind, R: Wait>(
     if !is_on(&old, topic) {
         return (Some(old), Err(NoEvent::NotLive));
     }
+    let Ok(()) = shares.make_room() else {
+        return (Some(old), Err(NoEvent::Short));
+    };
     let Ok(owner) = old.shared() else {
         return (Some(old), Err(NoEvent::Short));
     };

@@ -1,10 +1,10 @@
 //! The topics that threads share, as they stand under their lock.
-ghost use Rattle.std.specs.Prelude.{◌≡◌, ◌⊎◌, false, is_some, IfErr};
+ghost use Rattle.std.specs.Prelude.{◌≡◌, false, is_some, slice_get};
 ghost use Rattle.th_registry.specs.Events.{Asks, Binds, DropsTx, Hub, Subscribes};
 ghost use Rattle.th_registry.specs.Hub.{On, find};
 ghost use Rattle.th_registry.specs.Typed.{ended, made_rx, made_tx, replied};
 ghost use Rattle.th_shared.specs.Numbers.{receiver, sender};
-ghost use Rattle.th_shared.specs.Rows.{Opens};
+ghost use Rattle.th_shared.specs.Rows.{Opens, Owns};
 ghost use Rattle.th_shared.specs.Saying.{MaySay};
 
 use crate::handles::{TopicOwner, TopicReceiver, TopicSender};
@@ -12,6 +12,7 @@ use crate::said::{
     broadcast_receivers, broadcast_senders, broadcast_told, watch_receivers, watch_senders,
     watch_told,
 };
+use crate::shares::Shares;
 use crate::topic::{AnyTopic, Topic};
 use indexmap::IndexMap;
 use std::alloc::Global;
@@ -120,6 +121,7 @@ pub(crate) fn bind<R: Wait>(
     rt: &R,
     topics: &mut Topics,
     topic: TopicId,
+    shares: &mut Shares,
 ) -> Result<Made<TopicSender>, NoEvent>
     ensures { MaySay (On topic.0 Binds) (made_tx sender result) }
 {
@@ -127,8 +129,8 @@ pub(crate) fn bind<R: Wait>(
         return Err(NoEvent::NoTopic);
     };
     match at {
-        Channel::Broadcast(at) => broadcast_senders(at.bind(rt, topic)),
-        Channel::Watch(at) => watch_senders(at.bind(rt, topic)),
+        Channel::Broadcast(at) => broadcast_senders(at.bind(rt, topic, shares)),
+        Channel::Watch(at) => watch_senders(at.bind(rt, topic, shares)),
     }
 }
 
@@ -138,6 +140,7 @@ pub(crate) fn subscribe<R: Wait>(
     topics: &mut Topics,
     topic: TopicId,
     start: Start,
+    shares: &mut Shares,
 ) -> Result<Made<TopicReceiver>, NoEvent>
     ensures { MaySay (On topic.0 (Subscribes start Hub)) (made_rx receiver result) }
 {
@@ -145,8 +148,8 @@ pub(crate) fn subscribe<R: Wait>(
         return Err(NoEvent::NoTopic);
     };
     match at {
-        Channel::Broadcast(at) => broadcast_receivers(at.subscribe(rt, topic, start)),
-        Channel::Watch(at) => watch_receivers(at.subscribe(rt, topic, start)),
+        Channel::Broadcast(at) => broadcast_receivers(at.subscribe(rt, topic, start, shares)),
+        Channel::Watch(at) => watch_receivers(at.subscribe(rt, topic, start, shares)),
     }
 }
 
@@ -183,7 +186,7 @@ pub(crate) fn end<R: Wait>(rt: &R, topics: &mut Topics, topic: TopicId) -> Resul
 
 /// An owner of a topic's channel, by which its log is cut.
 pub(crate) fn another_owner(topics: &Topics, topic: TopicId) -> Result<TopicOwner, NoEvent>
-    ensures { IfErr result (λ why. (why ≡ NoEvent.NoTopic) ⊎ (why ≡ NoEvent.Short)) }
+    ensures { Owns (slice_get topics.now.entries topic.0) result }
 {
     let Some((_, at)) = topics.get_index(topic.0 as usize) else {
         return Err(NoEvent::NoTopic);

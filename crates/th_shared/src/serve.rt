@@ -13,7 +13,7 @@ use th_lines::Counted;
 use th_registry::TopicId;
 use th_registry::channel::{TopicReceipt, TopicSegment};
 use th_seats::Share;
-use th_session::{Gate, Keeping, SessionFault, run_session};
+use th_session::{Bounds, Gate, Keeping, SessionFault, run_session};
 
 /// A session that has ended. It holds no handle.
 #[derive(Drop)]
@@ -94,6 +94,7 @@ fn attend<R: Wait + Clock + Clone, G: Gate, O: Observer>(
         gate,
         number,
         keeping,
+        Bounds::usual(),
     );
     observer.ended(number, fault);
     let (receipts, segments) = session.parts();

@@ -2,21 +2,23 @@
 //! the receipt as one of the topic.
 ghost use Rattle.std.specs.Prelude.{◌≡◌, None, Ok, Some, IfErr, IfOk, MatchOption, OnOk};
 ghost use Rattle.th_log.specs.Outcome.{counted};
-ghost use Rattle.th_registry.specs.Events.{Asks, DropsRx, DropsTx, Ended, Own, Receives as Received, Resubscribes, Sends as Sent, Subscribes};
+ghost use Rattle.th_registry.specs.Events.{Asks, DropsRx, DropsTx, Ended, Own, Receives as Received, Resubscribes, Sends as Sent, Subscribes, broadcast_call};
 ghost use Rattle.th_registry.specs.Hub.{On};
 ghost use Rattle.th_registry.specs.Typed.{made_rx, replied};
-ghost use Rattle.th_shared.specs.Doing.{Does, DoesAhead, HandsOut, ReceiverMoves};
-ghost use Rattle.th_shared.specs.Numbers.{known_of, number_of, receiver, sender};
+ghost use Rattle.th_shared.specs.Doing.{Does, DoesOrDid, HearsOf, IsNext, ReceiverMoves};
+ghost use Rattle.th_shared.specs.Numbers.{known_of, number_of, receiver, sender, untold_of};
 ghost use Rattle.th_shared.specs.Saying.{IsEvent, MaySay, first};
 
-use crate::handles::{LiveReceiver, TopicOwner, TopicReceiver, TopicSender};
-use crate::receipts_ahead::ReceiptsAhead;
+use crate::handles::{AheadHandle, LiveReceiver, TopicOwner, TopicReceiver, TopicSender};
 use crate::said::{
     broadcast_receiver, broadcast_receivers, broadcast_told, watch_receivers, watch_told,
 };
+use crate::shares::Shares;
+use crate::untold::Room;
 use crate::{event, new_handle};
 use std::sync::Wait;
-use th_model::{Question, ReceiverVerb, RxId, SenderVerb, Short, Start, TxId, Value};
+use th_block::Receives;
+use th_model::{Question, ReceiverVerb, SenderVerb, Short, Start, Value};
 use th_registry::channel::TopicReceipt;
 use th_registry::{Channel, Made, NoEvent, TopicId, Unspent};
 use th_seats::Share;
@@ -32,7 +34,7 @@ pub(crate) fn send<R: Wait>(
     ensures { Does topic.0 (Sent (sender handle.old) verb) handle.old handle.new (replied result) }
 {
     match handle {
-        Channel::Broadcast(handle) => broadcast_told(event::send(rt, topic, handle, verb)),
+        Channel::Broadcast(handle) => broadcast_told(handle.send(rt, topic, verb)),
         Channel::Watch(handle) => watch_told(event::send(rt, topic, handle, verb)),
     }
 }
@@ -41,23 +43,21 @@ pub(crate) fn send<R: Wait>(
 #[inline(always)]
 pub(crate) fn sent(
     topic: TopicId,
-    ahead: &mut ReceiptsAhead,
-    handle: &TopicSender,
+    handle: &mut TopicSender,
     verb: &SenderVerb<Value>,
+    spare: &mut Option<Room>,
 ) -> Option<TopicReceipt>
-    ensures { let event = Sent (sender handle.now) verb.now in
-        let held = ahead.old.receipts.items in
-        let left = ahead.new.receipts.items in
-        MatchOption result (left ≡ held) (λ receipt. HandsOut topic.0 event held left
-        handle.now handle.now (replied (Ok receipt))) }
+    ensures { let event = Sent (sender handle.old) verb.now in
+        MatchOption result
+        ((IsNext topic.0 (broadcast_call event) (untold_of handle.old) → ⊥)
+        × (handle.new ≡ handle.old))
+        (λ receipt. HearsOf topic.0 event handle.old handle.new (replied (Ok receipt))) }
 {
     match handle {
-        Channel::Broadcast(handle) => {
-            match ahead.take_sent(topic, TxId(handle.number()), verb) {
-                Some(receipt) => Some(Channel::Broadcast(receipt)),
-                None => None,
-            }
-        }
+        Channel::Broadcast(handle) => match handle.tell_sent(topic, verb, spare) {
+            Some(receipt) => Some(Channel::Broadcast(receipt)),
+            None => None,
+        },
         Channel::Watch(_) => None,
     }
 }
@@ -73,8 +73,27 @@ pub(crate) fn ask<R: Wait>(
         Does topic.0 event handle.old handle.new (replied result) }
 {
     match handle {
-        Channel::Broadcast(handle) => broadcast_told(event::ask(rt, topic, handle, question)),
+        Channel::Broadcast(handle) => broadcast_told(handle.ask(rt, topic, question)),
         Channel::Watch(handle) => watch_told(event::ask(rt, topic, handle, question)),
+    }
+}
+
+// What a broadcast receiver does, where it was not done yet.
+#[inline(always)]
+fn receive_broadcast<R: Wait>(
+    rt: &R,
+    topic: TopicId,
+    handle: &mut AheadHandle<Receives>,
+    verb: ReceiverVerb,
+    spare: &mut Option<Room>,
+) -> Result<TopicReceipt, NoEvent>
+    ensures { let event = Received (record { 0 = handle.old.handle.number }) verb in
+        DoesOrDid topic.0 event (Channel.Broadcast handle.old) (Channel.Broadcast handle.new)
+        (replied result) }
+{
+    match handle.tell_received(topic, verb, spare) {
+        Some(receipt) => Ok(Channel::Broadcast(receipt)),
+        None => broadcast_told(handle.receive(rt, topic, verb)),
     }
 }
 
@@ -83,21 +102,15 @@ pub(crate) fn ask<R: Wait>(
 pub(crate) fn receive<R: Wait>(
     rt: &R,
     topic: TopicId,
-    ahead: &mut ReceiptsAhead,
     handle: &mut LiveReceiver,
     verb: ReceiverVerb,
+    spare: &mut Option<Room>,
 ) -> Result<TopicReceipt, NoEvent>
     ensures { let event = Received (record { 0 = number_of handle.old }) verb in
-        DoesAhead topic.0 event ahead.old.receipts.items ahead.new.receipts.items
-        handle.old handle.new (replied result) }
+        DoesOrDid topic.0 event handle.old handle.new (replied result) }
 {
     match handle {
-        Channel::Broadcast(handle) => {
-            match ahead.take_received(topic, RxId(handle.number()), verb) {
-                Some(receipt) => Ok(Channel::Broadcast(receipt)),
-                None => broadcast_told(event::receive(rt, topic, handle, verb)),
-            }
-        }
+        Channel::Broadcast(handle) => receive_broadcast(rt, topic, handle, verb, spare),
         Channel::Watch(handle) => watch_told(event::receive(rt, topic, handle, verb)),
     }
 }
@@ -108,15 +121,18 @@ pub(crate) fn subscribe<R: Wait>(
     topic: TopicId,
     start: Start,
     handle: &mut TopicSender,
+    shares: &mut Shares,
 ) -> Result<Made<TopicReceiver>, NoEvent>
     ensures { let event = Subscribes start (Own (sender handle.old)) in
         Does topic.0 event handle.old handle.new (made_rx receiver result) }
 {
     match handle {
         Channel::Broadcast(handle) => {
-            broadcast_receivers(new_handle::subscribe(rt, topic, handle, start))
+            broadcast_receivers(handle.subscribe(rt, topic, start, shares))
         }
-        Channel::Watch(handle) => watch_receivers(new_handle::subscribe(rt, topic, handle, start)),
+        Channel::Watch(handle) => {
+            watch_receivers(new_handle::subscribe(rt, topic, handle, start, shares))
+        }
     }
 }
 
@@ -126,6 +142,7 @@ pub(crate) fn resubscribe<R: Wait>(
     rt: &R,
     topic: TopicId,
     old: LiveReceiver,
+    shares: &mut Shares,
 ) -> (
     TopicReceiver,
     Result<(Made<TopicReceiver>, Option<Share>), NoEvent>,
@@ -145,7 +162,7 @@ pub(crate) fn resubscribe<R: Wait>(
         }
     };
     let number = old.number();
-    let (left, said) = new_handle::resubscribe(rt, topic, old);
+    let (left, said) = old.resubscribe(rt, topic, shares);
     let left = match left {
         Some(left) => TopicReceiver::Live(Channel::Broadcast(left)),
         None => TopicReceiver::Spent(number),
@@ -169,7 +186,7 @@ pub(crate) fn end_sender<R: Wait>(
         (unspent.handle ≡ handle) × (unspent.why ≡ NoEvent.NotLive)) }
 {
     match handle {
-        Channel::Broadcast(handle) => match event::end(rt, topic, handle) {
+        Channel::Broadcast(handle) => match handle.end(rt, topic) {
             Ok(share) => Ok(share),
             Err(handle) => Err(Unspent {
                 handle: Channel::Broadcast(handle),
@@ -199,7 +216,7 @@ pub(crate) fn end_receiver<R: Wait>(
         (unspent.handle ≡ TopicReceiver.Live handle) × (unspent.why ≡ NoEvent.NotLive)) }
 {
     match handle {
-        Channel::Broadcast(handle) => match event::end(rt, topic, handle) {
+        Channel::Broadcast(handle) => match handle.end(rt, topic) {
             Ok(share) => Ok(share),
             Err(handle) => Err(Unspent {
                 handle: TopicReceiver::Live(Channel::Broadcast(handle)),
