@@ -49,7 +49,7 @@ class Help:
         self.text = printed(program, *mode.split(), "--help")
         # An option with its value, as `--sessions N`, and with its short form, as `-h, --help`.
         self.options = {it.replace("<", "").replace(">", "") for it in re.findall(r"^ +(-.*?)  ", block(self.text, "Options:"), re.M)}
-        self.arguments = set(re.findall(r"^ +<(\w+)>", block(self.text, "Arguments:"), re.M))
+        self.arguments = set(re.findall(r"^ +[<[](\w+)[]>]", block(self.text, "Arguments:"), re.M))
         self.modes = rows(block(self.text, "Commands:"))
 
     def words(self):
@@ -60,7 +60,7 @@ class Help:
         """What a man page has to list, and nothing else: options, and what the help has in two columns or as a fault."""
         if not self.mode:
             return self.options | self.modes | rows(block(self.text, "Exit status:")) | set(re.findall(r"`(topichub: [a-z ]+)`", self.text))
-        return self.options | {it for it in rows(self.text) if not it.startswith(("-", "<"))}
+        return self.options | {it for it in rows(self.text) if not it.startswith(("-", "<", "["))}
 
     def numbers(self):
         return set(re.findall(r"\d{2,}", self.text))
@@ -130,7 +130,7 @@ def long_options(shell):
     """The long options that stand anywhere in a completion."""
     with open(completion(shell), encoding="utf-8") as file:
         text = file.read()
-    pattern = r"^complete .* -l ([a-z]+)" if shell == "fish" else r"(?<![\w-])--([a-z]+)"
+    pattern = r"^complete .* -l ([a-z-]+)" if shell == "fish" else r"(?<![\w-])--([a-z-]+)"
     return {f"--{name}" for name in re.findall(pattern, text, re.M)}
 
 

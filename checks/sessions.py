@@ -10,11 +10,12 @@ from program import patience, program
 
 
 class Server:
-    """A server of so many sessions, which may have so many files open at a time. `first` is the first line that it printed: it
-    listens, or has ended without one."""
+    """A server of so many sessions, or one that stands, by its other words; it may have so many files open at a time. `first` is the
+    first line that it printed: it listens, or has ended without one."""
 
-    def __init__(self, path, sessions, seconds, environment=None, files=None):
+    def __init__(self, path, sessions, seconds, environment=None, files=None, words=None):
         self.path = path
+        words = words or ["--sessions", str(sessions)]
 
         def begin():
             signal.signal(signal.SIGINT, signal.SIG_DFL)
@@ -22,7 +23,8 @@ class Server:
                 resource.setrlimit(resource.RLIMIT_NOFILE, (files, files))
 
         # A shell has what it starts in the background ignore SIGINT, and so would all below it.
-        self.process = subprocess.Popen([program(), "serve", path, "--sessions", str(sessions)], stdin=subprocess.DEVNULL,
+        self.process = subprocess.Popen([program(), "serve", path, *words],
+                                        stdin=subprocess.PIPE if "--until-eof" in words else subprocess.DEVNULL,
                                         stdout=subprocess.PIPE, stderr=subprocess.PIPE, text=True, env=environment,
                                         preexec_fn=begin)
         # What has not ended after so many seconds never will, and says no more.

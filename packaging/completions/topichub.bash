@@ -8,12 +8,18 @@ _topichub() {
     case $mode:$word in
         :-*) words='-h --help -V --version' ;;
         :*) words='replay check serve help' ;;
-        replay:-* | check:-*) words='-h --help' ;;
+        replay:-*) words='-h --help' ;;
+        check:-*) words='--joined -h --help' ;;
+        check:*)
+            compopt -o filenames 2>/dev/null
+            mapfile -t COMPREPLY < <(compgen -f -- "$word")
+            return
+            ;;
         help:*) [ "$COMP_CWORD" -ne 2 ] || words='replay check serve help' ;;
         serve:*)
             case $before:$word in
-                --sessions:* | =:*) ;; # a number from 1 to 64
-                *:-*) words='--sessions -h --help' ;;
+                --sessions:* | --at-once:* | =:*) ;; # a number
+                *:-*) words='--sessions --at-once --replace --until-eof --verbose -h --help' ;;
                 *)
                     compopt -o filenames 2>/dev/null
                     mapfile -t COMPREPLY < <(compgen -d -- "$word")

@@ -18,10 +18,16 @@ end
 
 complete -c topichub -f
 complete -c topichub -n __topichub_at_mode -a replay -d 'Print the replies to a schedule from standard input'
-complete -c topichub -n __topichub_at_mode -a check -d 'Say whether the trace from standard input is legal'
+complete -c topichub -n __topichub_at_mode -a check -d 'Say whether traces are legal'
 complete -c topichub -n __topichub_at_mode -a serve -d 'Serve sessions on a Unix socket'
 complete -c topichub -n __topichub_at_mode -a help -d 'Print help'
 complete -c topichub -n '__topichub_in; or __topichub_in replay check serve' -s h -l help -d 'Print help'
 complete -c topichub -n __topichub_in -s V -l version -d 'Print the version'
+complete -c topichub -n '__topichub_in check' -l joined -d 'The files are to be one history'
+complete -c topichub -n '__topichub_in check' -F
 complete -c topichub -n '__topichub_in serve' -l sessions -x -d 'How many connections are served, 1 to 64'
+complete -c topichub -n '__topichub_in serve' -l at-once -x -d 'Any number of connections, so many at a time, 1 to 1024'
+complete -c topichub -n '__topichub_in serve' -l replace -d 'Take the place of a socket whose server is gone'
+complete -c topichub -n '__topichub_in serve' -l until-eof -d 'End at the end of standard input'
+complete -c topichub -n '__topichub_in serve' -l verbose -d 'Say what is wrong at the path'
 complete -c topichub -n '__topichub_in serve' -a '(__fish_complete_directories)'

@@ -5,7 +5,7 @@ _topichub_modes() {
     local -a modes
     modes=(
         'replay:print the replies to a schedule from standard input'
-        'check:say whether the trace from standard input is legal'
+        'check:say whether traces are legal'
         'serve:serve sessions on a Unix socket'
         'help:print help'
     )
@@ -23,12 +23,21 @@ _topichub() {
         '*:: :->words' && ret=0
     [[ $state == words ]] || return ret
     case $line[1] in
-        replay | check)
+        replay)
             _arguments "$help[@]" && ret=0
+            ;;
+        check)
+            _arguments "$help[@]" \
+                '--joined[the files are to be one history]' \
+                '*:trace:_files' && ret=0
             ;;
         serve)
             _arguments "$help[@]" \
-                '--sessions=[how many connections are served]:number from 1 to 64: ' \
+                '(--at-once --replace --until-eof --verbose)--sessions=[how many connections are served]:number from 1 to 64: ' \
+                '(--sessions)--at-once=[any number of connections, so many at a time]:number from 1 to 1024: ' \
+                '(--sessions)--replace[take the place of a socket whose server is gone]' \
+                '(--sessions)--until-eof[end at the end of standard input]' \
+                '(--sessions)--verbose[say what is wrong at the path]' \
                 '1:path of the new socket:_files -/' && ret=0
             ;;
         help)

@@ -2,6 +2,7 @@
 use std::alloc::Global;
 use std::collections::VecDeque;
 use std::sync::Wait;
+use std::time::{Clock, Duration};
 use th_block::{
     BReceiver, BSender, Receives, Resub, RingBroadcast, Sends, Shared, Side, WReader, WSender,
     broadcast, broadcast_at, watch,
@@ -22,8 +23,14 @@ pub type BTold = Result<Receipt<News>, Refused<BCall<u64>>>;
 /// What an event of the broadcast channel is answered that may make a handle.
 pub type BMade<H> = Result<(Receipt<News>, Option<H>), Refused<BCall<u64>>>;
 
+/// What a loop over the broadcast channel is told, and whether that is the last.
+pub type BNext = Result<(Receipt<News>, bool), Refused<BCall<u64>>>;
+
 /// What an event of the watch channel is answered.
 pub type WTold = Result<Receipt<Light>, Refused<WCall<u64>>>;
+
+/// What a loop over the watch channel is told, and whether that is the last.
+pub type WNext = Result<(Receipt<Light>, bool), Refused<WCall<u64>>>;
 
 /// What an event of the watch channel is answered that may make a handle.
 pub type WMade<H> = Result<(Receipt<Light>, Option<H>), Refused<WCall<u64>>>;
@@ -67,6 +74,14 @@ pub fn enter_from(rt: &impl Wait, tx: &mut BSender<u64>) -> Option<BMade<BReceiv
 
 pub fn by_receiver(rt: &impl Wait, rx: &mut BReceiver<u64>) -> ([BTold; 3], Option<BTold>) {
     ([rx.try_recv(rt), rx.recv(rt), rx.left(rt)], rx.next(rt))
+}
+
+pub fn loop_to_the_end(
+    rt: &impl Wait,
+    rx: &mut BReceiver<u64>,
+    reader: &mut WReader<u64>,
+) -> (BNext, WNext) {
+    (rx.next_told(rt), reader.next_told(rt))
 }
 
 pub fn enter_by_receiver(rt: &impl Wait, rx: &mut BReceiver<u64>) -> BMade<BReceiver<u64>> {
@@ -138,6 +153,10 @@ pub fn look(
         [tx.learn(7), tx.would_wait(rt, call)],
         [tx.number(), tx.key(), tx.seen()],
     )
+}
+
+pub fn wait_for<R: Wait + Clock>(rt: &R, tx: &WSender<u64>, call: &WCall<u64>) -> bool {
+    tx.wait_for(rt, call, Duration::from_secs(1))
 }
 
 pub fn call_quietly(rt: &impl Wait, tx: &mut WSender<u64>) -> WTold {

@@ -1,10 +1,15 @@
 //! Calls of th_log. They are written for any object, and made at a watch channel of numbers at the end: at an object that is
 //! known each call would have its whole contract.
 use std::alloc::Global;
-use th_log::{Compared, Diary, Kind, Logged, Object, Receipt, Segment, audit, close, made};
+use th_log::{Compared, Diary, Kind, Logged, Object, Receipt, Segment, audit, close, laws, made};
 use th_model::{Question, ReceiverVerb, RxId, SenderVerb, Start, TxId, WCall, WReply};
 use th_seats::Share;
 use th_watch::{PictureParts, Watch};
+
+pub fn law() {
+    laws::receives_tell::<u64>();
+    laws::changes_tell::<u64>();
+}
 
 fn make<O: Object>(alloc: Global, object: O)
     requires { O.lawful }

@@ -4,8 +4,8 @@ use std::fs::File;
 use std::process::ExitCode;
 use th_lines::Counted;
 use th_program::{
-    Advising, End, explanation, given_words, greet, mode, run, run_for, run_not_text,
-    run_on_streams, run_short, status, texts,
+    Advising, End, Opens, check_by_words, check_files, check_joined, explanation, given_words,
+    greet, mode, run, run_for, run_not_text, run_on_streams, run_short, status, texts,
 };
 
 pub fn say(errors: &mut Counted<File>) {
@@ -27,6 +27,20 @@ pub fn run_with(
 ) {
     let _ = run(alloc, words, input, output, errors);
     let _ = run_for(alloc, words, input, output, errors, true);
+}
+
+pub fn check_with(
+    rt: &HostRuntime,
+    alloc: Global,
+    words: &[&str],
+    names: &[String],
+    output: &mut Counted<File>,
+    errors: &mut Counted<File>,
+) {
+    let _ = rt.open("t.1.trace");
+    let _ = check_files(alloc, rt, names, output, errors, true);
+    let _ = check_joined(alloc, rt, names, output, errors, true);
+    let _ = check_by_words(alloc, rt, words, output, errors, true);
 }
 
 pub fn read_words(rt: &HostRuntime, alloc: Global, words: &[&str], given: &[String]) {

@@ -1,6 +1,7 @@
 //! Calls of th_registry, at a desk of one thread. What they answer is handed on, so that nothing is let go here.
 use indexmap::IndexMap;
 use std::alloc::Global;
+use std::time::Duration;
 use th_log::{MakeFault, Receipt, Segment};
 use th_model::{
     Kind, Listing, Making, Name, NameRef, Question, ReceiverVerb, RxId, SenderVerb, Short, Start,
@@ -148,8 +149,9 @@ pub fn keep(
     topic: TopicId,
     tx: &mut TxId,
     rx: &mut RxId,
-) -> (Result<TopicSegment, NoEvent>, usize) {
+) -> (Result<TopicSegment, NoEvent>, usize, bool) {
     desk.wake();
     desk.send_ahead(topic, tx, &[]);
-    (desk.cut(topic), desk.ready(topic, rx, 7))
+    let waits = desk.wait(topic, rx, Duration::from_secs(1));
+    (desk.cut(topic), desk.ready(topic, rx, 7), waits)
 }

@@ -8,7 +8,7 @@ use th_registry::channel::{TopicReceipt, TopicSegment};
 use th_registry::{LocalDesk, TopicId};
 use th_session::quiet::{self, Own};
 use th_session::{
-    Answer, Gate, Keeping, OpenGate, Session, SessionFault, laws, local, run_session,
+    Answer, Bounds, Gate, Keeping, OpenGate, Session, SessionFault, laws, local, run_session,
 };
 
 pub fn law() {
@@ -79,7 +79,11 @@ pub fn take_apart(
 
 pub fn ask_gate(gate: &OpenGate) -> bool {
     gate.answered(1, 7);
-    gate.may(1, 8)
+    gate.may(1, 8) && gate.waits_on(1)
+}
+
+pub fn endless() -> Bounds {
+    Bounds::none()
 }
 
 pub fn run<C: Clock>(
@@ -98,5 +102,6 @@ pub fn run<C: Clock>(
         &OpenGate,
         1,
         Keeping::Nothing,
+        Bounds::usual(),
     )
 }

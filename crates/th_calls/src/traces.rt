@@ -17,7 +17,7 @@ pub fn law() {
     laws::one_spelling_of_broadcast_replies();
     laws::one_spelling_of_watch_calls();
     laws::one_spelling_of_watch_replies();
-    laws::pictures_are_read_as_printed();
+    laws::one_spelling_of_pictures();
 }
 
 pub fn print_broadcast(

@@ -1,9 +1,10 @@
 -- What `clap` makes of the program's command line at words that are written out.
 use Rattle.std.proofs.Common.{◌≡◌, ◌∙◌, ℕ, List, [], ◌∷◌, refl, sym, ap, subst, codes, true, false, Option, Some, None, Result, Ok, Err, IfOk}
-use Rattle.std.specs.Prelude.{Box}
+use Rattle.std.specs.Prelude.{◌||◌, Bool, Box, OnOk}
 use Rattle.std.specs.Box.{box_value}
 use Rattle.std.specs.Option.{option_map}
-use Rattle.clap.specs.Words.{AddsSubcommand, App, HasMatchesOf, Row, Text, app_of, fault_of, is_simple, is_simple_and_free, subcommand_name_of, subcommand_of, subcommand_rows, subcommand_rows_of, with_subcommand}
+use Rattle.clap.specs.Words.{AddsArg, AddsSubcommand, App, HasMatchesOf, Row, Text, app_of, fault_of, is_simple, is_simple_and_free, subcommand_name_of, subcommand_of, subcommand_rows, subcommand_rows_of, rule_of, with_rule, with_subcommand}
+use Rattle.clap.specs.declared.builder.arg.Arg.{Arg}
 use Rattle.clap.specs.declared.builder.command.Command.{Command}
 use Rattle.clap.specs.declared.builder.command.Command.TheViews.{out-Command}
 use Rattle.clap.specs.declared.parser.matches.ArgMatches.{ArgMatches}
@@ -13,7 +14,7 @@ use Rattle.clap.specs.declared.error.kind.ErrorKind.TheVariants as kind
 use Rattle.clap.proofs.OnLiterals.{clap_on_literals}
 use Rattle.th_program.specs.declared.modes.Mode.{Mode}
 use Rattle.th_program.specs.declared.modes.ModeFault.{ModeFault}
-use Rattle.th_program.specs.Words.{AreServe, AsksFor, IsMode, arguments_by, arguments_of, asked_by, asked_of, command_line, text_of}
+use Rattle.th_program.specs.Words.{AreServe, AsksRightly, IsMode, arguments_by, arguments_of, asked_by, asked_of, command_line, files_of, is_joined}
 
 pub is_plain : is_simple_and_free command_line ≡ true
 is_plain = refl
@@ -25,6 +26,15 @@ replay_passes name = refl
 pub check_passes : (name : List ℕ) → fault_of command_line (name ∷ codes "check" ∷ []) ≡ []
 unfolding clap_on_literals
 check_passes name = refl
+
+-- with no words behind it a check has no files
+pub no_files : (name : List ℕ) → files_of (arguments_by (name ∷ codes "check" ∷ [])) ≡ None
+unfolding clap_on_literals
+no_files name = refl
+
+pub not_joined : (name : List ℕ) → is_joined (arguments_by (name ∷ codes "check" ∷ [])) ≡ false
+unfolding clap_on_literals
+not_joined name = refl
 
 -- the command that such words name
 pub is_simple_line : is_simple command_line ≡ true
@@ -66,6 +76,9 @@ module _ (m : ArgMatches) (app : App) (words : List (List ℕ)) (is : app ≡ co
   rows_are = (has (ap is_simple is ∙ is_simple_line)).1
       ∙ ap (λ (a : App). subcommand_of a words) is
 
+  pub arguments_are : arguments_of (subcommand_rows_of m) ≡ arguments_by words
+  arguments_are = ap arguments_of rows_are
+
   pub name_is : subcommand_name_of m ≡ option_map (λ p. p.0) (subcommand_of command_line words)
   name_is = matches_name m ∙ ap (λ (r : Option (Text × List Row)). option_map (λ p. p.0) r) rows_are
 
@@ -104,6 +117,32 @@ pub adds_app : {E : Type 0} (program sub : Command) (app : App) (result : Result
 adds_app program sub app (Ok r) adds local is = adds.shape local ∙ ap (λ (a : App). with_subcommand (app_of program) a.top) is
 adds_app program sub app (Err e) adds local is = adds
 
+or_false : (b : Bool) → (b || false) ≡ b
+or_false true = refl
+or_false false = refl
+
+-- an argument that is added
+pub adds_rule : {E : Type 0} (old : Command) (a : Arg) (result : Result Command E) → IfOk result (λ r. AddsArg old a r)
+    → a.global ≡ false → IfOk result (λ r. app_of r ≡ with_rule (app_of old) (rule_of a))
+adds_rule old a (Ok r) adds local = adds.shape local
+adds_rule old a (Err e) adds local = adds
+
+pub adds_local : {E : Type 0} (old : Command) (a : Arg) (result : Result Command E) → IfOk result (λ r. AddsArg old a r)
+    → a.global ≡ false → IfOk result (λ r. (out-Command r).has_globals ≡ (out-Command old).has_globals)
+adds_local old a (Ok r) adds local =
+    adds.globals ∙ ap (λ (b : Bool). (out-Command old).has_globals || b) local ∙ or_false (out-Command old).has_globals
+adds_local old a (Err e) adds local = adds
+
+-- what is so of what is Ok
+pub ok_is : {A E X : Type 0} (f : A → X) (r : Result A E) {x y : X} → x ≡ y → IfOk r (λ a. f a ≡ x) → IfOk r (λ a. f a ≡ y)
+ok_is f (Ok a) e h = h ∙ e
+ok_is f (Err e') e h = h
+
+-- what holds anyway holds of what is Ok
+pub on_ok : {A E P : Type 0} (r : Result A E) → P → OnOk r P
+on_ok (Ok a) p = p
+on_ok (Err e) p = tt
+
 module _ (m : ArgMatches) (app : App) (words : List (List ℕ)) (is : app ≡ command_line) (has : HasMatchesOf app words m) where
   -- a mode that the matches ask for is the one that the words ask for
   pub mode_by : (r : Result Mode ModeFault) → IfOk r (IsMode (asked_of (subcommand_name_of m)) (arguments_of (subcommand_rows_of m)))
@@ -114,6 +153,6 @@ module _ (m : ArgMatches) (app : App) (words : List (List ℕ)) (is : app ≡ co
       (rows_are m app words is has []) h)
 
   -- and so is the number of sessions
-  pub number_by : (n : ℕ) → AreServe words n → AsksFor (text_of (codes "N") (arguments_of (subcommand_rows_of m))) n
-  number_by n a = subst (λ (o : Option (Text × List Row)). AsksFor (text_of (codes "N") (arguments_of o)) n)
+  pub number_by : (n : ℕ) → AreServe words n → AsksRightly (arguments_of (subcommand_rows_of m)) n
+  number_by n a = subst (λ (o : Option (Text × List Row)). AsksRightly (arguments_of o) n)
       (sym (rows_are m app words is has [])) a.number

@@ -26,7 +26,7 @@ advice_more h (x ∷ xs) b = ap (λ (ys : List ℕ). text_of (news h x) ++ ys) (
     (text_of (news (heard_after (after h x) xs) b))
 
 -- a text was said, and then another
-said_more : (a b c : Errors) (s t : List ℕ) → IsSaid a b s → IsSaid b c t
+pub said_more : (a b c : Errors) (s t : List ℕ) → IsSaid a b s → IsSaid b c t
     → (c.failures ≡ 0 → b.failures ≡ 0) → IsSaid a c (s ++ t)
 said_more a b c s t p q still = λ begun ended.
     Appends-trans a.written b.written c.written s t (p begun (still ended)) (q (still ended) ended)

@@ -2,4 +2,6 @@ mod CommandLine
 mod Endings
 mod Hearing
 mod Writing
-mod Serving
+mod GivenWords
+mod Checking
+mod Telling

@@ -1,4 +1,5 @@
 pub mod Status
 pub mod Words
 pub mod Run
+pub mod Files
 pub mod Advice

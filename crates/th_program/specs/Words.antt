@@ -1,11 +1,15 @@
 -- What the words of the command line ask for.
-use Rattle.std.specs.Prelude.{◌≡◌, ◌⊎◌, ◌≤◌, ℕ, List, [], ◌∷◌, Option, Some, None, Result, MatchResult, codes, string_bytes, true, if◌then◌else◌}
+use Rattle.std.specs.Prelude.{◌≡◌, ◌⊎◌, ◌≤◌, ◌||◌, ℕ, Bool, List, [], ◌∷◌, Option, Some, None, is_some, IsSome, Result, MatchResult, codes, map, string_bytes, true, false, if◌then◌else◌}
 use Rattle.std.specs.Str.{bytes_eq}
 use Rattle.std.specs.Str.Parse.{IsNumeral, digits_value, without_leading_plus}
 use Rattle.std.specs.Option.{option_map, unwrap_or}
-use Rattle.clap.specs.Words.{App, Row, fault_of, first_of, new_app, new_rule, subcommand_of, with_rule, with_subcommand}
+use Rattle.clap.specs.Words.{App, Row, Rule, all_of, fault_of, first_of, new_app, new_rule, subcommand_of, with_rule, with_subcommand}
+use Rattle.clap.specs.declared.builder.action.ArgAction.TheVariants.{Append, SetTrue}
 use Rattle.th_program.specs.declared.modes.Mode.{Mode}
-use Rattle.th_program.specs.declared.modes.Mode.TheVariants.{Check, Replay, Serve}
+use Rattle.th_program.specs.declared.modes.Mode.TheVariants.{Check, CheckFiles, Replay, Serve}
+use Rattle.th_program.specs.declared.modes.Serving.{Serving}
+use Rattle.th_program.specs.declared.modes.Serving.TheVariants as serving
+use Rattle.th_program.specs.declared.modes.Standing.{Standing}
 use Rattle.th_program.specs.declared.modes.Asked.{Asked}
 use Rattle.th_program.specs.declared.modes.ModeFault.{ModeFault}
 use Rattle.th_program.specs.declared.modes.ModeFault.TheVariants.{Usage, Help, Short}
@@ -66,9 +70,14 @@ asked_of (Some name) =
     else if bytes_eq name (codes "serve") then Asked.Serve
     else Asked.Replay
 
--- a mode that serves has 1 to 64 sessions
+-- 1 to 64 sessions, or 1 to 1,024 at a time
+abbrev pub IsWithin : Serving → Type 0
+IsWithin (serving.Sessions n) = (1 ≤ n) × (n ≤ 64)
+IsWithin (serving.Standing how) = (1 ≤ how.at_once) × (how.at_once ≤ 1024)
+
+-- a mode that serves has so many
 abbrev pub HasSessions : Mode → Type 0
-HasSessions (Serve path sessions) = (1 ≤ sessions) × (sessions ≤ 64)
+HasSessions (Serve path serving) = IsWithin serving
 HasSessions mode = Unit {0}
 
 -- a command of the program has to be named, and the program tells its version
@@ -76,20 +85,47 @@ abbrev pub with_required : App → App
 with_required app =
     record app { top = record app.top { subcommand_required = true; has_version = true } }
 
--- `serve` and its words: a path, and how many sessions
+-- a word that is given or not
+abbrev pub flag_of : List ℕ → Rule
+flag_of word = record (new_rule word) { long = Some word; action = Some SetTrue }
+
+-- how many sessions at a time
+abbrev pub at_once : Rule
+at_once = record (new_rule (codes "AT_ONCE")) { long = Some (codes "at-once"); value_names = 1 }
+
+-- the words of a server that stands: how many sessions at a time, and three that are given or not
+abbrev pub with_standing : App → App
+with_standing app =
+    with_rule
+    (with_rule
+    (with_rule
+    (with_rule app at_once)
+    (flag_of (codes "replace")))
+    (flag_of (codes "until-eof")))
+    (flag_of (codes "verbose"))
+
+-- `serve` and its words: a path, how many sessions, and those of a server that stands
 abbrev pub serve_line : App
 serve_line =
-    with_rule
+    with_standing
+    (with_rule
     (with_rule (new_app (codes "serve")) (record (new_rule (codes "PATH")) { required = true }))
-    (record (new_rule (codes "N")) { long = Some (codes "sessions"); required = true })
+    (record (new_rule (codes "N")) { long = Some (codes "sessions") }))
 
--- the command line as `clap` reads it: `replay` and `check`, which take no words, and `serve`
+-- `check` and its words: files, and whether they are one history
+abbrev pub check_line : App
+check_line =
+    with_rule
+    (with_rule (new_app (codes "check")) (record (new_rule (codes "FILE")) { action = Some Append }))
+    (flag_of (codes "joined"))
+
+-- the command line as `clap` reads it: `replay`, which takes no words, `check` and `serve`
 abbrev pub command_line : App
 command_line =
     with_subcommand
     (with_subcommand
     (with_subcommand (with_required (new_app (codes "topichub"))) (new_app (codes "replay")).top)
-    (new_app (codes "check")).top)
+    check_line.top)
     serve_line.top
 
 -- which mode words name that `clap` takes
@@ -107,22 +143,79 @@ arguments_by words = arguments_of (subcommand_of command_line words)
 abbrev pub text_of : List ℕ → List Row → List ℕ
 text_of id rows = unwrap_or (first_of id rows) []
 
--- the text is a number from 1 to 64 in decimal digits; a plus may stand before them
-abbrev pub AsksFor : List ℕ → ℕ → Type 0
-AsksFor text n = IsNumeral 10 (without_leading_plus text)
+-- the text is a number from 1 to the bound in decimal digits; a plus may stand before them
+abbrev pub IsCount : ℕ → List ℕ → ℕ → Type 0
+IsCount bound text n = IsNumeral 10 (without_leading_plus text)
     × (n ≡ digits_value 10 (without_leading_plus text))
-    × (1 ≤ n) × (n ≤ 64)
+    × (1 ≤ n) × (n ≤ bound)
 
--- the mode that was asked for; one that serves has the path and the number of sessions that these words say
+-- so many sessions in all, 1 to 64; or at a time, 1 to 1,024
+abbrev pub AsksFor : List ℕ → ℕ → Type 0
+AsksFor = IsCount 64
+
+abbrev pub AsksAtOnce : List ℕ → ℕ → Type 0
+AsksAtOnce = IsCount 1024
+
+-- whether such a word was given
+abbrev pub is_given : List ℕ → List Row → Bool
+is_given word rows = bytes_eq (text_of word rows) (codes "true")
+
+-- a server that stands runs as these words say
+abbrev pub StandsBy : List Row → Standing → Type 0
+StandsBy rows how = AsksAtOnce (text_of (codes "AT_ONCE") rows) how.at_once
+    × (how.replaces ≡ is_given (codes "replace") rows)
+    × (how.until_eof ≡ is_given (codes "until-eof") rows)
+    × (how.is_verbose ≡ is_given (codes "verbose") rows)
+
+-- which words of one that serves are given: how many sessions in all, how many at a time, and others of a server that stands
+abbrev pub has_sessions : List Row → Bool
+has_sessions rows = is_some (first_of (codes "N") rows)
+
+abbrev pub has_at_once : List Row → Bool
+has_at_once rows = is_some (first_of (codes "AT_ONCE") rows)
+
+abbrev pub has_others : List Row → Bool
+has_others rows = is_given (codes "replace") rows
+    || is_given (codes "until-eof") rows || is_given (codes "verbose") rows
+
+-- as many sessions are served as these words say
+abbrev pub ServesBy : List Row → Serving → Type 0
+ServesBy rows (serving.Sessions n) = AsksFor (text_of (codes "N") rows) n
+ServesBy rows (serving.Standing how) = StandsBy rows how
+
+-- the files that are named, none where none is
+abbrev pub files_of : List Row → Option (List (List ℕ))
+files_of rows = all_of (codes "FILE") rows
+
+-- the files are to be one history
+abbrev pub is_joined : List Row → Bool
+is_joined rows = is_given (codes "joined") rows
+
+-- a history has a file at least
+abbrev pub HasFiles : List Row → Type 0
+HasFiles rows = is_joined rows ≡ true → IsSome (files_of rows)
+
+-- the mode that was asked for; one that checks files has those that the words name, and one that serves has what they say
 abbrev pub IsMode : Asked → List Row → Mode → Type 0
 IsMode asked rows Replay = asked ≡ Asked.Replay
-IsMode asked rows Check = asked ≡ Asked.Check
-IsMode asked rows (Serve path sessions) = (asked ≡ Asked.Serve)
+IsMode asked rows Check =
+    (asked ≡ Asked.Check) × (files_of rows ≡ None) × (is_joined rows ≡ false)
+IsMode asked rows (CheckFiles files joined) = (asked ≡ Asked.Check)
+    × (files_of rows ≡ Some (map string_bytes files.items))
+    × (joined ≡ is_joined rows)
+IsMode asked rows (Serve path serving) = (asked ≡ Asked.Serve)
     × (string_bytes path ≡ text_of (codes "PATH") rows)
-    × AsksFor (text_of (codes "N") rows) sessions
+    × ServesBy rows serving
 
--- words that ask rightly to serve so many sessions
+-- words that ask rightly to serve so many sessions, or so many at a time: one of both, and further words with the second alone
+abbrev pub AsksRightly : List Row → ℕ → Type 0
+AsksRightly rows n =
+    (AsksFor (text_of (codes "N") rows) n × (has_sessions rows ≡ true)
+    × (has_at_once rows ≡ false) × (has_others rows ≡ false))
+    ⊎ (AsksAtOnce (text_of (codes "AT_ONCE") rows) n
+    × (has_at_once rows ≡ true) × (has_sessions rows ≡ false))
+
 pub record AreServe (words : List (List ℕ)) (n : ℕ) : Type 0 where
   pub taken : fault_of command_line words ≡ []
   pub asked : asked_by words ≡ Asked.Serve
-  pub number : AsksFor (text_of (codes "N") (arguments_by words)) n
+  pub number : AsksRightly (arguments_by words) n

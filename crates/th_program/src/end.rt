@@ -25,6 +25,8 @@ pub enum End {
     Illegal,
     /// A trace that was checked has a line which is none of a trace.
     Bad,
+    /// Of traces that were checked as one history, one does not begin where the one before it ends.
+    Apart,
 }
 
 /// The exit status: 0 where all went well, 1 where the machine or a limit stopped the run, 2 where
@@ -37,7 +39,7 @@ pub fn status(end: &End) -> u8
         End::Done | End::Help => 0,
         End::Read | End::Write | End::TooLong | End::Short | End::Socket => 1,
         End::Usage => 2,
-        End::Illegal | End::Bad => 3,
+        End::Illegal | End::Bad | End::Apart => 3,
     }
 }
 
@@ -51,6 +53,6 @@ pub fn explanation(end: &End) -> Option<&'static str>
         End::TooLong => Some("topichub: too long"),
         End::Short => Some("topichub: no memory"),
         End::Socket => Some("topichub: socket fault"),
-        End::Done | End::Help | End::Usage | End::Illegal | End::Bad => None,
+        End::Done | End::Help | End::Usage | End::Illegal | End::Bad | End::Apart => None,
     }
 }

@@ -33,10 +33,11 @@ With the left half in a file, `topichub replay < FILE` prints the right half.
 `topichub replay --help` lists all commands and replies.
 
 The command TRACE of a schedule prints what happened on a topic. `topichub check`
-reads such a trace and says whether a channel would have done so.
+reads such traces and says whether a channel would have done so.
 
 `topichub serve PATH --sessions N` takes the same commands from many clients at
-once, on a Unix socket, and lets NEXT and CHANGED wait.
+once, on a Unix socket, and lets NEXT and CHANGED wait; with `--at-once N` it
+stands, and serves any number of them.
 
 Exit status:
   0  done; of a check, that the trace is legal
@@ -44,7 +45,7 @@ Exit status:
      `topichub: write fault`, `topichub: too long`, `topichub: no memory` or
      `topichub: socket fault`
   2  wrong words on the command line
-  3  the trace that was checked is illegal or bad";
+  3  a trace that was checked is illegal or bad, or traces are not one history";
 
 /// One line on the mode `replay`.
 pub const REPLAY_ABOUT: &str =
@@ -156,11 +157,21 @@ What puzzles at first:
 At most 1000000 lines. Exit status as in `topichub --help`.";
 
 /// One line on the mode `check`.
-pub const CHECK_ABOUT: &str =
-    "Read a trace from standard input, print whether it is legal on standard output";
+pub const CHECK_ABOUT: &str = "Read traces, print whether they are legal on standard output";
+
+/// Its words.
+pub const CHECK_FILES: &str = "Files with a trace each; without any, one from standard input";
+
+/// Its option.
+pub const CHECK_JOINED: &str = "The files, in this order, are to be one history";
+
+/// What is wrong where it is given without files.
+pub const NO_FILES: &str =
+    "error: the argument '--joined' wants files\n\nFor more information, try '--help'.\n";
 
 /// What stands below the text on wrong words where they begin with `check`.
-pub const CHECK_INPUT: &str = "\nA trace comes from standard input, as in: topichub check < FILE\n";
+pub const CHECK_INPUT: &str =
+    "\nTraces come from files, or one from standard input, as in: topichub check < FILE\n";
 
 /// What stands below the options of the mode `check`.
 pub const CHECK_AFTER: &str = "\
@@ -173,12 +184,25 @@ again. It prints one line:
   illegal l             line l is a reply that the channel would not give there
   bad l                 line l is none that may stand there, or it is missing
 
+Of files each has such a line, with its name in front, as in `FILE: legal n`. One
+that cannot be read is told of on standard error, and the others are checked.
+
+With --joined all files tell one history: each is legal, and begins with the
+picture to which the entries of the one before it lead. It prints one line, and
+reads no further than the first file that breaks the history. The line is
+
+  joined n              one history of n entries
+  gap f                 the file f is legal, and begins elsewhere
+
+or the line of the first file that is not legal.
+
 Lines are counted from 1. The first line that is bad or illegal is named, and
 nothing below it is read. At a terminal it also says, on standard error, what is
 wrong there: the line, and the reply that the channel would give. At most
-1000000 entries.
+1000000 entries in a trace; a history may have more.
 
-Exit status as in `topichub --help`.";
+Exit status as in `topichub --help`: of several files 0 where all are legal, 1
+where one could not be read, else 3.";
 
 /// One line on the mode `serve`.
 pub const SERVE_ABOUT: &str = "Serve sessions on a Unix socket, each in a thread of its own";
@@ -190,14 +214,35 @@ pub const SERVE_INPUT: &str =
 /// The word of the mode `serve`.
 pub const SERVE_PATH: &str = "Where the socket is made; nothing may stand there";
 
-/// Its option.
-pub const SERVE_SESSIONS: &str = "How many connections are served, 1 to 64";
+/// Its word for so many sessions.
+pub const SERVE_SESSIONS: &str = "How many connections are served before it ends, 1 to 64";
+
+/// Its word for a server that stands.
+pub const SERVE_AT_ONCE: &str = "Any number of connections, so many at a time, 1 to 1024";
+
+/// The word by which such a server takes the place of another.
+pub const SERVE_REPLACE: &str = "Take the place of a socket whose server is gone";
+
+/// The word by which it ends with its input.
+pub const SERVE_UNTIL_EOF: &str = "End all sessions, and the server, at the end of standard input";
+
+/// The word by which it says more of a fault.
+pub const SERVE_VERBOSE: &str =
+    "Say what stopped it and where, also where nobody sits at a terminal";
 
 /// What stands below the options of the mode `serve`.
 pub const SERVE_AFTER: &str = "\
 It makes the socket, prints `listening` on standard output, and serves the first
 N connections, one session each, numbered from 1 in the order in which they were
 accepted. Once all have ended it removes the socket and prints `done N`.
+
+With `--at-once N` it serves any number of connections, N at a time; those beyond
+wait until another one ends. A session has no bound on its lines there, and one
+that waits ends within seconds where its client has gone. `--replace` removes a
+socket at PATH whose server is gone, by a lock on the file PATH.lock, which stays.
+With `--until-eof` the server ends at the end of standard input: each session
+answers what it has read, one that waits ends unanswered, all that they hold is
+spent, the socket is removed, and `done N` says how many sessions there were.
 
 A session's lines are the commands of `topichub replay --help`, without an actor
 in front: a session is an actor. Each line is answered in its turn, and lines may
@@ -212,8 +257,9 @@ Example, with two shells and `socat`:
   socat - UNIX-CONNECT:hub.sock
 
 Only the user who serves may connect: the socket has the mode 0600, and its
-directory decides who may come near. Values are bytes. A session takes at most
-1000000 lines. A signal such as Ctrl-C ends the program at once, and leaves the
+directory decides who may come near. Values are bytes. With `--sessions` a session
+takes at most 1000000 lines. A topic's history takes 1000000 events from one TRACE
+to the next. A signal such as Ctrl-C ends the program at once, and leaves the
 socket where it is.
 
 Exit status as in `topichub --help`; 1 with `topichub: socket fault` where the

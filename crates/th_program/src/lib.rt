@@ -12,6 +12,7 @@
 mod advice;
 mod advising;
 mod end;
+mod files;
 mod help;
 mod modes;
 mod program;
@@ -20,7 +21,8 @@ mod words;
 
 pub use advising::Advising;
 pub use end::{End, explanation, status};
-pub use modes::{Mode, ModeFault};
+pub use files::{Opens, check_by_words, check_files, check_joined};
+pub use modes::{Mode, ModeFault, Serving, Standing};
 pub use program::{greet, run, run_for, run_not_text, run_short};
 pub use streams::{WordsFault, given_words, run_on_streams, texts};
 pub use words::mode;

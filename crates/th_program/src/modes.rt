@@ -7,13 +7,42 @@ pub enum Mode {
     Replay,
     /// Check the trace from standard input, and print the verdict.
     Check,
+    /// Check the traces in files, and print what is said of each, or of all as one history.
+    CheckFiles {
+        /// The names of the files, one at least.
+        files: Vec<String>,
+        /// Whether they are one history.
+        joined: bool,
+    },
     /// Serve sessions on a Unix socket.
     Serve {
         /// Where the socket is made.
         path: String,
-        /// How many sessions, 1 to 64.
-        sessions: u64,
+        /// How many.
+        serving: Serving,
     },
+}
+
+/// How many sessions are served.
+#[derive(Clone, Copy, Debug, Drop, PartialEq, Eq)]
+pub enum Serving {
+    /// So many, 1 to 64.
+    Sessions(u64),
+    /// Any number, by a server that stands.
+    Standing(Standing),
+}
+
+/// How a server runs that stands until it is ended from outside.
+#[derive(Clone, Copy, Debug, Drop, PartialEq, Eq)]
+pub struct Standing {
+    /// How many sessions at a time, 1 to 1,024.
+    pub at_once: u64,
+    /// Whether a socket is replaced whose server is gone.
+    pub replaces: bool,
+    /// Whether the end of standard input ends the server.
+    pub until_eof: bool,
+    /// Whether a fault is told with what and where, also where nobody sits at a terminal.
+    pub is_verbose: bool,
 }
 
 /// Which mode a command's name is of.

@@ -1,5 +1,6 @@
 //! What the program does with its words, over any reader and writers.
-ghost use Rattle.std.specs.Prelude.{◌≡◌, IsTrue, Some, codes, true, false, map};
+ghost use Rattle.std.specs.Prelude.{◌≡◌, IsTrue, Some, codes, true, false, map, [], ◌∷◌, ◌++◌};
+ghost use Rattle.std.specs.Fmt.{decimal};
 ghost use Rattle.std.specs.Io.KnownBytes.{Appends};
 ghost use Rattle.th_lines.specs.Device.{one_more};
 ghost use Rattle.th_replay.specs.Outcome.{devices};
@@ -20,7 +21,7 @@ use th_replay::{CheckFault, ReplayFault, Verdict, check_explained, replay_kept};
 const RETRIES: u32 = 1000;
 
 // Writes the whole text; `false` where the writer failed.
-fn write_text<W: Write>(writer: &mut Counted<W>, text: &[u8]) -> bool
+pub(crate) fn write_text<W: Write>(writer: &mut Counted<W>, text: &[u8]) -> bool
     ensures whole { result ≡ true
         → Appends (W.contents writer.old.device) (W.contents writer.new.device) text.now }
     ensures taken { result ≡ true → writer.new.failures ≡ writer.old.failures }
@@ -50,7 +51,7 @@ pub(crate) fn say<E: Write>(errors: &mut Counted<E>, text: &[u8])
 }
 
 // Says what stopped the run, where anything did.
-fn explain<E: Write>(errors: &mut Counted<E>, end: &End)
+pub(crate) fn explain<E: Write>(errors: &mut Counted<E>, end: &End)
     ensures { IsSaid
         (errors_of E.contents errors.old)
         (errors_of E.contents errors.new)
@@ -119,12 +120,12 @@ fn told(verdict: Verdict) -> (&'static [u8], u64)
     }
 }
 
-// Writes the line of a verdict; `false` where the writer failed. It takes no memory.
-fn write_verdict<W: Write>(output: &mut Counted<W>, verdict: Verdict) -> bool
+// Writes a line with a word, which has its space, and a number; `false` where the writer failed. It takes no memory.
+pub(crate) fn write_line<W: Write>(output: &mut Counted<W>, word: &[u8], number: u64) -> bool
     ensures { result ≡ true → Appends
-        (W.contents output.old.device) (W.contents output.new.device) (verdict_line verdict) }
+        (W.contents output.old.device) (W.contents output.new.device)
+        (word.now ++ (decimal number ++ 10 ∷ [])) }
 {
-    let (word, number) = told(verdict);
     let mut digits = Buffer::new();
     if !write_text(output, word) {
         return false;
@@ -133,6 +134,15 @@ fn write_verdict<W: Write>(output: &mut Counted<W>, verdict: Verdict) -> bool
         return false;
     }
     write_text(output, b"\n")
+}
+
+// Writes the line of a verdict; `false` where the writer failed.
+pub(crate) fn write_verdict<W: Write>(output: &mut Counted<W>, verdict: Verdict) -> bool
+    ensures { result ≡ true → Appends
+        (W.contents output.old.device) (W.contents output.new.device) (verdict_line verdict) }
+{
+    let (word, number) = told(verdict);
+    write_line(output, word, number)
 }
 
 // Checks the trace of the reader, and tells the verdict. What is wrong with the trace is put into the text.
@@ -217,8 +227,9 @@ fn explain_check<E: Write>(errors: &mut Counted<E>, end: &End, text: &[u8], to_p
 }
 
 /// Does what the words ask for, the program's name first. `replay` carries out the schedule of
-/// `input`, whose hub keeps its memory until the process ends, and `check` says whether its trace is legal; `serve` wants
-/// more than streams, and ends with a socket fault here.
+/// `input`, whose hub keeps its memory until the process ends, and `check` says whether its trace is legal. What wants more
+/// than streams ends with a fault here: `serve` with a socket fault, and a check of files with a read fault
+/// ([`check_by_words`](crate::check_by_words) does it).
 /// A text of help, or the version, goes to `output`; what is wrong with the words goes to `errors`, and so does a line that
 /// says what stopped the run.
 pub fn run<R: Read, W: Write, E: Write>(
@@ -268,6 +279,10 @@ pub fn run_for<R: Read, W: Write, E: Write>(
         Ok(Mode::Serve { .. }) => {
             explain(errors, &End::Socket);
             End::Socket
+        }
+        Ok(Mode::CheckFiles { .. }) => {
+            explain(errors, &End::Read);
+            End::Read
         }
         Ok(Mode::Check) => {
             let mut text = Vec::new(alloc);

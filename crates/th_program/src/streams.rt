@@ -3,6 +3,7 @@ ghost use Rattle.std.specs.Prelude.{◌≡◌, IfOk, map, string_bytes};
 
 use crate::advising::Advising;
 use crate::end::status;
+use crate::files::check_by_words;
 use crate::program::{greet, run_for, run_not_text, run_short};
 use std::alloc::{AllocError, Global};
 use std::env;
@@ -56,7 +57,7 @@ fn is_replay(words: &[&str]) -> bool {
     words.len() == 2 && words[1] == "replay"
 }
 
-/// Does what these words of the command line ask for, as [`run_for`] does, on the standard streams, and
+/// Does what these words of the command line ask for, as [`run_for`] and [`check_by_words`] do, on the standard streams, and
 /// answers the exit status; it ends as `no memory` or as wrong words where there are none. The streams are
 /// used as they are: what goes through them goes in large pieces already.
 pub fn run_on_streams(rt: &HostRuntime, given: Result<&[String], WordsFault>) -> ExitCode {
@@ -79,15 +80,12 @@ pub fn run_on_streams(rt: &HostRuntime, given: Result<&[String], WordsFault>) ->
     let mut errors = Counted::new(stderr);
     let end = match &words {
         Ok(words) => {
+            let words = words.as_slice();
             greet(&mut errors, at_terminal && replays);
-            run_for(
-                alloc,
-                words.as_slice(),
-                &mut input,
-                &mut output,
-                &mut errors,
-                people,
-            )
+            match check_by_words(alloc, rt, words, &mut output, &mut errors, people) {
+                Some(end) => end,
+                None => run_for(alloc, words, &mut input, &mut output, &mut errors, people),
+            }
         }
         Err(WordsFault::Short) => run_short(&mut errors),
         Err(WordsFault::NotText) => run_not_text(&mut errors),

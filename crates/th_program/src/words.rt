@@ -1,18 +1,32 @@
 //! The words of the command line.
 
-ghost use Rattle.std.specs.Prelude.{◌≡◌, ◌≢◌, ◌⊎◌, ◌≤◌, IfErr, IfOk, IfSome, IsSome, Ok, OnOk, ℕ, [], codes, false, map, option_map};
+ghost use Rattle.std.specs.Prelude.{◌≡◌, ◌≢◌, ◌⊎◌, ◌≤◌, IfErr, IfOk, IfSome, IsOk, IsSome, Ok, OnOk, ℕ, [], codes, false, is_some, map, option_map, string_bytes};
 ghost use Rattle.clap.specs.declared.builder.command.Command.TheViews.{out-Command};
-ghost use Rattle.clap.specs.Words.{app_of, fault_of, found_of, kind_of, new_app, rows_of, subcommand_name_of, subcommand_rows_of, with_subcommand};
-ghost use Rattle.th_program.specs.Words.{AreCheck, AreReplay, AreHelp, AreServe, AreVersion, AreNone, AsksFor, IsHelp, IsMode, IsUsage, GivesCheck, GivesMode, GivesReplay, GivesFault, HasSessions, arguments_by, arguments_of, asked_by, asked_of, command_line, serve_line, text_of, with_required};
+ghost use Rattle.clap.specs.Words.{app_of, fault_of, first_of, found_of, kind_of, new_app, rows_of, rule_of, subcommand_name_of, subcommand_rows_of, with_rule, with_subcommand};
+ghost use Rattle.th_program.specs.Words.{AreCheck, AreReplay, AreHelp, AreServe, AreVersion, AreNone, AsksAtOnce, AsksFor, AsksRightly, IsCount, IsHelp, IsMode, IsUsage, GivesCheck, GivesMode, GivesReplay, GivesFault, HasFiles, HasSessions, IsWithin, ServesBy, StandsBy, arguments_by, arguments_of, asked_by, asked_of, at_once, check_line, command_line, flag_of, has_others, is_given, serve_line, text_of, with_required, with_standing};
 
 use crate::help::{
-    ABOUT, AFTER, CHECK_ABOUT, CHECK_AFTER, CHECK_INPUT, REPLAY_ABOUT, REPLAY_AFTER, REPLAY_INPUT,
-    SERVE_ABOUT, SERVE_AFTER, SERVE_INPUT, SERVE_PATH, SERVE_SESSIONS, VERSION,
+    ABOUT, AFTER, CHECK_ABOUT, CHECK_AFTER, CHECK_FILES, CHECK_INPUT, CHECK_JOINED, NO_FILES,
+    REPLAY_ABOUT, REPLAY_AFTER, REPLAY_INPUT, SERVE_ABOUT, SERVE_AFTER, SERVE_AT_ONCE, SERVE_INPUT,
+    SERVE_PATH, SERVE_REPLACE, SERVE_SESSIONS, SERVE_UNTIL_EOF, SERVE_VERBOSE, VERSION,
 };
-use crate::modes::{Asked, Mode, ModeFault};
+use crate::modes::{Asked, Mode, ModeFault, Serving, Standing};
 use clap::error::ErrorKind;
-use clap::{Arg, ArgMatches, Command, Error};
+use clap::{Arg, ArgAction, ArgMatches, Command, Error};
 use std::alloc::{AllocError, Global};
+
+/// The most sessions of a server that ends behind them.
+const MOST_SESSIONS: u64 = 64;
+
+/// The most sessions at a time of one that stands.
+const MOST_AT_ONCE: u64 = 1024;
+
+/// What is said where it is not one of both.
+const SESSIONS_OR_AT_ONCE: &str = "one of '--sessions <N>' and '--at-once <N>' is wanted";
+
+/// What is said where other words are given with sessions.
+const OTHERS_WITH_AT_ONCE: &str =
+    "'--replace', '--until-eof' and '--verbose' go with '--at-once <N>' alone";
 
 impl From<AllocError> for ModeFault {
     fn from(_: AllocError) -> ModeFault {
@@ -37,15 +51,29 @@ fn with_replay<'a>(alloc: Global) -> Result<Command<'a>, AllocError>
         .subcommand(replay)
 }
 
-// The program with one mode more.
-fn with_check<'a>(alloc: Global, program: Command<'a>) -> Result<Command<'a>, AllocError>
-    ensures { IfOk result (λ c. app_of c ≡
-        with_subcommand (app_of program.entry) (new_app (codes "check")).top) }
+// The mode that checks, with its words.
+fn check_command<'a>(alloc: Global) -> Result<Command<'a>, AllocError>
+    ensures app { IfOk result (λ c. app_of c ≡ check_line) }
+    ensures local { IfOk result (λ c. (out-Command c).has_globals ≡ false) }
 {
+    let files = Arg::new(alloc, "FILE")
+        .help(CHECK_FILES)
+        .action(ArgAction::Append);
     let check = Command::new(alloc, "check")
         .about(CHECK_ABOUT)
         .after_help(CHECK_AFTER);
-    program.subcommand(check)
+    check.arg(files)?.arg(flag(alloc, "joined", CHECK_JOINED))
+}
+
+// The program with that mode more.
+fn with_check<'a>(alloc: Global, program: Command<'a>) -> Result<Command<'a>, AllocError>
+    ensures { IfOk result (λ c. app_of c ≡
+        with_subcommand (app_of program.entry) check_line.top) }
+{
+    match check_command(alloc) {
+        Ok(check) => program.subcommand(check),
+        Err(e) => Err(e),
+    }
 }
 
 // The mode that serves, with its words.
@@ -54,14 +82,56 @@ fn serve_command<'a>(alloc: Global) -> Result<Command<'a>, AllocError>
     ensures local { IfOk result (λ c. (out-Command c).has_globals ≡ false) }
 {
     let path = Arg::new(alloc, "PATH").help(SERVE_PATH).required(true);
-    let sessions = Arg::new(alloc, "N")
-        .long("sessions")
-        .help(SERVE_SESSIONS)
-        .required(true);
+    let sessions = Arg::new(alloc, "N").long("sessions").help(SERVE_SESSIONS);
     let serve = Command::new(alloc, "serve")
         .about(SERVE_ABOUT)
         .after_help(SERVE_AFTER);
-    serve.arg(path)?.arg(sessions)
+    with_standing(alloc, serve.arg(path)?.arg(sessions)?)
+}
+
+// The same with the words of a server that stands.
+fn with_standing<'a>(alloc: Global, serve: Command<'a>) -> Result<Command<'a>, AllocError>
+    ensures app { IfOk result (λ c. app_of c ≡ with_standing (app_of serve.entry)) }
+    ensures local { (out-Command serve.entry).has_globals ≡ false →
+        IfOk result (λ c. (out-Command c).has_globals ≡ false) }
+{
+    let serve = with_arg(serve, at_once(alloc))?;
+    let serve = with_arg(serve, flag(alloc, "replace", SERVE_REPLACE))?;
+    let serve = with_arg(serve, flag(alloc, "until-eof", SERVE_UNTIL_EOF))?;
+    with_arg(serve, flag(alloc, "verbose", SERVE_VERBOSE))
+}
+
+// One argument more, which is the command's own.
+fn with_arg<'a>(command: Command<'a>, arg: Arg<'a>) -> Result<Command<'a>, AllocError>
+    requires { arg.global ≡ false }
+    ensures app { IfOk result (λ c.
+        app_of c ≡ with_rule (app_of command.entry) (rule_of arg.entry)) }
+    ensures local { IfOk result (λ c.
+        (out-Command c).has_globals ≡ (out-Command command.entry).has_globals) }
+{
+    command.arg(arg)
+}
+
+// How many sessions at a time.
+fn at_once<'a>(alloc: Global) -> Arg<'a>
+    ensures rule { rule_of result ≡ at_once }
+    ensures local { result.global ≡ false }
+{
+    Arg::new(alloc, "AT_ONCE")
+        .long("at-once")
+        .value_name("N")
+        .help(SERVE_AT_ONCE)
+}
+
+// A word that is given or not.
+fn flag<'a>(alloc: Global, word: &'a str, help: &'a str) -> Arg<'a>
+    ensures rule { rule_of result ≡ flag_of word.entry.now }
+    ensures local { result.global ≡ false }
+{
+    Arg::new(alloc, word)
+        .long(word)
+        .help(help)
+        .action(ArgAction::SetTrue)
 }
 
 // The program with that mode more.
@@ -124,48 +194,188 @@ fn asked(name: Option<&str>) -> Asked
     }
 }
 
-// How many sessions the text asks for, where it is a number from 1 to 64.
-fn sessions_in(text: &str) -> Option<u64>
-    ensures number { IfSome result (AsksFor text.now) }
-    ensures none { (n : ℕ) → AsksFor text.now n → IsSome result }
+// The number in the text, where it is one from 1 to this bound.
+fn count_in(text: &str, bound: u64) -> Option<u64>
+    ensures number { IfSome result (IsCount bound text.now) }
+    ensures none { (n : ℕ) → IsCount bound text.now n → IsSome result }
 {
-    let Ok(sessions) = text.parse::<u64>() else {
+    let Ok(count) = text.parse::<u64>() else {
         return None;
     };
-    if 1 <= sessions && sessions <= 64 {
-        Some(sessions)
+    if 1 <= count && count <= bound {
+        Some(count)
     } else {
         None
     }
 }
 
-// What is wrong with such a text.
-fn wrong_sessions(alloc: Global, text: &str) -> ModeFault
+// What is wrong with the words, if there was memory to say it.
+fn wrong(made: Result<String, AllocError>) -> ModeFault
     ensures { IsUsage result ⊎ (result ≡ ModeFault.Short) }
 {
-    let made = format!(in alloc;
-        "error: invalid value '{text}' for '--sessions <N>': it is no number from 1 to 64\n\nFor more information, try '--help'.\n"
-    );
     match made {
         Ok(text) => ModeFault::Usage(text),
         Err(_) => ModeFault::Short,
     }
 }
 
+// What is wrong with such a text behind this word.
+fn wrong_count(alloc: Global, word: &str, text: &str, bound: u64) -> ModeFault
+    ensures { IsUsage result ⊎ (result ≡ ModeFault.Short) }
+{
+    wrong(format!(in alloc;
+        "error: invalid value '{text}' for '--{word} <N>': it is no number from 1 to {bound}\n\nFor more information, try '--help'.\n"
+    ))
+}
+
+// What is wrong with words that may not stand together, or are missing.
+fn wrong_words(alloc: Global, why: &str) -> ModeFault
+    ensures { IsUsage result ⊎ (result ≡ ModeFault.Short) }
+{
+    wrong(format!(in alloc; "error: {why}\n\nFor more information, try '--help'.\n"))
+}
+
+// Whether a text was given behind this word.
+fn has(words: &ArgMatches<'_>, word: &str) -> bool
+    ensures { result ≡ is_some (first_of word.now (rows_of (found_of words.now))) }
+{
+    words.get_str(word).is_some()
+}
+
+// The text behind this word, none where there is none.
+fn text<'a>(words: &ArgMatches<'a>, word: &str) -> &'a str
+    ensures { result.now ≡ text_of word.now (rows_of (found_of words.now)) }
+{
+    words.get_str(word).unwrap_or("")
+}
+
+// Whether this word was given, which takes no text.
+fn is_given(words: &ArgMatches<'_>, word: &str) -> bool
+    ensures { result ≡ is_given word.now (rows_of (found_of words.now)) }
+{
+    text(words, word) == "true"
+}
+
+// Whether a word was given that goes with a server that stands.
+fn has_others(words: &ArgMatches<'_>) -> bool
+    ensures { result ≡ has_others (rows_of (found_of words.now)) }
+{
+    is_given(words, "replace") || is_given(words, "until-eof") || is_given(words, "verbose")
+}
+
+// How many sessions the words ask for.
+fn sessions(alloc: Global, words: &ArgMatches<'_>) -> Result<u64, ModeFault>
+    ensures number { IfOk result (AsksFor (text_of (codes "N") (rows_of (found_of words.now)))) }
+    ensures rightly { (n : ℕ) → AsksFor (text_of (codes "N") (rows_of (found_of words.now))) n
+        → IsOk result }
+    ensures wrong { IfErr result (λ fault. IsUsage fault ⊎ (fault ≡ ModeFault.Short)) }
+{
+    let number = text(words, "N");
+    match count_in(number, MOST_SESSIONS) {
+        Some(sessions) => Ok(sessions),
+        None => Err(wrong_count(alloc, "sessions", number, MOST_SESSIONS)),
+    }
+}
+
+// How a server that stands is to run.
+fn standing(alloc: Global, words: &ArgMatches<'_>) -> Result<Standing, ModeFault>
+    ensures by { IfOk result (StandsBy (rows_of (found_of words.now))) }
+    ensures rightly { (n : ℕ)
+        → AsksAtOnce (text_of (codes "AT_ONCE") (rows_of (found_of words.now))) n → IsOk result }
+    ensures wrong { IfErr result (λ fault. IsUsage fault ⊎ (fault ≡ ModeFault.Short)) }
+{
+    let number = text(words, "AT_ONCE");
+    match count_in(number, MOST_AT_ONCE) {
+        Some(at_once) => Ok(Standing {
+            at_once,
+            replaces: is_given(words, "replace"),
+            until_eof: is_given(words, "until-eof"),
+            is_verbose: is_given(words, "verbose"),
+        }),
+        None => Err(wrong_count(alloc, "at-once", number, MOST_AT_ONCE)),
+    }
+}
+
+// How many sessions are served, by the words behind the mode's name.
+fn serving(alloc: Global, words: &ArgMatches<'_>) -> Result<Serving, ModeFault>
+    ensures by { IfOk result (ServesBy (rows_of (found_of words.now))) }
+    ensures within { IfOk result IsWithin }
+    ensures rightly { (n : ℕ) → AsksRightly (rows_of (found_of words.now)) n → IsOk result }
+    ensures wrong { IfErr result (λ fault. IsUsage fault ⊎ (fault ≡ ModeFault.Short)) }
+{
+    let has_sessions = has(words, "N");
+    let has_at_once = has(words, "AT_ONCE");
+    if has_sessions == has_at_once {
+        return Err(wrong_words(alloc, SESSIONS_OR_AT_ONCE));
+    }
+    if has_at_once {
+        return match standing(alloc, words) {
+            Ok(how) => Ok(Serving::Standing(how)),
+            Err(fault) => Err(fault),
+        };
+    }
+    if has_others(words) {
+        return Err(wrong_words(alloc, OTHERS_WITH_AT_ONCE));
+    }
+    match sessions(alloc, words) {
+        Ok(sessions) => Ok(Serving::Sessions(sessions)),
+        Err(fault) => Err(fault),
+    }
+}
+
 // The mode that serves, by the words behind its name.
 fn serve_mode(alloc: Global, words: &ArgMatches<'_>) -> Result<Mode, ModeFault>
     ensures mode { IfOk result (IsMode Asked.Serve (rows_of (found_of words.now))) }
-    ensures number { (n : ℕ) → AsksFor (text_of (codes "N") (rows_of (found_of words.now))) n
-        → GivesMode result }
+    ensures rightly { (n : ℕ) → AsksRightly (rows_of (found_of words.now)) n → GivesMode result }
+    ensures within { IfOk result HasSessions }
     ensures wrong { IfErr result (λ fault. IsUsage fault ⊎ (fault ≡ ModeFault.Short)) }
 {
-    let number = words.get_str("N").unwrap_or("");
-    let Some(sessions) = sessions_in(number) else {
-        return Err(wrong_sessions(alloc, number));
+    let Ok(path) = String::from_str(alloc, text(words, "PATH")) else {
+        return Err(ModeFault::Short);
     };
-    let path = words.get_str("PATH").unwrap_or("");
-    match String::from_str(alloc, path) {
-        Ok(path) => Ok(Mode::Serve { path, sessions }),
+    match serving(alloc, words) {
+        Ok(serving) => Ok(Mode::Serve { path, serving }),
+        Err(fault) => Err(fault),
+    }
+}
+
+// The files that are named.
+fn named(alloc: Global, files: &[&str]) -> Result<Vec<String>, AllocError>
+    ensures { IfOk result (λ names. map string_bytes names.items ≡ map (λ f. f.now) files.now) }
+{
+    let mut names = Vec::with_capacity(alloc, files.len())?;
+    for file in files {
+        names.push(String::from_str(alloc, *file)?)?;
+    }
+    Ok(names)
+}
+
+// What is wrong with words that ask for one history of no files.
+fn no_files(alloc: Global) -> ModeFault
+    ensures { IsUsage result ⊎ (result ≡ ModeFault.Short) }
+{
+    match String::from_str(alloc, NO_FILES) {
+        Ok(text) => ModeFault::Usage(text),
+        Err(_) => ModeFault::Short,
+    }
+}
+
+// The mode that checks, by the words behind its name.
+fn check_mode(alloc: Global, words: &ArgMatches<'_>) -> Result<Mode, ModeFault>
+    ensures mode { IfOk result (IsMode Asked.Check (rows_of (found_of words.now))) }
+    ensures given { HasFiles (rows_of (found_of words.now)) → GivesMode result }
+    ensures wrong { IfErr result (λ fault. IsUsage fault ⊎ (fault ≡ ModeFault.Short)) }
+{
+    let joined = is_given(words, "joined");
+    let Some(files) = words.get_strs("FILE") else {
+        return if joined {
+            Err(no_files(alloc))
+        } else {
+            Ok(Mode::Check)
+        };
+    };
+    match named(alloc, files) {
+        Ok(files) => Ok(Mode::CheckFiles { files, joined }),
         Err(_) => Err(ModeFault::Short),
     }
 }
@@ -174,17 +384,21 @@ fn serve_mode(alloc: Global, words: &ArgMatches<'_>) -> Result<Mode, ModeFault>
 fn taken(alloc: Global, matches: &ArgMatches<'_>) -> Result<Mode, ModeFault>
     ensures replay { asked_of (subcommand_name_of matches.now) ≡ Asked.Replay
         → result ≡ Ok Mode.Replay }
-    ensures check { asked_of (subcommand_name_of matches.now) ≡ Asked.Check
-        → result ≡ Ok Mode.Check }
     ensures mode { let arguments = arguments_of (subcommand_rows_of matches.now) in
         IfOk result (IsMode (asked_of (subcommand_name_of matches.now)) arguments) }
     ensures number { let arguments = arguments_of (subcommand_rows_of matches.now) in
-        (n : ℕ) → AsksFor (text_of (codes "N") arguments) n → GivesMode result }
-    ensures other { asked_of (subcommand_name_of matches.now) ≢ Asked.Serve → GivesMode result }
+        asked_of (subcommand_name_of matches.now) ≡ Asked.Serve
+        → (n : ℕ) → AsksRightly arguments n → GivesMode result }
+    ensures within { IfOk result HasSessions }
+    ensures other { asked_of (subcommand_name_of matches.now) ≢ Asked.Serve
+        → HasFiles (arguments_of (subcommand_rows_of matches.now)) → GivesMode result }
 {
     match asked(matches.subcommand_name()) {
         Asked::Replay => Ok(Mode::Replay),
-        Asked::Check => Ok(Mode::Check),
+        Asked::Check => match matches.subcommand_matches("check") {
+            Some(words) => check_mode(alloc, words),
+            None => unreachable!(),
+        },
         Asked::Serve => match matches.subcommand_matches("serve") {
             Some(words) => serve_mode(alloc, words),
             None => unreachable!(),
@@ -206,7 +420,8 @@ pub fn mode(alloc: Global, words: &[&str]) -> Result<Mode, ModeFault>
     ensures none { AreNone (map (λ w. w.now) words.now) → GivesFault IsUsage result }
     ensures only { OnOk result (fault_of command_line (map (λ w. w.now) words.now) ≡ []) }
     ensures taken { fault_of command_line (map (λ w. w.now) words.now) ≡ []
-        → asked_by (map (λ w. w.now) words.now) ≢ Asked.Serve → GivesMode result }
+        → asked_by (map (λ w. w.now) words.now) ≢ Asked.Serve
+        → HasFiles (arguments_by (map (λ w. w.now) words.now)) → GivesMode result }
     ensures mode { let given = map (λ w. w.now) words.now in
         IfOk result (IsMode (asked_by given) (arguments_by given)) }
     ensures serve { (n : ℕ) → AreServe (map (λ w. w.now) words.now) n → GivesMode result }

@@ -8,7 +8,11 @@
 //! ```
 #![tactic(auto)]
 
+mod client;
+mod connections;
+mod keep_serving;
 mod serve;
+mod socket;
 mod words;
 
 pub use words::serve_by_words;

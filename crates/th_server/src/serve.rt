@@ -1,6 +1,8 @@
 //! What the program serves on a socket.
 ghost use Rattle.std.specs.Prelude.{◌≤◌};
 
+use crate::socket;
+use crate::socket::{MODE, SocketFault};
 use std::alloc::Global;
 use std::fs;
 use std::fs::Permissions;
@@ -16,13 +18,10 @@ use th_program::End;
 use th_session::{Keeping, OpenGate, SessionFault};
 use th_shared::{Observer, ServeFault, serve_on};
 
-// Nobody but the user who serves may connect.
-const MODE: u32 = 0o600;
-
-// Says as an error which session was stopped, and by what.
+/// Says as an error which session was stopped, and by what.
 #[derive(Drop)]
-struct Teller<'a, R> {
-    rt: &'a R,
+pub(crate) struct Teller<'a, R> {
+    pub(crate) rt: &'a R,
 }
 
 impl<'a, R: Eprint> Observer for Teller<'a, R> {
@@ -63,18 +62,18 @@ fn attend<R: Threads + Wait + Clock + Clone + Send + Sync + Print + Eprint>(
 }
 
 /// Makes a socket at the path, serves so many connections, and removes the socket. Where something stands at the path already it
-/// stays, and nobody is served.
+/// stays, and nobody is served. Where it could not be made, why.
 pub fn serve<R: Threads + Wait + Clock + Clone + Send + Sync + Print + Eprint + Files + Net>(
     rt: &R,
     alloc: Global,
     path: &str,
     sessions: u64,
-) -> End
+) -> (End, Option<SocketFault>)
     requires least { 1 ≤ sessions }
     requires most { sessions ≤ 64 }
 {
     let Ok(listener) = UnixListener::bind(rt, path) else {
-        return End::Socket;
+        return (End::Socket, Some(socket::why_unbound(rt, path)));
     };
     let end = match fs::set_permissions(rt, path, Permissions::from_mode(MODE)) {
         Ok(()) => attend(rt, alloc, &listener, sessions),
@@ -82,7 +81,7 @@ pub fn serve<R: Threads + Wait + Clock + Clone + Send + Sync + Print + Eprint + 
     };
     let _ = fs::remove_file(rt, path);
     match end {
-        End::Done if println!(rt; "done {sessions}").is_err() => End::Write,
-        end => end,
+        End::Done if println!(rt; "done {sessions}").is_err() => (End::Write, None),
+        end => (end, None),
     }
 }

@@ -1,8 +1,11 @@
 use Rattle.std.proofs.Common.{ap, ap₂, refl, sym, subst, inl, inr, ◌≡◌, ◌∙◌, [], ◌∷◌, map}
-use Rattle.clap.specs.Words.{HasKind, Kinds, fault_of, is_simple_and_free}
+use Rattle.clap.specs.Words.{HasKind, Kinds, fault_of, is_simple_and_free, subcommand_name_of, subcommand_rows_of}
 use Rattle.clap.specs.declared.error.kind.ErrorKind.TheVariants as kind
-use Rattle.th_program.specs.Words.{GivesCheck, GivesReplay, asked_of, command_line}
-use Rattle.th_program.proofs.CommandLine.{check_named, check_passes, help_fails, is_plain, mode_by, name_is, none_fails, number_by, replay_named, replay_passes, version_fails}
+use Rattle.std.proofs.lemmas.Bool.{false≢true}
+use Rattle.th_program.specs.declared.modes.Asked.{Asked}
+use Rattle.th_program.specs.Words.{GivesReplay, HasFiles, arguments_by, arguments_of, asked_of, command_line, files_of, is_joined}
+use Rattle.th_program.proofs.Checking.{only_check}
+use Rattle.th_program.proofs.CommandLine.{arguments_are, check_named, check_passes, help_fails, is_plain, mode_by, name_is, no_files, none_fails, not_joined, number_by, on_ok, replay_named, replay_passes, version_fails}
 use Rattle.th_program.proofs.words.mode.Goals as goal
 use Rattle.th_program.proofs.words.mode.Goals.{After-refused}
 
@@ -41,7 +44,7 @@ returns-in-Err-clause-replay c = λ (name, words). elim (failed c [] (ap (fault_
 ]
 
 pub returns-in-Err-clause-taken : goal.returns-in-Err-clause-taken
-returns-in-Err-clause-taken c = λ is other. elim (failed c [] is) [
+returns-in-Err-clause-taken c = λ is other files. elim (failed c [] is) [
   | inl short ↦ c.refused.ensures.short short
   | inr none ↦ absurd none
 ]
@@ -85,8 +88,15 @@ returns-in-Ok-try_get_matches_from-clause-replay c = λ (name, words).
 
 pub returns-in-Ok-try_get_matches_from-clause-check : goal.returns-in-Ok-try_get_matches_from-clause-check
 returns-in-Ok-try_get_matches_from-clause-check c = λ (name, words).
-    subst GivesCheck (sym (c.taken.ensures.check (ap asked_of
-    (check_named c.in-Ok-try_get_matches_from.matches _ _ c.in-Ok.ensures c.in-Ok-try_get_matches_from.ensures.matches name words)))) refl
+    let m = c.in-Ok-try_get_matches_from.matches in
+    let has = c.in-Ok-try_get_matches_from.ensures.matches in
+    let asked = ap asked_of (check_named m _ _ c.in-Ok.ensures has name words) in
+    let rows = arguments_are m _ _ c.in-Ok.ensures has name in
+    let none = ap files_of rows ∙ ap (λ ws. files_of (arguments_by ws)) words ∙ no_files name in
+    let apart = ap is_joined rows ∙ ap (λ ws. is_joined (arguments_by ws)) words ∙ not_joined name in
+    only_check (asked_of (subcommand_name_of m)) (arguments_of (subcommand_rows_of m)) c.taken.result asked none c.taken.ensures.mode
+    (c.taken.ensures.other (λ serves. let e : Asked.Check ≡ Asked.Serve = sym asked ∙ serves in cc)
+    (λ joined. absurd (false≢true (sym apart ∙ joined))))
 
 pub returns-in-Err-clause-check : goal.returns-in-Err-clause-check
 returns-in-Err-clause-check c = λ (name, words). elim (failed c [] (ap (fault_of command_line) words ∙ check_passes name)) [
@@ -96,9 +106,11 @@ returns-in-Err-clause-check c = λ (name, words). elim (failed c [] (ap (fault_o
 
 -- words that do not ask to serve name another mode
 pub returns-in-Ok-try_get_matches_from-clause-taken : goal.returns-in-Ok-try_get_matches_from-clause-taken
-returns-in-Ok-try_get_matches_from-clause-taken c = λ passes other.
-    c.taken.ensures.other (λ serves. other (sym (ap asked_of
-    (name_is c.in-Ok-try_get_matches_from.matches _ _ c.in-Ok.ensures c.in-Ok-try_get_matches_from.ensures.matches [])) ∙ serves))
+returns-in-Ok-try_get_matches_from-clause-taken c = λ passes other files.
+    let m = c.in-Ok-try_get_matches_from.matches in
+    let has = c.in-Ok-try_get_matches_from.ensures.matches in
+    c.taken.ensures.other (λ serves. other (sym (ap asked_of (name_is m _ _ c.in-Ok.ensures has [])) ∙ serves))
+    (subst HasFiles (sym (arguments_are m _ _ c.in-Ok.ensures has [])) files)
 
 -- the mode is the one that was asked for
 pub returns-in-Ok-try_get_matches_from-clause-mode : goal.returns-in-Ok-try_get_matches_from-clause-mode
@@ -107,7 +119,8 @@ returns-in-Ok-try_get_matches_from-clause-mode c =
 
 pub returns-in-Ok-try_get_matches_from-clause-serve : goal.returns-in-Ok-try_get_matches_from-clause-serve
 returns-in-Ok-try_get_matches_from-clause-serve c = λ n words.
-    c.taken.ensures.number n
+    c.taken.ensures.number (ap asked_of
+    (name_is c.in-Ok-try_get_matches_from.matches _ _ c.in-Ok.ensures c.in-Ok-try_get_matches_from.ensures.matches []) ∙ words.asked) n
     (number_by c.in-Ok-try_get_matches_from.matches _ _ c.in-Ok.ensures c.in-Ok-try_get_matches_from.ensures.matches n words)
 
 pub returns-in-Err-clause-serve : goal.returns-in-Err-clause-serve
@@ -115,3 +128,9 @@ returns-in-Err-clause-serve c = λ n words. elim (failed c [] words.taken) [
   | inl short ↦ c.refused.ensures.short short
   | inr none ↦ absurd none
 ]
+
+-- a mode is answered only where the words are taken
+pub returns-in-Ok-try_get_matches_from-clause-only : goal.returns-in-Ok-try_get_matches_from-clause-only
+returns-in-Ok-try_get_matches_from-clause-only c =
+    let passes = c.in-Ok-try_get_matches_from.ensures.kinds (ap is_simple_and_free c.in-Ok.ensures ∙ is_plain) in
+    on_ok c.taken.result (ap (λ app. fault_of app (map (λ w. w.now) c.args.words.now)) (sym c.in-Ok.ensures) ∙ passes)

@@ -1,0 +1,192 @@
+-- What a run does that checks files.
+use Rattle.std.specs.Prelude.{◌≡◌, ◌≢◌, ◌⊎◌, ◌==◌, ℕ, Bool, false, true, IsSome, List, [], ◌∷◌, ◌++◌, map, codes, Option, Some, None, Result, Ok, Err, if◌then◌else◌}
+use Rattle.std.specs.Fmt.{decimal}
+use Rattle.std.specs.Io.KnownBytes.{Appends, Consumes, IsAtEnd}
+use Rattle.std.specs.List.{AllByRecursion}
+use Rattle.clap.specs.Words.{fault_of}
+use Rattle.th_lines.specs.Lines.{Line, lines_of}
+use Rattle.th_traces.specs.declared.picture.Picture.{Picture}
+use Rattle.th_check.specs.Checked.{Checked}
+use Rattle.th_check.specs.Joined.{AreAdded, Joins}
+use Rattle.th_check.specs.declared.fault.CheckFault.{CheckFault}
+use Rattle.th_check.specs.declared.fault.CheckFault.TheVariants as fault
+use Rattle.th_check.specs.declared.parts.Joined.{Joined}
+use Rattle.th_check.specs.declared.parts.Joined.TheVariants.{Judged, Apart}
+use Rattle.th_check.specs.declared.verdict.Verdict.{Verdict}
+use Rattle.th_check.specs.declared.verdict.Verdict.TheVariants as verdict
+use Rattle.th_program.specs.declared.end.End.{End}
+use Rattle.th_program.specs.declared.end.End.TheVariants as end
+use Rattle.th_program.specs.Run.{Errors, IsSaid, verdict_line}
+use Rattle.th_program.specs.Status.{status_of}
+use Rattle.th_program.specs.Words.{arguments_by, asked_by, command_line, files_of, is_joined}
+use Rattle.th_program.specs.declared.modes.Asked.{Asked}
+
+-- what came of a file: the verdict on it, or why there is none
+abbrev pub Outcome : Type 0
+Outcome = Result Verdict CheckFault
+
+-- the verdict is on the bytes of the file, as far as they are known
+abbrev pub IsOutcome : Option (List ℕ) → Outcome → Type 0
+IsOutcome held (Ok said) = (left : Option (List ℕ)) × Checked held left said
+IsOutcome held (Err why) = Unit {0}
+
+-- how a run ends that has such an outcome alone
+abbrev pub end_of : Outcome → End
+end_of (Ok (verdict.Legal count)) = end.Done
+end_of (Ok (verdict.Illegal number)) = end.Illegal
+end_of (Ok (verdict.BadTrace number)) = end.Bad
+end_of (Err fault.Read) = end.Read
+end_of (Err fault.TooLong) = end.TooLong
+end_of (Err fault.Short) = end.Short
+
+-- of two ends the first that says what stopped a check, else the first that finds a fault in a trace
+abbrev pub worse : End → End → End
+worse one other =
+    if status_of one == 1 then one
+    else if status_of other == 1 then other
+    else if status_of one == 3 then one
+    else other
+
+-- a file by its name, with its outcome
+abbrev pub Told : Type 0
+Told = List ℕ × Outcome
+
+-- the worst of all
+abbrev pub worst : End → List Told → End
+worst so_far [] = so_far
+worst so_far (f ∷ later) = worst (worse so_far (end_of f.1)) later
+
+-- the words that tell a fault
+abbrev pub fault_word : CheckFault → List ℕ
+fault_word fault.Read = codes "read fault"
+fault_word fault.TooLong = codes "too long"
+fault_word fault.Short = codes "no memory"
+
+-- the line on standard output that tells of a file, and the one on standard error
+abbrev pub file_line : Told → List ℕ
+file_line (name, Ok said) = name ++ (codes ": " ++ verdict_line said)
+file_line (name, Err why) = []
+
+abbrev pub fault_line : Told → List ℕ
+fault_line (name, Ok said) = []
+fault_line (name, Err why) = codes "topichub: " ++ (name ++ (codes ": " ++ (fault_word why ++ 10 ∷ [])))
+
+-- the lines of all files, in their order
+abbrev pub lines_by : (Told → List ℕ) → List Told → List ℕ
+lines_by line [] = []
+lines_by line (f ∷ later) = line f ++ lines_by line later
+
+-- Each of the files was checked, by what is known of the bytes that a name stands for. What came of them
+-- was told in their order, and the run ends by the worst of it.
+pub record EachIsTold (holds : List ℕ → Option (List ℕ)) (names : List (List ℕ))
+    (before after : Option (List ℕ)) (people : Bool) (errors errors' : Errors) (so_far : End)
+    : Type 0 where
+  pub files : List Told
+  pub named : map (λ f. f.0) files ≡ names
+  pub seen : AllByRecursion (λ f. IsOutcome (holds f.0) f.1) files
+  pub told : Appends before after (lines_by file_line files)
+  pub said : people ≡ false → IsSaid errors errors' (lines_by fault_line files)
+  pub end : so_far ≡ worst end.Done files
+
+-- what is known of the whole text of a file
+pub record IsTextOf (held : Option (List ℕ)) (lines : List Line) : Type 0 where
+  pub input : List ℕ
+  pub left : Option (List ℕ)
+  pub read : Consumes held left input
+  pub whole : IsAtEnd left
+  pub is : lines ≡ lines_of input
+
+-- These files are one history with so many entries, which ends there.
+pub record AreOneHistory (holds : List ℕ → Option (List ℕ)) (names : List (List ℕ)) (count : ℕ)
+    (there : Option Picture) : Type 0 where
+  pub texts : List (List ℕ × List Line)
+  pub named : map (λ f. f.0) texts ≡ names
+  pub are : AllByRecursion (λ f. IsTextOf (holds f.0) f.1) texts
+  pub added : AreAdded None (map (λ f. f.1) texts) count there
+
+-- the line that tells of a history, and the one that tells which file breaks it
+abbrev pub joined_line : ℕ → List ℕ
+joined_line count = codes "joined " ++ (decimal count ++ 10 ∷ [])
+
+abbrev pub broken_line : List ℕ → Joined → List ℕ
+broken_line name (Judged said) = file_line (name, Ok said)
+broken_line name Apart = codes "gap " ++ (name ++ 10 ∷ [])
+
+-- the file is judged as the next part of a history, by what is known of its bytes
+abbrev pub IsNext : Option (List ℕ) → Option Picture → Joined → Option Picture → Type 0
+IsNext held here said there = (left : Option (List ℕ)) × Joins held left here said there
+
+-- how many entries a file has that goes on with a history
+abbrev pub entries_of : Result Joined CheckFault → Option ℕ
+entries_of (Ok (Judged (verdict.Legal count))) = Some count
+entries_of (Ok (Judged said)) = None
+entries_of (Ok Apart) = None
+entries_of (Err why) = None
+
+-- The files before this one are one history, and it does not go on with it: this is said of it.
+pub record IsBrokenBy (holds : List ℕ → Option (List ℕ)) (names : List (List ℕ)) (said : Joined)
+    (before after : Option (List ℕ)) : Type 0 where
+  pub earlier : List (List ℕ)
+  pub name : List ℕ
+  pub later : List (List ℕ)
+  pub parts : names ≡ earlier ++ name ∷ later
+  pub count : ℕ
+  pub there : Option Picture
+  pub so_far : AreOneHistory holds earlier count there
+  pub judged : IsNext (holds name) there said there
+  pub told : Appends before after (broken_line name said)
+
+-- how a run ends that checks files as one history
+abbrev pub EndsJoined : (List ℕ → Option (List ℕ)) → List (List ℕ) → (before after : Option (List ℕ))
+    → End → Type 0
+EndsJoined holds names before after end.Done = (count : ℕ) × (there : Option Picture)
+    × AreOneHistory holds names count there × Appends before after (joined_line count)
+EndsJoined holds names before after end.Illegal =
+    (number : ℕ) × IsBrokenBy holds names (Judged (verdict.Illegal number)) before after
+EndsJoined holds names before after end.Bad =
+    (number : ℕ) × IsBrokenBy holds names (Judged (verdict.BadTrace number)) before after
+EndsJoined holds names before after end.Apart = IsBrokenBy holds names Apart before after
+EndsJoined holds names before after end.Read = after ≡ before
+EndsJoined holds names before after end.TooLong = after ≡ before
+EndsJoined holds names before after end.Short = after ≡ before
+EndsJoined holds names before after end.Write = Unit {0}
+EndsJoined holds names before after so = ⊥
+
+-- how a run ends at what is said of a file
+abbrev pub end_by : Result Joined CheckFault → End
+end_by (Ok (Judged said)) = end_of (Ok said)
+end_by (Ok Apart) = end.Apart
+end_by (Err why) = end_of (Err why)
+
+-- what is on standard output then
+abbrev pub IsToldBy : List ℕ → Result Joined CheckFault → (before after : Option (List ℕ)) → Type 0
+IsToldBy name (Ok said) before after = Appends before after (broken_line name said)
+IsToldBy name (Err why) before after = after ≡ before
+
+-- the run ends so, and this is on standard output, unless a write to it failed
+abbrev pub TellsBroken : List ℕ → Result Joined CheckFault → (before after : Option (List ℕ)) → End
+    → Type 0
+TellsBroken name said before after ends =
+    ends ≢ end.Write → (ends ≡ end_by said) × IsToldBy name said before after
+
+-- the words ask rightly to check files
+pub record AreFiles (words : List (List ℕ)) : Type 0 where
+  pub taken : fault_of command_line words ≡ []
+  pub asked : asked_by words ≡ Asked.Check
+  pub named : IsSome (files_of (arguments_by words))
+
+-- how a run ends that checks the files which these words name
+abbrev pub EndsNamed : (List ℕ → Option (List ℕ)) → Bool → List (List ℕ)
+    → (before after : Option (List ℕ)) → Bool → Errors → Errors → End → Type 0
+EndsNamed holds true names before after people errors errors' ends =
+    EndsJoined holds names before after ends
+EndsNamed holds false names before after people errors errors' ends =
+    ends ≢ end.Write → EachIsTold holds names before after people errors errors' ends
+
+-- It ends so, or for want of memory, with nothing on standard output.
+abbrev pub EndsFiles : (List ℕ → Option (List ℕ)) → List (List ℕ)
+    → (before after : Option (List ℕ)) → Bool → Errors → Errors → End → Type 0
+EndsFiles holds words before after people errors errors' ends =
+    ((names : List (List ℕ)) × (files_of (arguments_by words) ≡ Some names)
+    × EndsNamed holds (is_joined (arguments_by words)) names before after people errors errors' ends)
+    ⊎ ((ends ≡ end.Short) × (after ≡ before))

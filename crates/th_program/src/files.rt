@@ -1,0 +1,335 @@
+//! Traces in files, checked.
+ghost use Rattle.std.specs.Prelude.{◌≡◌, ◌≢◌, Option, None, List, ℕ, IfOk, IfSome, IsSome, OnErr, Ok, Err, map, string_bytes, true};
+ghost use Rattle.std.specs.Io.KnownBytes.{Appends};
+ghost use Rattle.th_program.specs.Files.{AreFiles, EachIsTold, EndsFiles, EndsJoined, IsNext, IsOutcome, TellsBroken, broken_line, end_of, entries_of, fault_line, fault_word, file_line, worse};
+ghost use Rattle.th_program.specs.Run.{IsSaid, errors_of};
+
+use crate::end::{End, status};
+use crate::modes::{Mode, ModeFault};
+use crate::program::{explain, run_short, say, write_line, write_text, write_verdict};
+use crate::words::mode;
+use std::alloc::Global;
+use std::fs::File;
+use std::io::{Read, Write};
+use std::{fs, io};
+use th_check::{CheckFault, Joined, Joining, Verdict, check_explained};
+use th_lines::Counted;
+
+/// Where files are opened by their names.
+pub trait Opens {
+    /// A file that was opened.
+    type File: Read + Drop;
+
+    /// The bytes of the file with a name, where they are known.
+    ghost holds: { Self → List ℕ → Option (List ℕ) } = { λ _ _. None };
+
+    /// Opens the file with this name, to be read from its beginning.
+    ///
+    /// # Errors
+    ///
+    /// Where the file cannot be opened.
+    fn open(&self, name: &str) -> io::Result<Self::File>
+        ensures { IfOk result (λ file. Self.File.remaining file ≡ holds self.now name.now) };
+}
+
+impl Opens for HostRuntime {
+    type File = File;
+
+    fn open(&self, name: &str) -> io::Result<File> {
+        fs::open(self, name)
+    }
+}
+
+// The words that tell a fault.
+fn fault_word(fault: CheckFault) -> &'static str
+    ensures { result.now ≡ fault_word fault }
+{
+    match fault {
+        CheckFault::Read => "read fault",
+        CheckFault::TooLong => "too long",
+        CheckFault::Short => "no memory",
+    }
+}
+
+// How a run ends that has such an outcome alone.
+fn end_of(outcome: Result<Verdict, CheckFault>) -> End
+    ensures { result ≡ end_of outcome }
+{
+    match outcome {
+        Ok(Verdict::Legal(_)) => End::Done,
+        Ok(Verdict::Illegal(_)) => End::Illegal,
+        Ok(Verdict::BadTrace(_)) => End::Bad,
+        Err(CheckFault::Read) => End::Read,
+        Err(CheckFault::TooLong) => End::TooLong,
+        Err(CheckFault::Short) => End::Short,
+    }
+}
+
+// Of two ends the first that says what stopped a check, else the first that finds a fault in a trace.
+fn worse(one: End, other: End) -> End
+    ensures { result ≡ worse one other }
+{
+    if status(&one) == 1 {
+        one
+    } else if status(&other) == 1 {
+        other
+    } else if status(&one) == 3 {
+        one
+    } else {
+        other
+    }
+}
+
+// Says why there is no verdict on a file.
+fn say_fault<E: Write>(errors: &mut Counted<E>, name: &str, fault: CheckFault)
+    ensures said { IsSaid
+        (errors_of E.contents errors.old)
+        (errors_of E.contents errors.new)
+        (fault_line (name.now, Err fault)) }
+    ensures still { errors.new.failures ≡ 0 → errors.old.failures ≡ 0 }
+{
+    say(errors, b"topichub: ");
+    say(errors, name.as_bytes());
+    say(errors, b": ");
+    say(errors, fault_word(fault).as_bytes());
+    say(errors, b"\n");
+}
+
+// Writes the line of a file with its verdict; `false` where the writer failed.
+fn write_file<W: Write>(output: &mut Counted<W>, name: &str, verdict: Verdict) -> bool
+    ensures { result ≡ true → Appends
+        (W.contents output.old.device) (W.contents output.new.device)
+        (file_line (name.now, Ok verdict)) }
+{
+    if !write_text(output, name.as_bytes()) {
+        return false;
+    }
+    if !write_text(output, b": ") {
+        return false;
+    }
+    write_verdict(output, verdict)
+}
+
+// Tells what came of a file; `false` where the writer failed. What is wrong with it is said to people.
+fn tell_file<W: Write, E: Write>(
+    output: &mut Counted<W>,
+    errors: &mut Counted<E>,
+    name: &str,
+    outcome: Result<Verdict, CheckFault>,
+    wrong: Option<&[u8]>,
+) -> bool
+    ensures told { result ≡ true → Appends
+        (W.contents output.old.device) (W.contents output.new.device)
+        (file_line (name.now, outcome)) }
+    ensures said { wrong.entry ≡ None → IsSaid
+        (errors_of E.contents errors.old)
+        (errors_of E.contents errors.new)
+        (fault_line (name.now, outcome)) }
+    ensures still { errors.new.failures ≡ 0 → errors.old.failures ≡ 0 }
+{
+    match outcome {
+        Ok(verdict) => {
+            if !write_file(output, name, verdict) {
+                return false;
+            }
+            if let Some(text) = wrong {
+                say(errors, text);
+            }
+        }
+        Err(fault) => say_fault(errors, name, fault),
+    }
+    true
+}
+
+// Checks a file by itself. What is wrong with it is put into the text.
+fn check_file<O: Opens>(
+    alloc: Global,
+    files: &O,
+    name: &str,
+    text: &mut Vec<u8>,
+) -> Result<Verdict, CheckFault>
+    ensures { IsOutcome (O.holds files.now name.now) result }
+{
+    let Ok(file) = files.open(name) else {
+        return Err(CheckFault::Read);
+    };
+    check_explained(alloc, &mut Counted::new(file), text)
+}
+
+/// Checks each of these files by itself. What is said of it goes to `output`, a line each; to `errors` go a line for each
+/// file that there is no verdict on, and to people at a terminal what is wrong with a trace. All files are checked,
+/// unless `output` fails. The end is the first that stopped a check, else the first fault found in a trace.
+pub fn check_files<O: Opens, W: Write, E: Write>(
+    alloc: Global,
+    files: &O,
+    names: &[String],
+    output: &mut Counted<W>,
+    errors: &mut Counted<E>,
+    people: bool,
+) -> End
+    ensures { result ≢ End.Write → EachIsTold (O.holds files.now) (map string_bytes names.now)
+        (W.contents output.old.device) (W.contents output.new.device) people
+        (errors_of E.contents errors.old) (errors_of E.contents errors.new) result }
+{
+    let mut end = End::Done;
+    for name in names {
+        let mut text = Vec::new(alloc);
+        let outcome = check_file(alloc, files, name.as_str(), &mut text);
+        let wrong = if people { Some(text.as_slice()) } else { None };
+        if !tell_file(output, errors, name.as_str(), outcome, wrong) {
+            explain(errors, &End::Write);
+            return End::Write;
+        }
+        end = worse(end, end_of(outcome));
+    }
+    end
+}
+
+// Checks a file as the next part of a history. What is wrong with it is put into the text.
+fn add_file<O: Opens>(
+    alloc: Global,
+    files: &O,
+    name: &str,
+    history: &mut Joining,
+    text: &mut Vec<u8>,
+) -> Result<Joined, CheckFault>
+    ensures joins { IfOk result (λ said. IsNext
+        (O.holds files.now name.now) history.old said history.new) }
+    ensures same { OnErr result (history.new ≡ history.old) }
+{
+    let Ok(file) = files.open(name) else {
+        return Err(CheckFault::Read);
+    };
+    history.add(alloc, &mut Counted::new(file), text)
+}
+
+// How many entries a file has that goes on with a history.
+fn entries_of(said: Result<Joined, CheckFault>) -> Option<u64>
+    ensures { result ≡ entries_of said }
+{
+    match said {
+        Ok(Joined::Judged(verdict)) => match verdict {
+            Verdict::Legal(count) => Some(count),
+            Verdict::Illegal(_) => None,
+            Verdict::BadTrace(_) => None,
+        },
+        Ok(Joined::Apart) => None,
+        Err(_) => None,
+    }
+}
+
+// Writes the line of a file that is legal and begins elsewhere; `false` where the writer failed.
+fn write_gap<W: Write>(output: &mut Counted<W>, name: &str) -> bool
+    ensures { result ≡ true → Appends
+        (W.contents output.old.device) (W.contents output.new.device)
+        (broken_line name.now Joined.Apart) }
+{
+    if !write_text(output, b"gap ") {
+        return false;
+    }
+    if !write_text(output, name.as_bytes()) {
+        return false;
+    }
+    write_text(output, b"\n")
+}
+
+// Tells which file breaks a history: the end of the run.
+fn tell_broken<W: Write, E: Write>(
+    output: &mut Counted<W>,
+    errors: &mut Counted<E>,
+    name: &str,
+    said: Result<Joined, CheckFault>,
+    wrong: Option<&[u8]>,
+) -> End
+    ensures { TellsBroken name.now said
+        (W.contents output.old.device) (W.contents output.new.device) result }
+{
+    let (told, end) = match said {
+        Ok(Joined::Judged(verdict)) => (write_file(output, name, verdict), end_of(Ok(verdict))),
+        Ok(Joined::Apart) => (write_gap(output, name), End::Apart),
+        Err(fault) => {
+            say_fault(errors, name, fault);
+            return end_of(Err(fault));
+        }
+    };
+    if !told {
+        explain(errors, &End::Write);
+        return End::Write;
+    }
+    if let Some(text) = wrong {
+        say(errors, text);
+    }
+    end
+}
+
+/// Checks these files as one history, in their order: each is to be legal, and to begin with the picture to which the
+/// entries of the one before it lead. `output` gets one line: how many entries they have, or which file is the first that
+/// breaks the history; no file behind that is read. A file that there is no verdict on is told of in `errors`, and so is, to
+/// people at a terminal, what is wrong with a trace. More than 2^64 - 1 entries are too long.
+pub fn check_joined<O: Opens, W: Write, E: Write>(
+    alloc: Global,
+    files: &O,
+    names: &[String],
+    output: &mut Counted<W>,
+    errors: &mut Counted<E>,
+    people: bool,
+) -> End
+    ensures { EndsJoined (O.holds files.now) (map string_bytes names.now)
+        (W.contents output.old.device) (W.contents output.new.device) result }
+{
+    let mut history = Joining::new();
+    let mut count: u64 = 0;
+    for name in names {
+        let mut text = Vec::new(alloc);
+        let said = add_file(alloc, files, name.as_str(), &mut history, &mut text);
+        let Some(more) = entries_of(said) else {
+            let wrong = if people { Some(text.as_slice()) } else { None };
+            return tell_broken(output, errors, name.as_str(), said, wrong);
+        };
+        let Some(sum) = count.checked_add(more) else {
+            say_fault(errors, name.as_str(), CheckFault::TooLong);
+            return End::TooLong;
+        };
+        count = sum;
+    }
+    if write_line(output, b"joined ", count) {
+        End::Done
+    } else {
+        explain(errors, &End::Write);
+        End::Write
+    }
+}
+
+/// Checks the files that the words name, the program's name first, each by itself or as one history; `None`, with nothing
+/// done, where they name none.
+pub fn check_by_words<O: Opens, W: Write, E: Write>(
+    alloc: Global,
+    files: &O,
+    words: &[&str],
+    output: &mut Counted<W>,
+    errors: &mut Counted<E>,
+    people: bool,
+) -> Option<End>
+    ensures ends { IfSome result (EndsFiles (O.holds files.now) (map (λ w. w.now) words.now)
+        (W.contents output.old.device) (W.contents output.new.device) people
+        (errors_of E.contents errors.old) (errors_of E.contents errors.new)) }
+    ensures asked { AreFiles (map (λ w. w.now) words.now) → IsSome result }
+    ensures none { result ≡ None → (output.new ≡ output.old) × (errors.new ≡ errors.old) }
+{
+    match mode(alloc, words) {
+        Ok(
+            Mode::CheckFiles {
+                files: names,
+                joined,
+            },
+        ) => {
+            let names = names.as_slice();
+            if joined {
+                return Some(check_joined(alloc, files, names, output, errors, people));
+            }
+            Some(check_files(alloc, files, names, output, errors, people))
+        }
+        Err(ModeFault::Short) => Some(run_short(errors)),
+        _ => None,
+    }
+}

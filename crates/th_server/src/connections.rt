@@ -1,0 +1,97 @@
+//! The connections of the sessions that are there.
+use std::alloc::{AllocError, Global};
+use std::net::Shutdown;
+use std::os::unix::net::UnixStream;
+use std::sync::atomic::{AtomicBool, AtomicU64, Ordering};
+use std::sync::{Arc, Mutex, Wait};
+
+/// The connections of the sessions that are there, each at the place of the worker that serves it, and whether the server goes on.
+#[derive(Drop)]
+pub(crate) struct Connections {
+    streams: Mutex<Vec<Option<Arc<UnixStream>>>>,
+    // Sessions that have begun.
+    begun: AtomicU64,
+    // Workers that wait for a connection.
+    accepting: AtomicU64,
+    // No further session begins, and who waits does so no longer.
+    ending: AtomicBool,
+}
+
+impl Connections {
+    /// Places for so many, and nobody there.
+    pub(crate) fn new(alloc: Global, places: u64) -> Result<Connections, AllocError> {
+        let mut streams = Vec::with_capacity(alloc, places as usize)?;
+        for _ in 0..places {
+            streams.push(None)?;
+        }
+        Ok(Connections {
+            streams: Mutex::new(streams),
+            begun: AtomicU64::new(0),
+            accepting: AtomicU64::new(0),
+            ending: AtomicBool::new(false),
+        })
+    }
+
+    /// The number of a session that begins now: they are counted from 1.
+    pub(crate) fn begin(&self) -> u64 {
+        self.begun.fetch_add(1, Ordering::Relaxed).saturating_add(1)
+    }
+
+    /// How many sessions have begun.
+    pub(crate) fn begun(&self) -> u64 {
+        self.begun.load(Ordering::Relaxed)
+    }
+
+    /// What is at this place from now on.
+    pub(crate) fn put<R: Wait>(&self, rt: &R, place: u64, stream: Option<Arc<UnixStream>>) {
+        let mut streams = self.streams.lock(rt);
+        if let Some(at) = streams.get_mut(place as usize) {
+            *at = stream;
+        }
+    }
+
+    /// Whether one is there.
+    pub(crate) fn is_any<R: Wait>(&self, rt: &R) -> bool {
+        let streams = self.streams.lock(rt);
+        for stream in streams.iter() {
+            if stream.is_some() {
+                return true;
+            }
+        }
+        false
+    }
+
+    /// Ends one side or both of each that is there.
+    pub(crate) fn shut<R: Wait>(&self, rt: &R, how: Shutdown) {
+        let streams = self.streams.lock(rt);
+        for stream in streams.iter() {
+            if let Some(stream) = stream {
+                let _ = stream.shutdown(how);
+            }
+        }
+    }
+
+    /// One worker more waits for a connection, or one less.
+    pub(crate) fn accepts(&self, waits: bool) {
+        if waits {
+            let _ = self.accepting.fetch_add(1, Ordering::SeqCst);
+        } else {
+            let _ = self.accepting.fetch_sub(1, Ordering::SeqCst);
+        }
+    }
+
+    /// Whether a worker waits for a connection.
+    pub(crate) fn is_accepting(&self) -> bool {
+        self.accepting.load(Ordering::SeqCst) > 0
+    }
+
+    /// No further session begins.
+    pub(crate) fn end(&self) {
+        self.ending.store(true, Ordering::SeqCst);
+    }
+
+    /// Whether none begins any more.
+    pub(crate) fn is_ending(&self) -> bool {
+        self.ending.load(Ordering::SeqCst)
+    }
+}
