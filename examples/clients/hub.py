@@ -43,6 +43,17 @@ class Hub:
         """The lines below the reply to LIST or TRACE."""
         return [self.replies.readline()[:-1].decode(*CODE) for _ in range(int(self.ask(line).split()[1]))]
 
+    def ask_all(self, lines):
+        """The replies to lines that are all sent ahead, refusals as they come. None of them is LIST or TRACE."""
+        self.socket.sendall(b"".join(line.encode(*CODE) + b"\n" for line in lines))
+        return [self.reply_or_refusal() for _ in lines]
+
+    def reply_or_refusal(self):
+        try:
+            return self.reply()
+        except Refused as refusal:
+            return str(refusal)
+
     def until(self, line, wanted):
         """Asks again and again, until this is the reply: for what other clients have still to do."""
         while True:
@@ -55,16 +66,26 @@ class Hub:
             time.sleep(0.01)
 
 
-def session(doc):
-    """A session with the server whose socket the command line names; `--help` prints the client's own text."""
+def parser(doc):
+    """The words of a client's command line, which begin with the path of a socket; `--help` prints the client's own text."""
     words = argparse.ArgumentParser(
         description=doc,
+        formatter_class=argparse.RawDescriptionHelpFormatter,
         epilog="exit status: 0 where the session went to its end, else 1; 2 where the words are wrong",
     )
     words.add_argument("path", metavar="PATH", help="the socket, as in: topichub serve PATH --sessions 4")
-    path = words.parse_args().path
+    return words
+
+
+def connected(path):
+    """A session with the server at this socket; where nobody listens there, the client ends."""
     sys.stdout.reconfigure(encoding=CODE[0], errors=CODE[1])  # so that a value is printed as it came
     try:
         return Hub(path)
     except OSError as fault:
         sys.exit(f"{path}: {fault.strerror}; does `serve` listen there, with a session left?")
+
+
+def session(doc):
+    """A session with the server whose socket is the one word of the command line."""
+    return connected(parser(doc).parse_args().path)

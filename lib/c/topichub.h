@@ -127,6 +127,12 @@ enum topichub_status {
     TOPICHUB_LEGAL = 29,         /* It is a trace, and each reply in it is the one that the channel gives. */
     TOPICHUB_ILLEGAL = 30,       /* A line tells of a reply that the channel would not have given. */
     TOPICHUB_BAD_TRACE = 31,     /* A line is none that may stand there, or one is missing. */
+
+    /* Of calls with bytes. Nothing has changed. */
+    TOPICHUB_OTHER_VALUES = 32,  /* The values of the channel are bytes, and the call is one with a number; or the
+                                    other way round. */
+    TOPICHUB_BAD_VALUE = 33,     /* A value has 1 to 1,024 bytes, and none of them is LF or CR. */
+    TOPICHUB_SMALL_BUFFER = 34,  /* The buffer has fewer than TOPICHUB_MOST_BYTES bytes. */
 };
 
 /* The reply to a call of a channel. */
@@ -270,6 +276,36 @@ topichub_reply topichub_broadcast_readers(topichub_broadcast *channel, uint64_t 
  * not none.
  */
 uint32_t topichub_broadcast_cut(topichub_broadcast *channel, topichub_trace *trace);
+
+
+/*
+ * BROADCAST CHANNELS OF BYTES
+ *
+ * The values of such a channel are bytes, 1 to 1,024 of them and none LF or CR, which it keeps itself: they are copied
+ * in by a send, and out by a receive. Where a reply speaks of a value, its number is how many bytes the value has.
+ * All calls above that neither take nor give a value are for it too. topichub_broadcast_send, _try_recv and _recv come
+ * to TOPICHUB_OTHER_VALUES, as the calls below do of a channel of numbers.
+ */
+#define TOPICHUB_MOST_BYTES 1024
+
+/* Makes one without a history, as topichub_broadcast_new does. */
+uint32_t topichub_broadcast_new_of_bytes(topichub_broadcast *channel, uint64_t capacity, uint64_t base);
+
+/* Sends `length` bytes to every live receiver. `bytes` is not NULL. Statuses as of topichub_broadcast_send, and
+   TOPICHUB_BAD_VALUE, TOPICHUB_OTHER_VALUES. */
+topichub_reply topichub_broadcast_send_bytes(topichub_broadcast *channel, uint64_t tx, const uint8_t *bytes,
+                                             size_t length);
+
+/*
+ * Receives the next value into `buffer`, which has room for `length` bytes, at least TOPICHUB_MOST_BYTES, and is not
+ * NULL. With TOPICHUB_VALUE the number is how many bytes were put there; the rest of the buffer stays as it is.
+ *
+ * Statuses as of topichub_broadcast_try_recv and topichub_broadcast_recv, and TOPICHUB_SMALL_BUFFER,
+ * TOPICHUB_OTHER_VALUES. Where it is not TOPICHUB_VALUE, the buffer stays as it is.
+ */
+topichub_reply topichub_broadcast_try_recv_bytes(topichub_broadcast *channel, uint64_t rx, uint8_t *buffer,
+                                                 size_t length);
+topichub_reply topichub_broadcast_recv_bytes(topichub_broadcast *channel, uint64_t rx, uint8_t *buffer, size_t length);
 
 
 /*

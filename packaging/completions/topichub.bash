@@ -18,8 +18,8 @@ _topichub() {
         help:*) [ "$COMP_CWORD" -ne 2 ] || words='replay check serve help' ;;
         serve:*)
             case $before:$word in
-                --sessions:* | --at-once:* | =:*) ;; # a number
-                *:-*) words='--sessions --at-once --replace --until-eof --verbose -h --help' ;;
+                --sessions:* | --at-once:* | --history:* | --memory:* | --socket-fd:* | =:*) ;; # a number
+                *:-*) words='--sessions --at-once --replace --until-eof --verbose --history --memory --traces --socket-fd -h --help' ;;
                 *)
                     compopt -o filenames 2>/dev/null
                     mapfile -t COMPREPLY < <(compgen -d -- "$word")

@@ -30,4 +30,8 @@ complete -c topichub -n '__topichub_in serve' -l at-once -x -d 'Any number of co
 complete -c topichub -n '__topichub_in serve' -l replace -d 'Take the place of a socket whose server is gone'
 complete -c topichub -n '__topichub_in serve' -l until-eof -d 'End at the end of standard input'
 complete -c topichub -n '__topichub_in serve' -l verbose -d 'Say what is wrong at the path'
+complete -c topichub -n '__topichub_in serve' -l history -x -d 'Cut histories at so many entries, 1 to 1000000'
+complete -c topichub -n '__topichub_in serve' -l memory -x -d 'How many entries all histories hold, 1024 to 1000000000'
+complete -c topichub -n '__topichub_in serve' -l traces -x -a '(__fish_complete_directories)' -d 'Keep what was cut below this directory'
+complete -c topichub -n '__topichub_in serve' -l socket-fd -x -d 'The descriptor of a socket that is bound already, 3 to 1023'
 complete -c topichub -n '__topichub_in serve' -a '(__fish_complete_directories)'

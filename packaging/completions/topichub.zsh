@@ -33,11 +33,15 @@ _topichub() {
             ;;
         serve)
             _arguments "$help[@]" \
-                '(--at-once --replace --until-eof --verbose)--sessions=[how many connections are served]:number from 1 to 64: ' \
+                '(--at-once --replace --until-eof --verbose --history --memory --traces --socket-fd)--sessions=[how many connections are served]:number from 1 to 64: ' \
                 '(--sessions)--at-once=[any number of connections, so many at a time]:number from 1 to 1024: ' \
-                '(--sessions)--replace[take the place of a socket whose server is gone]' \
+                '(--sessions --socket-fd)--replace[take the place of a socket whose server is gone]' \
                 '(--sessions)--until-eof[end at the end of standard input]' \
                 '(--sessions)--verbose[say what is wrong at the path]' \
+                '(--sessions)--history=[cut histories at so many entries]:number from 1 to 1000000: ' \
+                '(--sessions)--memory=[how many entries all histories hold]:number from 1024 to 1000000000: ' \
+                '(--sessions)--traces=[keep what was cut below this directory]:directory:_files -/' \
+                '(--sessions --replace)--socket-fd=[a socket that is bound already]:descriptor from 3 to 1023: ' \
                 '1:path of the new socket:_files -/' && ret=0
             ;;
         help)

@@ -37,21 +37,6 @@ struct Sleeper {
     is_woken: AtomicBool,
 }
 
-impl Sleeper {
-    fn new() -> Arc<Self> {
-        Arc::new(Self {
-            thread: thread::current(),
-            is_woken: AtomicBool::new(false),
-        })
-    }
-
-    fn sleep(&self) {
-        while !self.is_woken.swap(false, Ordering::Acquire) {
-            thread::park();
-        }
-    }
-}
-
 impl Wake for Sleeper {
     fn wake(self: Arc<Self>) {
         self.wake_by_ref();
@@ -64,21 +49,48 @@ impl Wake for Sleeper {
     }
 }
 
+/// How a thread sleeps, and is woken.
+struct Sleep {
+    sleeper: Arc<Sleeper>,
+    waker: Waker,
+}
+
+impl Sleep {
+    fn new() -> Self {
+        let sleeper = Arc::new(Sleeper {
+            thread: thread::current(),
+            is_woken: AtomicBool::new(false),
+        });
+        Self {
+            waker: Waker::from(Arc::clone(&sleeper)),
+            sleeper,
+        }
+    }
+
+    #[inline]
+    fn until_ready<F: Future + Unpin>(&self, future: &mut F) -> F::Output {
+        let mut context = Context::from_waker(&self.waker);
+        loop {
+            if let Poll::Ready(answer) = Pin::new(&mut *future).poll(&mut context) {
+                return answer;
+            }
+            while !self.sleeper.is_woken.swap(false, Ordering::Acquire) {
+                thread::park();
+            }
+        }
+    }
+}
+
 thread_local! {
-    static SLEEPER: Arc<Sleeper> = Sleeper::new();
+    /// Made once for each thread, so that a future that is ready costs a poll and no more.
+    static SLEEP: Sleep = Sleep::new();
 }
 
 /// The future's answer. The thread waits until there is one.
+#[inline]
 pub(crate) fn block_on<F: Future + Unpin>(mut future: F) -> F::Output {
-    let sleeper = SLEEPER
-        .try_with(Arc::clone)
-        .unwrap_or_else(|_| Sleeper::new());
-    let waker = Waker::from(Arc::clone(&sleeper));
-    let mut context = Context::from_waker(&waker);
-    loop {
-        if let Poll::Ready(answer) = Pin::new(&mut future).poll(&mut context) {
-            return answer;
-        }
-        sleeper.sleep();
-    }
+    // A thread that is at its end has none any more.
+    SLEEP
+        .try_with(|sleep| sleep.until_ready(&mut future))
+        .unwrap_or_else(|_| Sleep::new().until_ready(&mut future))
 }

@@ -29,22 +29,22 @@ impl<C: Channel> Core<C> {
     #[inline]
     pub(crate) fn call(&mut self, call: impl Fn(&mut C) -> Reply) -> Reply {
         let told = call(&mut self.channel);
-        if told.status == status::LOG_FULL {
-            self.call_with_room(call)
-        } else {
-            told
+        if told.status != status::LOG_FULL {
+            return told;
         }
-    }
-
-    #[cold]
-    fn call_with_room(&mut self, call: impl Fn(&mut C) -> Reply) -> Reply {
-        let full = self.channel.cut();
-        self.full.push_back(full);
+        self.begin_segment();
         let told = call(&mut self.channel);
         if told.status == status::LOG_FULL {
             library::refused(told.status);
         }
         told
+    }
+
+    // The reply does not pass through here, so that it stays in registers.
+    #[cold]
+    fn begin_segment(&mut self) {
+        let full = self.channel.cut();
+        self.full.push_back(full);
     }
 
     /// The number of a new handle.

@@ -67,17 +67,18 @@ impl Waiters {
     #[inline]
     pub(crate) fn call(&mut self) -> Called {
         if self.wakers.is_empty() {
-            Called(Vec::new())
+            Called::nobody()
         } else {
             self.call_some()
         }
     }
 
+    #[inline(never)]
     fn call_some(&mut self) -> Called {
         self.round += 1;
         self.free.clear();
         let emptied = SPARE.try_with(Cell::take).unwrap_or_default();
-        Called(std::mem::replace(&mut self.wakers, emptied))
+        Called(Some(std::mem::replace(&mut self.wakers, emptied)))
     }
 }
 
@@ -88,25 +89,26 @@ thread_local! {
 
 /// Tasks that are to be woken.
 #[must_use]
-pub(crate) struct Called(Vec<Option<Waker>>);
+pub(crate) struct Called(Option<Vec<Option<Waker>>>);
 
 impl Called {
     pub(crate) const fn nobody() -> Self {
-        Self(Vec::new())
+        Self(None)
     }
 
     #[inline]
     pub(crate) fn wake(self) {
-        if !self.0.is_empty() {
-            self.wake_some();
+        if let Some(wakers) = self.0 {
+            wake_all(wakers);
         }
     }
+}
 
-    fn wake_some(mut self) {
-        self.0.drain(..).flatten().for_each(Waker::wake);
-        // A thread that is at its end has no spare list any more.
-        let _ = SPARE.try_with(|spare| spare.set(self.0));
-    }
+#[inline(never)]
+fn wake_all(mut wakers: Vec<Option<Waker>>) {
+    wakers.drain(..).flatten().for_each(Waker::wake);
+    // A thread that is at its end has no spare list any more.
+    let _ = SPARE.try_with(|spare| spare.set(wakers));
 }
 
 #[cfg(test)]
@@ -195,5 +197,71 @@ mod tests {
         assert!(waiters.leave(&mut seat).is_none());
         waiters.call().wake();
         assert_eq!(other.0.load(Ordering::Relaxed), 1);
+    }
+    /// What may happen to two seats. Between a call and its wake is time, since the lock is let go.
+    #[derive(Clone, Copy, Debug)]
+    enum Step {
+        Sit(usize),
+        Leave(usize),
+        Call,
+        Wake,
+    }
+
+    const STEPS: [Step; 6] = [
+        Step::Sit(0),
+        Step::Sit(1),
+        Step::Leave(0),
+        Step::Leave(1),
+        Step::Call,
+        Step::Wake,
+    ];
+
+    /// Takes the steps, with a new waker for each who sits: a wake calls each waker that waited at
+    /// its call, once, and no other one.
+    fn take(steps: &[Step]) {
+        let mut waiters = Waiters::default();
+        let mut seats = [Seat::default(), Seat::default()];
+        let (mut given, mut called) = (Vec::new(), std::collections::VecDeque::new());
+        // Whose waker waits, and how often each is to have been called.
+        let (mut waits, mut wanted) = ([None; 2], Vec::new());
+        for step in steps {
+            match *step {
+                Step::Sit(who) => {
+                    let (times, waker) = counted();
+                    assert_eq!(
+                        waiters.sit(&mut seats[who], &waker).is_some(),
+                        waits[who].is_some()
+                    );
+                    waits[who] = Some(given.len());
+                    given.push(times);
+                    wanted.push(0);
+                }
+                Step::Leave(who) => {
+                    let left = waiters.leave(&mut seats[who]);
+                    assert_eq!(left.is_some(), waits[who].take().is_some());
+                    assert!(!seats[who].is_taken());
+                }
+                Step::Call => called.push_back((waiters.call(), std::mem::take(&mut waits))),
+                Step::Wake => {
+                    if let Some((called, woken)) = called.pop_front() {
+                        called.wake();
+                        woken.into_iter().flatten().for_each(|it| wanted[it] += 1);
+                    }
+                }
+            }
+            let times = given.iter().map(|it| it.0.load(Ordering::Relaxed));
+            assert!(times.eq(wanted.iter().copied()), "{steps:?}");
+        }
+    }
+
+    #[test]
+    fn in_every_order_a_wake_calls_whoever_waits() {
+        const LENGTH: u32 = 6;
+        for order in 0..STEPS.len().pow(LENGTH) {
+            let steps: Vec<_> = (0..LENGTH)
+                .map(|at| STEPS[order / STEPS.len().pow(at) % STEPS.len()])
+                .collect();
+            take(&steps);
+        }
     }
 }

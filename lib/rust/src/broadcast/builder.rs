@@ -1,10 +1,10 @@
 //! How a broadcast channel is made, and what is recorded of one.
+use super::kept::Kept;
 use super::{Receiver, Sender, Shared, State};
 use crate::library;
 use crate::recording::{Core, FIRST_SENDER, LEAST_LIMIT};
 use crate::waiting::Waiters;
 use crate::BuildError;
-use std::collections::VecDeque;
 use std::fmt;
 use std::sync::Arc;
 
@@ -38,11 +38,9 @@ impl Builder {
 
     fn made<T>(self, limit: Option<u64>) -> Result<(Sender<T>, Receiver<T>), BuildError> {
         let core = Core::new(library::Broadcast::new(self.capacity as u64, limit)?);
-        let kept = VecDeque::with_capacity(self.capacity.next_power_of_two());
         let mut state = State {
             core,
-            kept,
-            sent: 0,
+            kept: Kept::new(self.capacity),
             senders: 1,
             waiting: Waiters::default(),
         };

@@ -45,6 +45,7 @@
 //! ```
 mod builder;
 pub mod error;
+mod kept;
 mod receiver;
 mod sender;
 
@@ -56,8 +57,8 @@ use crate::library::{self, status, Reply};
 use crate::recording::Core;
 use crate::turns::Turns;
 use crate::waiting::Waiters;
-use error::TryRecvError;
-use std::collections::VecDeque;
+use error::{RecvError, TryRecvError};
+use kept::Kept;
 use std::sync::atomic::AtomicU64;
 use std::sync::{Arc, MutexGuard};
 
@@ -73,10 +74,8 @@ struct State<T> {
     /// The channel, of numbers: it holds for each value the number of those that were sent before
     /// it.
     core: Core<library::Broadcast>,
-    /// The values that the channel keeps, oldest first.
-    kept: VecDeque<T>,
-    /// How many values were sent.
-    sent: u64,
+    /// The values that the channel keeps.
+    kept: Kept<T>,
     /// How many senders are live.
     senders: usize,
     waiting: Waiters,
@@ -96,17 +95,16 @@ impl<T> Shared<T> {
 }
 
 impl<T: Clone> State<T> {
-    /// What a receiver is told. `next` becomes the number of its next value, where that is known.
+    /// What a receiver is told now. `next` becomes the number of its next value, where that is
+    /// known.
     #[inline]
-    fn received(&mut self, told: Reply, next: &mut u64) -> Result<T, TryRecvError> {
+    fn try_recv(&mut self, id: u64, next: &mut u64) -> Result<T, TryRecvError> {
+        let told = self.core.call(|channel| channel.try_recv(id));
         match told.status {
-            status::VALUE => {
-                *next = told.number + 1;
-                Ok(self.value(told))
-            }
+            status::VALUE => Ok(self.value(told, next)),
             status::LAGGED => Err(TryRecvError::Lagged(told.number)),
-            status::EMPTY | status::WOULD_WAIT => {
-                *next = self.sent;
+            status::EMPTY => {
+                *next = self.kept.sent();
                 Err(TryRecvError::Empty)
             }
             status::CLOSED => Err(TryRecvError::Closed),
@@ -114,15 +112,28 @@ impl<T: Clone> State<T> {
         }
     }
 
+    /// The same for a receiver that waits: nothing where there is nothing to tell.
     #[inline]
-    fn value(&mut self, told: Reply) -> T {
-        let value = if told.let_go == 0 {
-            let oldest = self.sent - self.kept.len() as u64;
-            self.kept.get((told.number - oldest) as usize).cloned()
-        } else {
-            self.kept.pop_front()
-        };
-        value.expect("the channel tells only of values that it keeps")
+    fn recv(&mut self, id: u64, next: &mut u64) -> Option<Result<T, RecvError>> {
+        let told = self.core.call(|channel| channel.recv(id));
+        match told.status {
+            status::VALUE => Some(Ok(self.value(told, next))),
+            status::LAGGED => Some(Err(RecvError::Lagged(told.number))),
+            status::WOULD_WAIT => {
+                *next = self.kept.sent();
+                None
+            }
+            status::CLOSED => Some(Err(RecvError::Closed)),
+            other => library::refused(other),
+        }
+    }
+
+    #[inline]
+    fn value(&mut self, told: Reply, next: &mut u64) -> T {
+        *next = told.number + 1;
+        self.kept
+            .read(told.number, told.let_go)
+            .expect("the channel tells only of values that it keeps")
     }
 }
 

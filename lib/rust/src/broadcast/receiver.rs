@@ -115,6 +115,9 @@ impl<T: Clone> Receiver<T> {
 
     /// As [`recv`](Self::recv), by blocking the thread.
     ///
+    /// It first looks for a value for some microseconds, since to sleep and to be woken takes longer.
+    /// Where there is one, it costs what [`try_recv`](Self::try_recv) does.
+    ///
     /// # Examples
     ///
     /// ```
@@ -126,11 +129,21 @@ impl<T: Clone> Receiver<T> {
     /// assert_eq!(receiving.join().unwrap(), Ok(10));
     /// ```
     pub fn blocking_recv(&mut self) -> Result<T, RecvError> {
-        BLOCKING.until(|| self.seems_ready());
+        // Mostly there is a value. Then no future is made, and nothing by which to be woken.
+        if BLOCKING.until(|| self.seems_ready()).is_some() {
+            let told = self.shared.lock().recv(self.id, &mut self.next);
+            if let Some(answer) = told {
+                return answer;
+            }
+        }
         block_on(self.recv())
     }
 
     /// The next value, where there is one.
+    ///
+    /// It takes the channel's lock once, for a call that is at most logarithmic in the number of
+    /// receivers, and takes no memory. All receivers but the last one of a value clone it, under the
+    /// lock.
     ///
     /// # Examples
     ///
@@ -142,10 +155,9 @@ impl<T: Clone> Receiver<T> {
     /// tx.send(10).unwrap();
     /// assert_eq!(rx.try_recv(), Ok(10));
     /// ```
+    #[inline]
     pub fn try_recv(&mut self) -> Result<T, TryRecvError> {
-        let mut state = self.shared.lock();
-        let told = state.core.call(|channel| channel.try_recv(self.id));
-        state.received(told, &mut self.next)
+        self.shared.lock().try_recv(self.id, &mut self.next)
     }
 }
 
@@ -155,7 +167,7 @@ impl<T> Drop for Receiver<T> {
         let told = state.core.call(|channel| channel.drop_rx(self.id));
         debug_assert_eq!(told.status, status::DONE);
         // A value's own `drop` must not run under the lock.
-        let let_go: Vec<T> = state.kept.drain(..told.let_go as usize).collect();
+        let let_go = state.kept.take_oldest(told.let_go);
         drop(state);
         drop(let_go);
     }
@@ -183,22 +195,13 @@ impl<T: Clone> Future for Recv<'_, T> {
             WAITING.until(|| receiver.seems_ready());
         }
         let mut state = receiver.shared.lock();
-        let told = state.core.call(|channel| channel.recv(receiver.id));
-        let answer = match state.received(told, &mut receiver.next) {
-            Ok(value) => Ok(value),
-            Err(TryRecvError::Lagged(missed)) => Err(RecvError::Lagged(missed)),
-            Err(TryRecvError::Closed) => Err(RecvError::Closed),
-            Err(TryRecvError::Empty) => {
-                let replaced = state.waiting.sit(seat, context.waker());
-                drop(state);
-                drop(replaced);
-                return Poll::Pending;
-            }
+        let (polled, left) = match state.recv(receiver.id, &mut receiver.next) {
+            Some(answer) => (Poll::Ready(answer), state.waiting.leave(seat)),
+            None => (Poll::Pending, state.waiting.sit(seat, context.waker())),
         };
-        let left = state.waiting.leave(seat);
         drop(state);
         drop(left);
-        Poll::Ready(answer)
+        polled
     }
 }
 
