@@ -10,10 +10,10 @@ from program import patience, program
 
 
 class Server:
-    """A server of so many sessions, or one that stands, by its other words; it may have so many files open at a time. `first` is the
-    first line that it printed: it listens, or has ended without one."""
+    """A server of so many sessions, or one that stands, by its other words; it may have so many files open at a time, and is given
+    these descriptors. `first` is the first line that it printed: it listens, or has ended without one."""
 
-    def __init__(self, path, sessions, seconds, environment=None, files=None, words=None):
+    def __init__(self, path, sessions, seconds, environment=None, files=None, words=None, pass_fds=()):
         self.path = path
         words = words or ["--sessions", str(sessions)]
 
@@ -26,7 +26,7 @@ class Server:
         self.process = subprocess.Popen([program(), "serve", path, *words],
                                         stdin=subprocess.PIPE if "--until-eof" in words else subprocess.DEVNULL,
                                         stdout=subprocess.PIPE, stderr=subprocess.PIPE, text=True, env=environment,
-                                        preexec_fn=begin)
+                                        preexec_fn=begin, pass_fds=pass_fds)
         # What has not ended after so many seconds never will, and says no more.
         self.timer = threading.Timer(patience(seconds), self.process.kill)
         self.timer.start()

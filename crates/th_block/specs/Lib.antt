@@ -1,3 +1,4 @@
+pub mod Cuts
 pub mod Handles
 pub mod Locked
 pub mod Pairs

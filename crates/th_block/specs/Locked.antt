@@ -1,22 +1,24 @@
 -- What a handle's event does under the lock, and why it is refused there.
-use Rattle.std.specs.Prelude.{◌≡◌, ◌≢◌, ℕ, ◌+◌, ◌≤◌, ◌<◌, Bool, false, Option, None, Some, List, [], ◌∷◌, ◌++◌, length, take, slice_get, MatchOption}
+use Rattle.std.specs.Prelude.{◌≡◌, ◌≢◌, ◌⊎◌, ℕ, ◌+◌, ◌≤◌, ◌<◌, Bool, false, Option, None, Some, List, [], ◌∷◌, ◌++◌, length, take, slice_get, MatchOption}
 use Rattle.std.specs.List.{AllByRecursion}
 use Rattle.th_seats.specs.Tally.{Tally}
 use Rattle.th_glance.specs.declared.glance.Glance.{Glance}
 use Rattle.th_glance.specs.Lists.{glance_of, last_of, IsCounted}
 use Rattle.th_glance.specs.Seats.{Known as Sighted}
 use Rattle.th_log.specs.CallLaws.{EndsWait}
-use Rattle.th_log.specs.History.{Machine, Log, Piece, end_of, live_after}
+use Rattle.th_log.specs.History.{Machine, Log, Piece, end_of, live_after, most, next_of}
 use Rattle.th_log.specs.Outcome.{IsFull, IsOwn, Told, counted}
 use Rattle.th_log.specs.declared.receipt.Refused.{Refused}
 use Rattle.th_log.specs.declared.receipt.Refused.TheVariants.{Foreign, Short, LogFull}
 use Rattle.th_block.specs.Handles.{Known, Tells, seen_of, unused}
 use Rattle.th_block.specs.declared.seat.Seat.{Seat}
 
--- what lies under a lock: the log, and how many have looked in vain since they were last woken
+-- what lies under a lock: the log, how many have looked in vain since they were last woken, and
+-- whether the log is cut by the calls that find it long or full
 pub record Guarded (S C R : Type 0) : Type 0 where
   pub log : Log S C R
   pub waiting : ℕ
+  pub rolls : Bool
 
 -- Somebody is to be woken after this event: some have looked in vain, and what a call of another
 -- handle waited for is there now (docs/HISTORIES.md, "Who waits").
@@ -91,6 +93,17 @@ abbrev pub RefusesEvent : {S C R : Type 0} → Log S C R → Known → C → (li
 RefusesEvent l k call live (Foreign c) = (c ≡ call) × (Fits k l.tally → ⊥)
 RefusesEvent l k call live (LogFull c) = (c ≡ call) × Fits k l.tally × IsFull l 1 live
 RefusesEvent l k call live (Short c) = (c ≡ call) × Fits k l.tally × (IsFull l 1 live → ⊥)
+
+-- no event was made: the present part goes on, or the next one has begun where it ended
+-- (docs/HISTORIES.md, "Histories that go on")
+abbrev pub GoesOn : {S C R : Type 0} → (old new : Log S C R) → Type 0
+GoesOn old new = (new.tally ≡ old.tally) × (new.limit ≡ old.limit)
+    × ((new.piece ≡ old.piece) ⊎ (new.piece ≡ next_of old.piece old.tally.total))
+
+-- a part that has no entries yet has no room for so many beside those that spend the handles live
+-- then, or the channel has had nearly 2^63 events
+abbrev pub HasNoPlace : {S C R : Type 0} → Log S C R → (count live : ℕ) → Type 0
+HasNoPlace l count live = (l.limit < count + live) ⊎ (most < l.tally.total + count + live)
 
 -- fewer handles are live after the call
 abbrev pub Spends : {E S C R : Type 0} → Machine E S C R → S → C → Type 0

@@ -9,6 +9,7 @@ ghost use Rattle.th_block.specs.Locked.{Entered, Fits, IsSeated, Spends};
 ghost use Rattle.th_block.specs.Rows.{CallsInRow};
 
 use crate::account::Account;
+use crate::cuts::{Cut, hand_over};
 use crate::held::Held;
 use crate::posted::Posted;
 use crate::ready::{all_ready, see_all};
@@ -114,11 +115,12 @@ fn seated<O: Kind>(held: &mut Held<O>, receipt: &Receipt<O>) -> Option<Seat>
     Some(Seat { number, share })
 }
 
-// One event of a call that may make a handle, on the locked log.
+// One event of a call that may make a handle, on the locked log, which may be cut before.
 pub(crate) fn seated_event<O: Kind>(
     held: &mut Held<O>,
     account: &mut Account,
     call: O::Call,
+    cut: &mut Option<Cut<O>>,
 ) -> Result<(Receipt<O>, Option<Seat>), Refused<O::Call>>
     requires lawful { O.lawful }
     requires ready { O.machine.ready held.old.log.piece.last call ≡ true }
@@ -130,7 +132,7 @@ pub(crate) fn seated_event<O: Kind>(
         O.machine.answer held.old.log.piece.last call ≡ (r.0.reply, held.new.log.piece.last)) }
     ensures fits { OnOk result (Fits account.new held.new.log.tally) }
 {
-    match held.event(account, call) {
+    match held.enter(account, call, cut) {
         Ok(receipt) => {
             let seat = seated(held, &receipt);
             Ok((receipt, seat))
@@ -213,6 +215,7 @@ impl<O: Kind, S> Handle<O, S> {
             ..
         } = self;
         let room = &*shared.room;
+        let mut cut = None;
         let locked = room.held.lock(rt);
         // A call that has its answer does not look at the condition: most have.
         let mut held = if locked.is_ready(&call) {
@@ -220,10 +223,11 @@ impl<O: Kind, S> Handle<O, S> {
         } else {
             room.news.wait_while(rt, locked, |held| held.waits(&call))
         };
-        let answer = held.event(account, call);
+        let answer = held.enter(account, call, &mut cut);
         let wakes = held.wakes_after(&answer);
         drop(held);
         room.wake(wakes);
+        hand_over(rt, &mut cut);
         match answer {
             Ok(receipt) => {
                 // What every receipt says.
@@ -317,10 +321,12 @@ impl<O: Kind, S> Handle<O, S> {
             return Err(Refused::Short(call));
         };
         let room = &*shared.room;
+        let mut cut = None;
         let locked = room.held.lock(rt);
         let mut held = room.news.wait_while(rt, locked, |held| held.waits(&call));
-        let answer = seated_event(&mut *held, account, call);
+        let answer = seated_event(&mut *held, account, call, &mut cut);
         drop(held);
+        hand_over(rt, &mut cut);
         match answer {
             Ok((receipt, seat)) => {
                 account.catch_up(rt, receipt.place());
@@ -368,14 +374,16 @@ impl<O: Kind, S: Side<O>> Handle<O, S> {
             ..
         } = self;
         let room = &*shared.room;
+        let mut cut = None;
         let locked = room.held.lock(rt);
         let mut held = if locked.is_ready(&call) {
             locked
         } else {
             room.news.wait_while(rt, locked, |held| held.waits(&call))
         };
-        let answer = held.event(account, call);
+        let answer = held.enter(account, call, &mut cut);
         drop(held);
+        hand_over(rt, &mut cut);
         match answer {
             Ok(receipt) => {
                 account.catch_up(rt, receipt.place());
@@ -407,9 +415,12 @@ impl<O: Kind, S: Side<O>> Handle<O, S> {
             account,
             ..
         } = self;
+        let mut cut = None;
         let mut held = shared.room.held.lock(rt);
+        held.spare(most, &mut cut);
         let total = all_ready(&mut *held, account, call, most, receipts);
         drop(held);
+        hand_over(rt, &mut cut);
         see_all(rt, account, total);
     }
 

@@ -1,14 +1,16 @@
 //! What a channel's lock keeps.
-ghost use Rattle.std.specs.Prelude.{◌≡◌, ◌↔◌, ◌||◌, ◌+◌, ◌-◌, ◌^◌, ◌<◌, if◌then◌else◌, min, not, true, IfOk, IfErr, IfSome, IsNone, IsOk, IsSome, IsTrue, OnOk, OnErr, MatchResult};
+ghost use Rattle.std.specs.Prelude.{◌≡◌, ◌⊎◌, ◌↔◌, ◌||◌, ◌+◌, ◌-◌, ◌^◌, ◌<◌, if◌then◌else◌, min, not, true, false, IfOk, IfErr, IfSome, IsNone, IsOk, IsSome, IsTrue, OnOk, OnErr, MatchOption, MatchResult};
 ghost use Rattle.th_log.specs.History.{IsLegal, live_after, next_of};
-ghost use Rattle.th_log.specs.Outcome.{IsSame, added, ticked, with_share};
+ghost use Rattle.th_log.specs.Outcome.{IsFull, IsSame, added, ticked, with_share};
 ghost use Rattle.th_block.specs.Handles.{IsBack, unused};
-ghost use Rattle.th_block.specs.Locked.{Entered, Fits, IsDue, RefusesEvent, Spends};
+ghost use Rattle.th_block.specs.Locked.{Entered, Fits, GoesOn, HasNoPlace, IsDue, RefusesEvent, Spends};
 
 use crate::account::Account;
+use crate::cuts::{Cut, Cuts};
 use crate::posted::Posted;
 use std::marker::Model;
-use th_log::{Kind, Logged, Object, Receipt, Refused, Segment};
+use std::sync::Arc;
+use th_log::{Kind, Logged, MOST_ENTRIES, Object, Receipt, Refused, Segment};
 use th_model::Short;
 use th_seats::Share;
 
@@ -24,6 +26,15 @@ pub(crate) struct Held<O: Object> {
     // before he sleeps, and whoever wakes the sleepers begins to count anew: both under the lock, so that no sleeper is
     // left out.
     waiting: u64,
+    // When the log is cut by a call, and where the part goes. Where there is none, it is never.
+    rolling: Option<Rolling<O>>,
+}
+
+/// From so many entries on a call cuts the log, and the part goes into this queue.
+#[derive(Drop)]
+pub(crate) struct Rolling<O: Object> {
+    pub(crate) most: u64,
+    pub(crate) cuts: Arc<Cuts<O>>,
 }
 
 impl<O: Object> Model for Held<O> {
@@ -31,15 +42,71 @@ impl<O: Object> Model for Held<O> {
 
     ghost Value = { Guarded O.State O.Call O.Reply };
 
-    ghost view = { λ h. record { log = h.posted.log; waiting = h.waiting } };
+    ghost use Rattle.std.specs.Prelude.{is_some};
+
+    ghost view = { λ h. record {
+      log = h.posted.log;
+      waiting = h.waiting;
+      rolls = is_some h.rolling;
+    } };
 }
 
 impl<O: Kind> Held<O> {
-    /// A log for which nobody waits yet.
+    /// A log for which nobody waits yet, and which no call cuts.
     pub(crate) fn new(posted: Posted<O>) -> Held<O>
-        ensures { result ≡ record { log = posted.log; waiting = 0 } }
+        ensures { result ≡ record { log = posted.log; waiting = 0; rolls = false } }
     {
-        Held { posted, waiting: 0 }
+        Held {
+            posted,
+            waiting: 0,
+            rolling: None,
+        }
+    }
+
+    /// From now on the log is cut so.
+    pub(crate) fn roll(&mut self, rolling: Rolling<O>)
+        ensures { self.new ≡ record self.old { rolls = true } }
+    {
+        self.rolling = Some(rolling);
+    }
+
+    /// Cuts the log, where calls do so, if it is as long as it is to grow, or has no room for so many events more, after which so
+    /// many handles are live. So a part with no room for them is left only where a new one has none. Nothing has changed where
+    /// there was no memory. What was cut is lent a place by the caller: handed back by value it would be moved through memory
+    /// at each call, and hardly any call cuts.
+    #[inline(always)]
+    pub(crate) fn make_room(
+        &mut self,
+        count: u64,
+        live: u64,
+        cut: &mut Option<Cut<O>>,
+    ) -> Result<(), Short<()>>
+        requires { O.lawful }
+        ensures goes_on { GoesOn self.old.log self.new.log }
+        ensures cut { OnOk result ((self.new ≡ self.old) ⊎ (IfSome cut.new (λ cut.
+            cut.part ≡ self.old.log.piece) × (self.new.log.piece
+            ≡ next_of self.old.log.piece self.old.log.tally.total))) }
+        ensures room { OnOk result (self.old.rolls ≡ true → self.old.log.limit ≡ 1000000
+            → IsFull self.new.log count live → HasNoPlace self.old.log count live) }
+        ensures same { OnErr result (self.new ≡ self.old) }
+        ensures last { self.new.log.piece.last ≡ self.old.log.piece.last }
+        ensures waiting { self.new.waiting ≡ self.old.waiting }
+        ensures rolls { self.new.rolls ≡ self.old.rolls }
+    {
+        let Some(rolling) = &self.rolling else {
+            return Ok(());
+        };
+        let entries = self.posted.log().len();
+        let room = MOST_ENTRIES.saturating_sub(live).saturating_sub(count);
+        if entries < rolling.most && entries <= room {
+            return Ok(());
+        }
+        let Ok(cuts) = Arc::try_clone(&rolling.cuts) else {
+            return Err(Short { call: () });
+        };
+        let part = self.posted.cut()?;
+        *cut = Some(Cut { part, cuts });
+        Ok(())
     }
 
     /// The log, once nobody waits any more.
@@ -139,6 +206,53 @@ impl<O: Kind> Held<O> {
             return Err(Refused::Foreign(call));
         }
         self.posted.apply(&mut account.share, call)
+    }
+
+    /// Makes room as `make_room` does for so many events that make no handle, if there is memory.
+    #[inline(always)]
+    pub(crate) fn spare(&mut self, count: usize, cut: &mut Option<Cut<O>>)
+        requires { O.lawful }
+        ensures goes_on { GoesOn self.old.log self.new.log }
+        ensures last { self.new.log.piece.last ≡ self.old.log.piece.last }
+        ensures waiting { self.new.waiting ≡ self.old.waiting }
+    {
+        if self.rolling.is_some() {
+            let live = self.posted.log().object().live();
+            let _ = self.make_room(count as u64, live, cut);
+        }
+    }
+
+    /// One event of a handle as `event` makes it, on a log that was cut before where that is due. Where calls cut the log it is
+    /// never full but where a new part would be too.
+    #[inline(always)]
+    pub(crate) fn enter(
+        &mut self,
+        account: &mut Account,
+        call: O::Call,
+        cut: &mut Option<Cut<O>>,
+    ) -> Result<Receipt<O>, Refused<O::Call>>
+        requires lawful { O.lawful }
+        requires ready { O.machine.ready self.old.log.piece.last call ≡ true }
+        ensures told { MatchResult result (Entered account.old account.new call)
+            (IsBack account.old account.new call) }
+        ensures place { IfOk result (λ r. r.place ≡ self.old.log.tally.total) }
+        ensures step { IfOk result (λ r.
+            O.machine.answer self.old.log.piece.last call ≡ (r.reply, self.new.log.piece.last)) }
+        ensures sound { OnOk result (O.is_sound self.old.log.piece.last) }
+        ensures tally { OnOk result (self.new.log.tally ≡ ticked self.old.log.tally) }
+        ensures fits { OnOk result (Fits account.old self.old.log.tally) }
+        ensures full { IfErr result (λ e. e ≡ Refused.LogFull call → self.old.rolls ≡ true
+            → self.old.log.limit ≡ 1000000
+            → HasNoPlace self.old.log 1 (live_after O.machine self.old.log.piece.last call)) }
+        ensures waiting { self.new.waiting ≡ self.old.waiting }
+    {
+        if self.rolling.is_some() {
+            let live = self.posted.log().object().live_after(&call);
+            if self.make_room(1, live, cut).is_err() {
+                return Err(Refused::Short(call));
+            }
+        }
+        self.event(account, call)
     }
 
     /// The last event of a handle. It is refused only as `Foreign`: where the handle is of another channel, or its

@@ -82,6 +82,7 @@
 
 mod account;
 pub mod broadcast_handles;
+pub mod cuts;
 pub mod handle;
 mod held;
 mod posted;
@@ -96,6 +97,7 @@ pub mod together;
 pub mod watch_handles;
 
 pub use broadcast_handles::{BReceiver, BSender, Resub, RingBroadcast, broadcast, broadcast_at};
+pub use cuts::Cuts;
 pub use handle::Handle;
 pub use replaced::Replaced;
 pub use shared::Shared;

@@ -134,6 +134,7 @@ impl<O: Kind> Posted<O> {
         ensures next { OnOk result
             (self.new.log.piece ≡ next_of self.old.log.piece self.old.log.tally.total) }
         ensures tally { self.new.log.tally ≡ self.old.log.tally }
+        ensures limit { self.new.log.limit ≡ self.old.log.limit }
         ensures pen { self.new.pen ≡ self.old.pen }
         ensures told { IfOk result (λ s. TellsClosed O.machine s self.old.pen.list) }
         ensures err { OnErr result (self.new ≡ self.old) }

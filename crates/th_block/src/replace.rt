@@ -7,6 +7,7 @@ ghost use Rattle.th_block.specs.Locked.{Fits, IsSeated, Spends};
 ghost use Rattle.th_block.specs.Pairs.{IsReplaced, counted_twice};
 
 use crate::account::Account;
+use crate::cuts::{Cut, hand_over};
 use crate::handle::{Handle, seated_event, sit};
 use crate::held::Held;
 use crate::replaced::Replaced;
@@ -31,12 +32,13 @@ fn surely_last<O: Kind>(held: &mut Held<O>, account: &mut Account, last: O::Call
     };
 }
 
-// Both events of this receiver, on the locked log: `make`, and its last one where that made a handle.
+// Both events of this receiver, on the locked log, which may be cut before: `make`, and its last one where that made a handle.
 fn make_and_last<O: Kind>(
     held: &mut Held<O>,
     account: &mut Account,
     rx: RxId,
     make: O::Call,
+    cut: &mut Option<Cut<O>>,
 ) -> Result<(Receipt<O>, Option<Seat>), Refused<O::Call>>
     requires lawful { O.lawful }
     requires ready { O.machine.ready held.old.log.piece.last make ≡ true }
@@ -47,7 +49,7 @@ fn make_and_last<O: Kind>(
     ensures eye { account.new.eye ≡ account.old.eye }
     ensures back { IfErr result (λ e. IsBack account.old account.new make e) }
 {
-    match seated_event(held, account, make) {
+    match seated_event(held, account, make, cut) {
         Ok((receipt, seat)) => match seat {
             None => Ok((receipt, None)),
             Some(seat) => {
@@ -91,10 +93,12 @@ impl<O: Kind> Shared<O> {
             return Err((Handle::made(shared, number, account), Refused::Short(make)));
         };
         let room = &*self.room;
+        let mut cut = None;
         let locked = room.held.lock(rt);
         let mut held = room.news.wait_while(rt, locked, |held| held.waits(&make));
-        let answer = make_and_last(&mut *held, &mut account, RxId(number), make);
+        let answer = make_and_last(&mut *held, &mut account, RxId(number), make, &mut cut);
         drop(held);
+        hand_over(rt, &mut cut);
         match answer {
             Ok((receipt, seat)) => match seat {
                 Some(seat) => {

@@ -2,7 +2,8 @@
 ghost use Rattle.std.specs.Prelude.{◌≡◌, IfOk, IfSome};
 ghost use Rattle.th_log.specs.History.{IsLegal};
 
-use crate::held::Held;
+use crate::cuts::{Cuts, hand_over};
+use crate::held::{Held, Rolling};
 use crate::posted::Posted;
 use std::alloc::{AllocError, Global};
 use std::sync::{Arc, Condvar, Mutex, Wait};
@@ -73,6 +74,31 @@ impl<O: Kind> Shared<O> {
     {
         let mut held = self.room.held.lock(rt);
         held.cut_of(key)
+    }
+
+    /// From now on the channel cuts its log by itself: the call that finds so many entries in it, or no room for its own, cuts it
+    /// before its event, under the same lock, and puts the part into this queue once the lock is free. Its log is to have the
+    /// largest limit, 1,000,000 entries: then a call is refused as `LogFull` only where the channel has had nearly 2^63 events.
+    /// A log that is as long already is cut now. Where memory is refused for a cut, a call that needs one is `Short`.
+    ///
+    /// A cut costs as [`Shared::cut`] does. Calls that are made together are cut before the first of them alone.
+    ///
+    /// # Errors
+    ///
+    /// The queue has 2^63 owners.
+    pub fn roll_at<R: Wait>(&self, rt: &R, most: u64, cuts: &Arc<Cuts<O>>) -> Result<(), Short<()>>
+        requires { O.lawful }
+    {
+        let Ok(cuts) = Arc::try_clone(cuts) else {
+            return Err(Short { call: () });
+        };
+        let mut cut = None;
+        let mut held = self.room.held.lock(rt);
+        held.roll(Rolling { most, cuts });
+        held.spare(0, &mut cut);
+        drop(held);
+        hand_over(rt, &mut cut);
+        Ok(())
     }
 
     /// Wakes who waits, after calls that left it to their caller. It takes the lock for a moment.

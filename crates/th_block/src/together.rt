@@ -3,6 +3,7 @@ ghost use Rattle.std.specs.Prelude.{◌≡◌, ◌<◌, All, OnOk, Some};
 ghost use Rattle.th_block.specs.Rows.{EachBehind, IsAnswerTo};
 ghost use Rattle.th_block.specs.Together.{MakesEach, StopsAt, TakesMany};
 
+use crate::cuts::hand_over;
 use crate::handle::Handle;
 use crate::queued::{Calls, Queued};
 use crate::ready::{each_ready, many_ready, see_all};
@@ -32,13 +33,16 @@ impl<O: Kind, S> Handle<O, S> {
             ..
         } = self;
         let room = &*shared.room;
+        let mut cut = None;
         let mut held = room.held.lock(rt);
         let log = &mut *held;
+        log.spare(queue.len(), &mut cut);
         let (awaited, end) = each_ready::<O, Q>(log, account, *number, queue, receipts);
         let total = log.total();
         let wakes = awaited && log.wakes();
         drop(held);
         room.wake(wakes);
+        hand_over(rt, &mut cut);
         see_all(rt, account, total);
         end
     }
@@ -65,6 +69,7 @@ impl<O: Kind, S> Handle<O, S> {
             ..
         } = self;
         let room = &*shared.room;
+        let mut cut = None;
         let locked = room.held.lock(rt);
         let mut held = if locked.is_ready(&call) {
             locked
@@ -72,9 +77,11 @@ impl<O: Kind, S> Handle<O, S> {
             room.news.wait_while(rt, locked, |held| held.waits(&call))
         };
         let log = &mut *held;
+        log.spare(limit, &mut cut);
         let answer = many_ready(log, account, call, limit, receipts);
         let total = log.total();
         drop(held);
+        hand_over(rt, &mut cut);
         let count = answer?;
         see_all(rt, account, total);
         Ok(count)

@@ -105,7 +105,7 @@ low-joined n c i ps rx free above =
 
 -- ---- the window
 -- whether a position that was sent is kept
-one-if-gone : (w : Window ℕ) → IsWindow w → (i : ℕ) → i < w.tail → gone_at w i ≡ cond (nat_lt i w.low) 1 0
+one-if-gone : {T : Type 0} (w : Window T) → IsWindow w → (i : ℕ) → i < w.tail → gone_at w i ≡ cond (nat_lt i w.low) 1 0
 one-if-gone w s i before = elim (nat_lt i w.low) as
     (λ b. nat_lt i w.low ≡ b → one_if_none (cond b None (slice_get w.kept (i - w.low))) ≡ cond b 1 0) [
       | true ↦ λ e. refl
@@ -115,13 +115,13 @@ one-if-gone w s i before = elim (nat_lt i w.low) as
 
 -- ---- the calls
 -- how many values are let go of, where this is the answer
-abbrev let_go_of : Picture ℕ → BReply ℕ × Picture ℕ → ℕ
+abbrev let_go_of : {T : Type 0} → Picture T → BReply T × Picture T → ℕ
 let_go_of p a = length p.window.kept + sent_by a.0 - length a.1.window.kept
 
-abbrev Finds : Picture ℕ → Note → BReply ℕ × Picture ℕ → Type 0
+abbrev Finds : {T : Type 0} → Picture T → Note → BReply T × Picture T → Type 0
 Finds p note a = gone note a.0 a.1 ≡ let_go_of p a
 
-module _ (p : Picture ℕ) (s : IsSound p) where
+module _ {T : Type 0} (p : Picture T) (s : IsSound p) where
   abbrev count : ℕ
   count = length p.window.kept
 
@@ -129,7 +129,7 @@ module _ (p : Picture ℕ) (s : IsSound p) where
   full = count == p.window.capacity
 
   -- ---- a send
-  sent : (v m : ℕ) → (length p.window.places ≡ 0 → ⊥) → p.window.tail < 2 ^ 64 - 1 → (f : Bool) → full ≡ f
+  sent : (v : T) (m : ℕ) → (length p.window.places ≡ 0 → ⊥) → p.window.tail < 2 ^ 64 - 1 → (f : Bool) → full ≡ f
       → Finds p (Full f) (Sent m, with_window p (pushed p.window v))
   unfolding pushed trimmed
   sent v m some room true e =
@@ -143,9 +143,9 @@ module _ (p : Picture ℕ) (s : IsSound p) where
       s.window.low s.window.kept false e in
       omega (arith, q.window.kept, moved, s.window.kept)
 
-  sending : (v : ℕ) → Finds p (Full full) (send p v)
+  sending : (v : T) → Finds p (Full full) (send p v)
   sending v =
-      let go : BReply ℕ × Picture ℕ = (Sent (length p.window.places), with_window p (pushed p.window v)) in
+      let go : BReply T × Picture T = (Sent (length p.window.places), with_window p (pushed p.window v)) in
       let last : Bool = p.window.tail == 2 ^ 64 - 1 in
       elim (length p.window.places == 0) as (λ b. (length p.window.places == 0) ≡ b
       → Finds p (Full full) (cond b (NoReceivers v, p) (cond last (Exhausted v, p) go))) [
@@ -198,9 +198,9 @@ module _ (p : Picture ℕ) (s : IsSound p) where
     receiving =
         let behind : Bool = nat_lt i (first_of p.window) in
         let le : i ≤ p.window.tail = all-at (λ q. q ≤ p.window.tail) p.window.places rx i s.window.places here in
-        let lag : BReply ℕ × Picture ℕ =
+        let lag : BReply T × Picture T =
         (Lagged (first_of p.window - i), with_window p (placed p.window rx (first_of p.window))) in
-        let get : BReply ℕ × Picture ℕ =
+        let get : BReply T × Picture T =
         (value_reply (slice_get p.window.kept (i - p.window.low)), with_window p (placed p.window rx (i + 1))) in
         elim (i == p.window.tail) as (λ b. (i == p.window.tail) ≡ b
         → Finds p (Place (Some i)) (cond b (end_reply p.senders, p) (cond behind lag get))) [
@@ -217,14 +217,14 @@ module _ (p : Picture ℕ) (s : IsSound p) where
   receiving-at rx (Some i) here = receiving rx i here
 
   -- ---- the others
-  by-sender : (tx : TxId) (back : Option ℕ) (note : Note) (given : BReply ℕ × Picture ℕ) → gone note (NoHandle back) p ≡ 0
+  by-sender : (tx : TxId) (back : Option T) (note : Note) (given : BReply T × Picture T) → gone note (NoHandle back) p ≡ 0
       → Finds p note given → Finds p note (as_sender p tx back given)
   by-sender tx back note given none found = elim (is_sender p.senders tx.0) as (λ b. Finds p note (cond b given (NoHandle back, p))) [
     | true ↦ found
     | false ↦ omega (arith, none)
   ]
 
-  by-receiver : (o : Option ℕ) (note : Note) (given : ℕ → BReply ℕ × Picture ℕ) → gone note (NoHandle None) p ≡ 0
+  by-receiver : (o : Option ℕ) (note : Note) (given : ℕ → BReply T × Picture T) → gone note (NoHandle None) p ≡ 0
       → ((i : ℕ) → Finds p note (given i)) → Finds p note (at_place p o given)
   by-receiver None note given none found = omega (arith, none)
   by-receiver (Some i) note given none found = found i
@@ -255,7 +255,7 @@ module _ (p : Picture ℕ) (s : IsSound p) where
         | false ↦ omega arith
       ]
 
-  found : (call : BCall ℕ) → Finds p (noted p call) (answer p call)
+  found : (call : BCall T) → Finds p (noted p call) (answer p call)
   found (Send tx v) = by-sender tx (Some v) (Full full) (send p v) refl (sending v)
   found (TryRecv rx) = receiving-at rx.0 (place_of p.window.places rx.0) refl
   found (Recv rx) = receiving-at rx.0 (place_of p.window.places rx.0) refl
@@ -277,15 +277,15 @@ module _ (p : Picture ℕ) (s : IsSound p) where
   found (Readers tx) = by-sender tx None Nothing (Count (length p.window.places), p) refl (omega arith)
 
 -- what a call lets go of, by its note
-pub let-go-found : (before after : Picture ℕ) (call : BCall ℕ) (reply : BReply ℕ) (note : Note) → IsSound before
+pub let-go-found : {T : Type 0} (before after : Picture T) (call : BCall T) (reply : BReply T) (note : Note) → IsSound before
     → note ≡ noted before call → answer before call ≡ (reply, after)
     → gone note reply after ≡ length before.window.kept + sent_by reply - length after.window.kept
-let-go-found before after call reply note s is_note answered =
-    subst (λ (a : BReply ℕ × Picture ℕ). Finds before note a) answered
+let-go-found {T} before after call reply note s is_note answered =
+    subst (λ (a : BReply T × Picture T). Finds before note a) answered
     (subst (λ (n : Note). Finds before n (answer before call)) (sym is_note) (found before s call))
 
 -- the first of the window is kept exactly where the window is full
-pub full-if-first : (w : Window ℕ) → IsWindow w → w.capacity ≤ w.tail → (lost : ℕ) → lost ≡ gone_at w (first_of w)
+pub full-if-first : {T : Type 0} (w : Window T) → IsWindow w → w.capacity ≤ w.tail → (lost : ℕ) → lost ≡ gone_at w (first_of w)
     → (lost == 0) ≡ (length w.kept == w.capacity)
 unfolding low_of
 full-if-first w s room lost is_lost =

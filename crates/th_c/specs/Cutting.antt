@@ -3,13 +3,14 @@ use Rattle.std.specs.Prelude.{◌≡◌, ℕ, ◌++◌, List, drop, length, map,
 use Rattle.th_traces.specs.Traces.{broadcast_trace, watch_trace}
 use Rattle.th_registry.specs.History.{cut, segment}
 use Rattle.th_c.specs.declared.content.Content.{Content}
-use Rattle.th_c.specs.declared.content.Content.TheVariants.{Broadcast, BroadcastHistory, RecordedBroadcast, RecordedWatch, Read, Watch, WatchHistory}
+use Rattle.th_c.specs.declared.content.Content.TheVariants.{Broadcast, BroadcastHistory, BroadcastOfBytes, RecordedBroadcast, RecordedWatch, Read, Watch, WatchHistory}
 use Rattle.th_c.specs.declared.outcome.Refusal.{Refusal}
 use Rattle.th_c.specs.declared.outcome.Refusal.TheVariants.{NoMemory, NotOpen, NotRecorded}
 use Rattle.th_c.specs.declared.status.TheConstants.{DONE, IS_OPEN, NOT_OPEN}
 use Rattle.th_c.specs.Making.{made, status_of}
 use Rattle.th_c.specs.Outcomes.{code_of}
-use Rattle.th_c.specs.SpelledNumbers.{broadcast_entry, broadcast_picture, watch_entry, watch_picture}
+use Rattle.std.specs.Fmt.{decimal}
+use Rattle.th_c.specs.SpelledValues.{broadcast_entry, broadcast_picture, watch_entry, watch_picture}
 
 -- What comes of a cut of a broadcast channel: its present segment, and the channel goes on with the
 -- next one; or there was no memory, there is no history, or it is no broadcast channel, and nothing
@@ -20,6 +21,8 @@ CutsBroadcast (RecordedBroadcast h) (Ok taken) after =
 CutsBroadcast (RecordedBroadcast h) (Err NoMemory) after = after ≡ RecordedBroadcast h
 CutsBroadcast (RecordedBroadcast h) (Err why) after = ⊥
 CutsBroadcast (Broadcast p) told after = (told ≡ Err NotRecorded) × (after ≡ Broadcast p)
+CutsBroadcast (BroadcastOfBytes p) told after =
+    (told ≡ Err NotRecorded) × (after ≡ BroadcastOfBytes p)
 CutsBroadcast other told after = (told ≡ Err NotOpen) × (after ≡ other)
 
 -- and of a watch channel
@@ -50,8 +53,10 @@ Cuts does (Some content) None status channel' trace' =
 -- what is still to come of a trace, if it is one
 abbrev pub to_come : Content → Option (List ℕ)
 to_come (BroadcastHistory s) =
-    Some (broadcast_trace (broadcast_picture s.start) (map broadcast_entry s.entries))
-to_come (WatchHistory s) = Some (watch_trace (watch_picture s.start) (map watch_entry s.entries))
+    let entries = map (broadcast_entry decimal) s.entries in
+    Some (broadcast_trace (broadcast_picture decimal s.start) entries)
+to_come (WatchHistory s) =
+    Some (watch_trace (watch_picture decimal s.start) (map (watch_entry decimal) s.entries))
 to_come (Read text) = Some text
 to_come other = None
 

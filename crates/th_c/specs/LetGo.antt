@@ -13,7 +13,7 @@ use Rattle.th_c.specs.declared.let_go.Note.TheVariants.{Nothing, Full, Place, Ke
 
 -- the note of a call: of a send whether the window is full, of a receive the receiver's place, and
 -- of a receiver's last call how many values are kept
-abbrev pub noted : Picture ℕ → BCall ℕ → Note
+abbrev pub noted : {T : Type 0} → Picture T → BCall T → Note
 noted before (Send tx value) = Full (length before.window.kept == before.window.capacity)
 noted before (TryRecv rx) = Place (place_of before.window.places rx.0)
 noted before (Recv rx) = Place (place_of before.window.places rx.0)
@@ -21,16 +21,16 @@ noted before (DropRx rx) = Kept (length before.window.kept)
 noted before call = Nothing
 
 -- one where nothing is kept at the position
-abbrev pub one_if_none : Option ℕ → ℕ
+abbrev pub one_if_none : {T : Type 0} → Option T → ℕ
 one_if_none (Some value) = 0
 one_if_none None = 1
 
-abbrev pub gone_at : Window ℕ → ℕ → ℕ
+abbrev pub gone_at : {T : Type 0} → Window T → ℕ → ℕ
 gone_at after position = one_if_none (value_at after position)
 
 -- A value that is sent into a full window takes the oldest one's place; one that is read is gone
 -- where it is kept no longer.
-abbrev pub gone : Note → BReply ℕ → Picture ℕ → ℕ
+abbrev pub gone : {T : Type 0} → Note → BReply T → Picture T → ℕ
 gone (Full full) (Sent n) after = if full then 1 else 0
 gone (Place (Some place)) (Value value) after = gone_at after.window place
 gone (Kept count) reply after = count - length after.window.kept

@@ -4,7 +4,8 @@ pub mod Outcomes
 pub mod Making
 pub mod LetGo
 pub mod Broadcast
+pub mod Bytes
 pub mod Watch
 pub mod Checking
-pub mod SpelledNumbers
+pub mod SpelledValues
 pub mod Cutting

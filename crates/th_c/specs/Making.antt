@@ -6,7 +6,7 @@ use Rattle.th_model.specs.BroadcastPicture as broadcast_picture
 use Rattle.th_model.specs.WatchMachine as watch
 use Rattle.th_model.specs.WatchPicture as watch_picture
 use Rattle.th_c.specs.declared.content.Content.{Content}
-use Rattle.th_c.specs.declared.content.Content.TheVariants.{Broadcast, RecordedBroadcast, RecordedWatch, Watch}
+use Rattle.th_c.specs.declared.content.Content.TheVariants.{Broadcast, BroadcastOfBytes, RecordedBroadcast, RecordedWatch, Watch}
 use Rattle.th_c.specs.declared.outcome.Refusal.{Refusal}
 use Rattle.th_c.specs.declared.outcome.Refusal.TheVariants.{NoMemory, BadCapacity, BadLimit, BadVersion}
 use Rattle.th_c.specs.declared.status.TheConstants.{DONE, IS_OPEN}
@@ -22,6 +22,16 @@ OpensBroadcast capacity base (Ok content) =
 OpensBroadcast capacity base (Err BadCapacity) = capacity_of capacity ≡ None
 OpensBroadcast capacity base (Err NoMemory) = IsSome (capacity_of capacity)
 OpensBroadcast capacity base (Err why) = ⊥
+
+-- one of bytes
+abbrev pub OpensBroadcastOfBytes : (capacity base : ℕ) → Result Content Refusal → Type 0
+OpensBroadcastOfBytes capacity base (Ok content) =
+    (in_force : ℕ)
+    × (capacity_of capacity ≡ Some in_force)
+    × (content ≡ BroadcastOfBytes (broadcast_picture.see (broadcast.opened in_force base)))
+OpensBroadcastOfBytes capacity base (Err BadCapacity) = capacity_of capacity ≡ None
+OpensBroadcastOfBytes capacity base (Err NoMemory) = IsSome (capacity_of capacity)
+OpensBroadcastOfBytes capacity base (Err why) = ⊥
 
 -- as many entries as a history may have
 abbrev pub IsLimit : ℕ → Type 0

@@ -4,9 +4,9 @@ use Rattle.th_log.specs.History.{Machine, live_after}
 use Rattle.th_registry.specs.History.{History, is_full, recorded}
 use Rattle.th_c.specs.declared.content.Content.{Content}
 use Rattle.th_c.specs.declared.outcome.Refusal.{Refusal}
-use Rattle.th_c.specs.declared.outcome.Refusal.TheVariants.{NotOpen, WouldWait, LogFull, NoMemory, BadCapacity, BadVersion, BadLimit, NotRecorded}
+use Rattle.th_c.specs.declared.outcome.Refusal.TheVariants.{NotOpen, WouldWait, LogFull, NoMemory, BadCapacity, BadVersion, BadLimit, NotRecorded, OtherValues, BadValue, SmallBuffer}
 use Rattle.th_c.specs.declared.reply.Reply.{Reply}
-use Rattle.th_c.specs.declared.status.TheConstants.{NOT_OPEN, WOULD_WAIT, LOG_FULL, NO_MEMORY, BAD_CAPACITY, BAD_VERSION, BAD_LIMIT, NOT_RECORDED}
+use Rattle.th_c.specs.declared.status.TheConstants.{NOT_OPEN, WOULD_WAIT, LOG_FULL, NO_MEMORY, BAD_CAPACITY, BAD_VERSION, BAD_LIMIT, NOT_RECORDED, OTHER_VALUES, BAD_VALUE, SMALL_BUFFER}
 
 -- the status that tells of a refusal
 abbrev pub code_of : Refusal → ℕ
@@ -18,6 +18,9 @@ code_of BadCapacity = BAD_CAPACITY
 code_of BadVersion = BAD_VERSION
 code_of BadLimit = BAD_LIMIT
 code_of NotRecorded = NOT_RECORDED
+code_of OtherValues = OTHER_VALUES
+code_of BadValue = BAD_VALUE
+code_of SmallBuffer = SMALL_BUFFER
 
 -- what came of a call, as C sees it
 abbrev pub reply_of : Result Reply Refusal → Reply

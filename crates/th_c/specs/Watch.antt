@@ -1,5 +1,5 @@
--- Calls of a watch channel of a number, as C makes them.
-use Rattle.std.specs.Prelude.{◌≡◌, ℕ, nat_eq, ◌==◌, if◌then◌else◌, Option, Some, Result, Err}
+-- Calls of a watch channel, as C makes them.
+use Rattle.std.specs.Prelude.{◌≡◌, ℕ, Bool, nat_eq, ◌==◌, if◌then◌else◌, Option, Some, Result, Err}
 use Rattle.th_model.specs.declared.watch.Edit.TheVariants.{Set, Differ, Quiet}
 use Rattle.th_model.specs.declared.watch.WCall.{WCall}
 use Rattle.th_model.specs.declared.watch.WCall.TheVariants.{Send, Replace, EditBy}
@@ -18,7 +18,7 @@ use Rattle.th_registry.specs.History.{History}
 use Rattle.th_c.specs.Outcomes.{Answers, Records, Through}
 
 -- the status of a reply (lib/c/topichub.h)
-abbrev pub status_of : WReply ℕ → ℕ
+abbrev pub status_of : {T : Type 0} → WReply T → ℕ
 status_of Done = DONE
 status_of (NoReceivers value) = NO_RECEIVERS
 status_of (Exhausted value) = EXHAUSTED
@@ -36,20 +36,20 @@ status_of (Count n) = COUNT
 status_of TooMany = TOO_MANY
 status_of (NoHandle back) = NO_HANDLE
 
--- the number that the status speaks of
-abbrev pub number_of : WReply ℕ → ℕ
-number_of (NoReceivers value) = value
-number_of (Exhausted value) = value
-number_of (Was value) = value
-number_of (Shown value unseen) = value
-number_of (NewRx rx) = rx.0
-number_of (NewTx tx) = tx.0
-number_of (Count n) = n
-number_of (NoHandle (Some value)) = value
-number_of reply = 0
+-- the number that the status speaks of; of a value, the one that tells of it
+abbrev pub number_of : {T : Type 0} → (T → ℕ) → WReply T → ℕ
+number_of number (NoReceivers value) = number value
+number_of number (Exhausted value) = number value
+number_of number (Was value) = number value
+number_of number (Shown value unseen) = number value
+number_of number (NewRx rx) = rx.0
+number_of number (NewTx tx) = tx.0
+number_of number (Count n) = n
+number_of number (NoHandle (Some value)) = number value
+number_of number reply = 0
 
 -- the status with which a call puts its value in the place of the newest one, which is let go
-abbrev pub puts_at : WCall ℕ → ℕ
+abbrev pub puts_at : {T : Type 0} → WCall T → ℕ
 puts_at (Send tx value) = DONE
 puts_at (Replace tx value) = WAS
 puts_at (EditBy tx (Set value)) = YES
@@ -58,14 +58,14 @@ puts_at (EditBy tx (Quiet value)) = NO
 puts_at call = NEVER
 
 -- what C is told of a call
-abbrev pub tells : Picture ℕ → WCall ℕ → Reply
-tells before call =
-    let reply = (answer nat_eq before call).0 in
+abbrev pub tells : {T : Type 0} → (T → T → Bool) → (T → ℕ) → Picture T → WCall T → Reply
+tells eq number before call =
+    let reply = (answer eq before call).0 in
     let status = status_of reply in
     record {
       status = status;
       let_go = if status == puts_at call then 1 else 0;
-      number = number_of reply;
+      number = number_of number reply;
     }
 
 -- what comes of a call to what is behind a handle: an answer, where it is a watch channel
@@ -73,11 +73,11 @@ abbrev pub Answered : Content → WCall ℕ → Result Reply Refusal → Content
 Answered (content.Watch before) call told next =
     (after : Picture ℕ)
     × (next ≡ content.Watch after)
-    × Answers (watch nat_eq) tells TakesNone before call told after
+    × Answers (watch nat_eq) (tells nat_eq (λ n. n)) TakesNone before call told after
 Answered (content.RecordedWatch before) call told next =
     (after : History (Picture ℕ) (Picture ℕ) (WCall ℕ) (WReply ℕ))
     × (next ≡ content.RecordedWatch after)
-    × Records (watch nat_eq) tells before call told after
+    × Records (watch nat_eq) (tells nat_eq (λ n. n)) before call told after
 Answered other call told next = (told ≡ Err NotOpen) × (next ≡ other)
 
 -- and through the handle

@@ -1,28 +1,29 @@
 //! A broadcast channel's replies, as C sees them, and its calls through a handle.
 ghost use Rattle.std.specs.Prelude.{◌≡◌};
-ghost use Rattle.th_c.specs.Broadcast.{Answered, Called, number_of, status_of};
+ghost use Rattle.th_c.specs.Broadcast.{Answered, AnswersSame, Called, number_of, status_of, without_value};
 
-use crate::content::{Content, NumberBroadcast};
+use crate::content::{BytesBroadcast, Content, RingBroadcast};
 use crate::handle::Handle;
 use crate::let_go::{Note, let_go, noted};
 use crate::outcome::{Refusal, Told, reply};
+use crate::payload::Payload;
 use crate::raw::{put, take};
 use crate::reply::Reply;
 use crate::status;
 use crate::tells::{Tells, answered, recorded};
 use std::alloc::Global;
-use th_model::{BCall, BReply};
+use th_model::{BCall, BReply, Value};
 
 // The status of a reply, and the number that it speaks of.
 #[inline(always)]
-fn status_and_number(reply: &BReply<u64>) -> (u32, u64)
-    ensures { result ≡ (status_of reply.now, number_of reply.now) }
+fn status_and_number<T: Payload>(reply: &BReply<T>) -> (u32, u64)
+    ensures { result ≡ (status_of reply.now, number_of T.number reply.now) }
 {
     match reply {
         BReply::Sent(n) => (status::SENT, *n),
-        BReply::NoReceivers(value) => (status::NO_RECEIVERS, *value),
-        BReply::Exhausted(value) => (status::EXHAUSTED, *value),
-        BReply::Value(value) => (status::VALUE, *value),
+        BReply::NoReceivers(value) => (status::NO_RECEIVERS, value.number()),
+        BReply::Exhausted(value) => (status::EXHAUSTED, value.number()),
+        BReply::Value(value) => (status::VALUE, value.number()),
         BReply::Empty => (status::EMPTY, 0),
         BReply::Closed => (status::CLOSED, 0),
         BReply::Lagged(n) => (status::LAGGED, *n),
@@ -31,34 +32,62 @@ fn status_and_number(reply: &BReply<u64>) -> (u32, u64)
         BReply::Count(n) => (status::COUNT, *n),
         BReply::Done => (status::DONE, 0),
         BReply::TooMany => (status::TOO_MANY, 0),
-        BReply::NoHandle(Some(value)) => (status::NO_HANDLE, *value),
+        BReply::NoHandle(Some(value)) => (status::NO_HANDLE, value.number()),
         BReply::NoHandle(None) => (status::NO_HANDLE, 0),
     }
 }
 
-impl Tells for NumberBroadcast {
+impl<T: Payload> Tells for RingBroadcast<T> {
     ghost use Rattle.th_c.specs.Broadcast.{tells};
     ghost use Rattle.th_c.specs.LetGo.{noted};
 
     type Note = Note;
 
-    ghost tells = { tells };
+    ghost tells = { tells T.number };
 
     ghost noted = { noted };
 
     #[inline(always)]
-    fn note(&self, call: &BCall<u64>) -> Note {
+    fn note(&self, call: &BCall<T>) -> Note {
         noted(self, call)
     }
 
     #[inline(always)]
-    fn told(&self, note: Note, reply: &BReply<u64>) -> Reply {
+    fn told(&self, note: Note, reply: &BReply<T>) -> Reply {
         let (status, number) = status_and_number(reply);
         Reply {
             status,
             let_go: let_go(self, note, reply),
             number,
         }
+    }
+}
+
+// The same call of a channel of bytes, where no value goes in or comes out.
+fn without_value(call: BCall<u64>) -> Option<BCall<Value>>
+    ensures { result ≡ without_value call }
+{
+    match call {
+        BCall::Subscribe(tx) => Some(BCall::Subscribe(tx)),
+        BCall::SubscribeOldest(tx) => Some(BCall::SubscribeOldest(tx)),
+        BCall::Resubscribe(rx) => Some(BCall::Resubscribe(rx)),
+        BCall::CloneTx(tx) => Some(BCall::CloneTx(tx)),
+        BCall::DropTx(tx) => Some(BCall::DropTx(tx)),
+        BCall::DropRx(rx) => Some(BCall::DropRx(rx)),
+        BCall::Queued(tx) => Some(BCall::Queued(tx)),
+        BCall::Left(rx) => Some(BCall::Left(rx)),
+        BCall::Readers(tx) => Some(BCall::Readers(tx)),
+        _ => None,
+    }
+}
+
+// Makes a call of a channel of bytes, where no value goes in or comes out.
+fn answered_same(channel: &mut BytesBroadcast, call: BCall<u64>) -> Told
+    ensures { AnswersSame (without_value call) channel.old result channel.new }
+{
+    match without_value(call) {
+        Some(call) => answered(channel, call),
+        None => Err(Refusal::OtherValues),
     }
 }
 
@@ -70,6 +99,7 @@ fn called(content: &mut Content, call: BCall<u64>) -> Told
     match content {
         Content::Broadcast(channel) => answered(channel, call),
         Content::RecordedBroadcast(channel) => recorded(channel, call),
+        Content::BroadcastOfBytes(channel) => answered_same(channel, call),
         _ => Err(Refusal::NotOpen),
     }
 }

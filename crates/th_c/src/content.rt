@@ -2,12 +2,19 @@
 use crate::text::Text;
 use th_bcast::Broadcast;
 use th_log::Segment;
+use th_model::Value;
 use th_registry::recorded::Recorded;
 use th_ring::RingShelf;
 use th_watch::Watch;
 
-/// A broadcast channel of numbers.
-pub(crate) type NumberBroadcast = Broadcast<u64, RingShelf<u64>>;
+/// A broadcast channel.
+pub(crate) type RingBroadcast<T> = Broadcast<T, RingShelf<T>>;
+
+/// One of numbers.
+pub(crate) type NumberBroadcast = RingBroadcast<u64>;
+
+/// One of bytes.
+pub(crate) type BytesBroadcast = RingBroadcast<Value>;
 
 /// A watch channel of a number.
 pub(crate) type NumberWatch = Watch<u64>;
@@ -19,6 +26,8 @@ pub enum Content {
     Broadcast(NumberBroadcast),
     /// One that keeps its history.
     RecordedBroadcast(Recorded<NumberBroadcast>),
+    /// A broadcast channel of bytes that keeps no history.
+    BroadcastOfBytes(BytesBroadcast),
     /// A watch channel that keeps no history.
     Watch(NumberWatch),
     /// One that keeps its history.

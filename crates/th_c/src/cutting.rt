@@ -37,6 +37,7 @@ fn cut_broadcast(alloc: Global, content: &mut Content) -> Result<Box<Content>, R
             Ok(taken)
         }
         Content::Broadcast(_) => Err(Refusal::NotRecorded),
+        Content::BroadcastOfBytes(_) => Err(Refusal::NotRecorded),
         _ => Err(Refusal::NotOpen),
     }
 }

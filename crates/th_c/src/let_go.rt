@@ -5,7 +5,8 @@
 ghost use Rattle.std.specs.Prelude.{◌≡◌, ◌==◌, length};
 ghost use Rattle.th_c.specs.LetGo.{gone, gone_at, noted};
 
-use crate::content::NumberBroadcast;
+use crate::content::RingBroadcast;
+use crate::payload::Payload;
 use th_model::{BCall, BReply};
 
 /// What has to be known of a broadcast channel before a call, to say afterwards how many values it
@@ -23,7 +24,7 @@ pub enum Note {
 }
 
 // How many values the channel keeps.
-fn kept(channel: &NumberBroadcast) -> u32
+fn kept<T: Payload>(channel: &RingBroadcast<T>) -> u32
     ensures { result ≡ length channel.now.window.kept }
 {
     let _sound = channel.next_number();
@@ -32,7 +33,7 @@ fn kept(channel: &NumberBroadcast) -> u32
 
 // One where no value is kept at a position.
 #[inline(always)]
-fn gone_at(channel: &NumberBroadcast, position: u64) -> u32
+fn gone_at<T: Payload>(channel: &RingBroadcast<T>, position: u64) -> u32
     ensures { result ≡ gone_at channel.now.window position }
 {
     match channel.value(position) {
@@ -43,7 +44,7 @@ fn gone_at(channel: &NumberBroadcast, position: u64) -> u32
 
 // Whether as many values are kept as can be. Then the first of the window is.
 #[inline(always)]
-fn is_full(channel: &NumberBroadcast) -> bool
+fn is_full<T: Payload>(channel: &RingBroadcast<T>) -> bool
     ensures { result ≡ (length channel.now.window.kept == channel.now.window.capacity) }
 {
     let _sound = channel.next_number();
@@ -57,7 +58,7 @@ fn is_full(channel: &NumberBroadcast) -> bool
 
 /// What has to be known before a call.
 #[inline(always)]
-pub(crate) fn noted(channel: &NumberBroadcast, call: &BCall<u64>) -> Note
+pub(crate) fn noted<T: Payload>(channel: &RingBroadcast<T>, call: &BCall<T>) -> Note
     ensures { result ≡ noted channel.now call.now }
 {
     match call {
@@ -72,7 +73,7 @@ pub(crate) fn noted(channel: &NumberBroadcast, call: &BCall<u64>) -> Note
 /// How many values were let go of by a call with this note, which was answered so, in a channel as
 /// it is after it.
 #[inline(always)]
-pub(crate) fn let_go(channel: &NumberBroadcast, note: Note, reply: &BReply<u64>) -> u32
+pub(crate) fn let_go<T: Payload>(channel: &RingBroadcast<T>, note: Note, reply: &BReply<T>) -> u32
     ensures { result ≡ gone note reply.now channel.now }
 {
     match (note, reply) {

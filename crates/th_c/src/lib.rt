@@ -8,19 +8,21 @@
 
 mod broadcast;
 pub mod broadcast_calls;
+pub mod bytes;
 pub mod checking;
 mod content;
 pub mod cutting;
 mod handle;
 mod let_go;
 mod making;
-mod numbers;
 mod outcome;
 mod parts;
+pub mod payload;
 mod pictures;
 mod printing;
 mod raw;
 mod reply;
+mod spelling;
 mod status;
 mod tells;
 mod text;

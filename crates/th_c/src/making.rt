@@ -1,11 +1,11 @@
 //! What a handle stands for, made and let go.
 ghost use Rattle.std.specs.Prelude.{◌≡◌, ◌↔◌, IsTrue, is_some, MatchResult, Ok, Err, Some, None};
-ghost use Rattle.th_c.specs.Making.{IsLimit, OpensBroadcast, OpensRecordedBroadcast, OpensRecordedWatch, OpensWatch};
+ghost use Rattle.th_c.specs.Making.{IsLimit, OpensBroadcast, OpensBroadcastOfBytes, OpensRecordedBroadcast, OpensRecordedWatch, OpensWatch};
 ghost use Rattle.th_c.specs.Outcomes.{code_of};
 ghost use Rattle.th_c.specs.declared.outcome.Refusal.TheVariants.{NoMemory};
 ghost use Rattle.th_c.specs.declared.status.TheConstants.{DONE};
 
-use crate::content::{Content, NumberBroadcast, NumberWatch};
+use crate::content::{BytesBroadcast, Content, NumberBroadcast, NumberWatch};
 use crate::handle::Handle;
 use crate::outcome::{Refusal, code};
 use crate::raw::{put, take};
@@ -36,6 +36,25 @@ pub(crate) fn broadcast(alloc: Global, capacity: u64, base: u64) -> Result<Box<C
     };
     match NumberBroadcast::starting_at(alloc, in_force, base) {
         Ok(channel) => boxed(alloc, Content::Broadcast(channel)),
+        Err(_) => Err(Refusal::NoMemory),
+    }
+}
+
+/// One of bytes.
+pub(crate) fn broadcast_of_bytes(
+    alloc: Global,
+    capacity: u64,
+    base: u64,
+) -> Result<Box<Content>, Refusal>
+    ensures { MatchResult result
+        (λ b. OpensBroadcastOfBytes capacity base (Ok b.value))
+        (λ why. OpensBroadcastOfBytes capacity base (Err why)) }
+{
+    let Ok(in_force) = Capacity::new(capacity) else {
+        return Err(Refusal::BadCapacity);
+    };
+    match BytesBroadcast::starting_at(alloc, in_force, base) {
+        Ok(channel) => boxed(alloc, Content::BroadcastOfBytes(channel)),
         Err(_) => Err(Refusal::NoMemory),
     }
 }

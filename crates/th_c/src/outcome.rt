@@ -24,6 +24,12 @@ pub enum Refusal {
     BadLimit,
     /// There is no history.
     NotRecorded,
+    /// The channel's values are of the other kind.
+    OtherValues,
+    /// The bytes are no value.
+    BadValue,
+    /// There may be a value that has more bytes than the buffer.
+    SmallBuffer,
 }
 
 /// What came of a call.
@@ -43,6 +49,9 @@ pub(crate) fn code(why: Refusal) -> u32
         Refusal::BadVersion => status::BAD_VERSION,
         Refusal::BadLimit => status::BAD_LIMIT,
         Refusal::NotRecorded => status::NOT_RECORDED,
+        Refusal::OtherValues => status::OTHER_VALUES,
+        Refusal::BadValue => status::BAD_VALUE,
+        Refusal::SmallBuffer => status::SMALL_BUFFER,
     }
 }
 

@@ -1,10 +1,9 @@
-//! Pictures of channels of numbers as a trace tells of them.
+//! Pictures of channels as a trace tells of them.
 ghost use Rattle.std.specs.Prelude.{◌≡◌, IfOk, map};
-ghost use Rattle.std.specs.Fmt.{decimal};
 ghost use Rattle.th_model.specs.Limits.{IsCapacity};
-ghost use Rattle.th_c.specs.SpelledNumbers.{broadcast_picture, watch_picture};
+ghost use Rattle.th_c.specs.SpelledValues.{broadcast_picture, watch_picture};
 
-use crate::numbers;
+use crate::payload::Payload;
 use std::alloc::Global;
 use std::collections::{BTreeMap, VecDeque};
 use th_bcast::PictureParts as BroadcastParts;
@@ -12,15 +11,15 @@ use th_model::{Capacity, Short, Value, copy_numbers};
 use th_shelf::WindowParts;
 use th_watch::PictureParts as WatchParts;
 
-// The digits of each of these numbers.
-fn values(alloc: Global, numbers: &VecDeque<u64>) -> Result<VecDeque<Value>, Short<()>>
-    ensures { IfOk result (λ v. v.items ≡ map decimal numbers.now.items) }
+// Each of these values as it is spelled.
+fn values<T: Payload>(alloc: Global, kept: &VecDeque<T>) -> Result<VecDeque<Value>, Short<()>>
+    ensures { IfOk result (λ v. v.items ≡ map T.spelled kept.now.items) }
 {
-    let Ok(mut values) = VecDeque::with_capacity(alloc, numbers.len()) else {
+    let Ok(mut values) = VecDeque::with_capacity(alloc, kept.len()) else {
         return Err(Short { call: () });
     };
-    for number in numbers {
-        let Ok(()) = values.push_back(numbers::value(alloc, *number)?) else {
+    for value in kept {
+        let Ok(()) = values.push_back(value.spelled(alloc)?) else {
             return Err(Short { call: () });
         };
     }
@@ -59,11 +58,11 @@ fn in_force(asked: u64) -> Capacity
 }
 
 /// A broadcast channel's.
-pub(crate) fn broadcast_picture(
+pub(crate) fn broadcast_picture<T: Payload>(
     alloc: Global,
-    picture: &BroadcastParts<u64>,
+    picture: &BroadcastParts<T>,
 ) -> Result<BroadcastParts<Value>, Short<()>>
-    ensures { IfOk result (λ p. p ≡ broadcast_picture picture.now) }
+    ensures { IfOk result (λ p. p ≡ broadcast_picture T.spelled picture.now) }
 {
     let window = picture.window();
     // Its contract says that the picture is sound.
@@ -78,15 +77,15 @@ pub(crate) fn broadcast_picture(
 }
 
 /// A watch channel's.
-pub(crate) fn watch_picture(
+pub(crate) fn watch_picture<T: Payload>(
     alloc: Global,
-    picture: &WatchParts<u64>,
+    picture: &WatchParts<T>,
 ) -> Result<WatchParts<Value>, Short<()>>
-    ensures { IfOk result (λ p. p ≡ watch_picture picture.now) }
+    ensures { IfOk result (λ p. p ≡ watch_picture T.spelled picture.now) }
 {
     // Its contract says that the picture is sound.
     let next = picture.next_number();
-    let last = numbers::value(alloc, *picture.value())?;
+    let last = picture.value().spelled(alloc)?;
     let readers = copied_readers(picture.readers())?;
     let Ok(senders) = copy_numbers(picture.senders()) else {
         return Err(Short { call: () });

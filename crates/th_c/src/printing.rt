@@ -6,27 +6,29 @@ ghost use Rattle.th_traces.specs.Grammars.{fields};
 ghost use Rattle.th_traces.specs.Spelled.{entry_lines, text};
 ghost use Rattle.th_traces.specs.Traces.{broadcast_trace, watch_trace};
 ghost use Rattle.th_traces.specs.Versions.{version_of, version_with};
-ghost use Rattle.th_c.specs.SpelledNumbers.{broadcast_call, broadcast_entry, broadcast_picture, watch_entry, watch_picture};
+ghost use Rattle.th_c.specs.SpelledValues.{broadcast_call, broadcast_entry, broadcast_picture, watch_entry, watch_picture};
 
-use crate::content::{NumberBroadcast, NumberWatch};
-use crate::{numbers, pictures};
+use crate::content::RingBroadcast;
+use crate::payload::Payload;
+use crate::{pictures, spelling};
 use std::alloc::Global;
 use th_log::Segment;
 use th_model::{BCall, BReply, Short, WCall, WReply};
 use th_traces::{BroadcastLines, Version, WatchLines, print_end, print_entry};
+use th_watch::Watch;
 
 // Appends the entries of a broadcast channel.
-fn print_broadcast_entries(
+fn print_broadcast_entries<T: Payload>(
     alloc: Global,
-    entries: &[(BCall<u64>, BReply<u64>)],
+    entries: &[(BCall<T>, BReply<T>)],
     out: &mut Vec<u8>,
 ) -> Result<(), Short<()>>
-    ensures { let told = fields broadcast_words.grammar (map broadcast_entry entries.now) in
+    ensures { let told = fields broadcast_words.grammar (map (broadcast_entry T.spelled) entries.now) in
         OnOk result (out.new.items ≡ out.old.items ++ text (entry_lines told)) }
 {
     for (call, reply) in entries {
-        let call = numbers::broadcast_call(alloc, call)?;
-        let reply = numbers::broadcast_reply(alloc, reply)?;
+        let call = spelling::broadcast_call(alloc, call)?;
+        let reply = spelling::broadcast_reply(alloc, reply)?;
         let Ok(()) = print_entry(&call, &reply, out) else {
             return Err(Short { call: () });
         };
@@ -35,17 +37,17 @@ fn print_broadcast_entries(
 }
 
 // Appends the entries of a watch channel.
-fn print_watch_entries(
+fn print_watch_entries<T: Payload>(
     alloc: Global,
-    entries: &[(WCall<u64>, WReply<u64>)],
+    entries: &[(WCall<T>, WReply<T>)],
     out: &mut Vec<u8>,
 ) -> Result<(), Short<()>>
-    ensures { let told = fields watch_words.grammar (map watch_entry entries.now) in
+    ensures { let told = fields watch_words.grammar (map (watch_entry T.spelled) entries.now) in
         OnOk result (out.new.items ≡ out.old.items ++ text (entry_lines told)) }
 {
     for (call, reply) in entries {
-        let call = numbers::watch_call(alloc, call)?;
-        let reply = numbers::watch_reply(alloc, reply)?;
+        let call = spelling::watch_call(alloc, call)?;
+        let reply = spelling::watch_reply(alloc, reply)?;
         let Ok(()) = print_entry(&call, &reply, out) else {
             return Err(Short { call: () });
         };
@@ -82,8 +84,8 @@ fn print_watch_lines(lines: WatchLines<'_>, out: &mut Vec<u8>) -> Result<(), Sho
 }
 
 // The version of a trace with this call too.
-fn version_with(version: Version, call: &BCall<u64>) -> Version
-    ensures { result ≡ version_with version (broadcast_call call.now) }
+fn version_with<T: Payload>(version: Version, call: &BCall<T>) -> Version
+    ensures { result ≡ version_with version (broadcast_call T.spelled call.now) }
 {
     match call {
         BCall::SubscribeOldest(_) => Version::Two,
@@ -92,8 +94,8 @@ fn version_with(version: Version, call: &BCall<u64>) -> Version
 }
 
 // The version of a trace with these entries.
-fn version_of(entries: &[(BCall<u64>, BReply<u64>)]) -> Version
-    ensures { result ≡ version_of (map (λ e. e.0) (map broadcast_entry entries.now)) }
+fn version_of<T: Payload>(entries: &[(BCall<T>, BReply<T>)]) -> Version
+    ensures { result ≡ version_of (map (λ e. e.0) (map (broadcast_entry T.spelled) entries.now)) }
 {
     let mut version = Version::One;
     for (call, _) in entries {
@@ -103,12 +105,13 @@ fn version_of(entries: &[(BCall<u64>, BReply<u64>)]) -> Version
 }
 
 /// The trace of a broadcast channel's segment.
-pub(crate) fn broadcast_text(
+pub(crate) fn broadcast_text<T: Payload>(
     alloc: Global,
-    segment: &Segment<NumberBroadcast>,
+    segment: &Segment<RingBroadcast<T>>,
 ) -> Result<Vec<u8>, Short<()>>
     ensures { IfOk result (λ out. out.items ≡ broadcast_trace
-        (broadcast_picture segment.now.start) (map broadcast_entry segment.now.entries)) }
+        (broadcast_picture T.spelled segment.now.start)
+        (map (broadcast_entry T.spelled) segment.now.entries)) }
 {
     let picture = pictures::broadcast_picture(alloc, segment.start())?;
     let entries = segment.entries();
@@ -122,12 +125,13 @@ pub(crate) fn broadcast_text(
 }
 
 /// The trace of a watch channel's segment.
-pub(crate) fn watch_text(
+pub(crate) fn watch_text<T: Payload>(
     alloc: Global,
-    segment: &Segment<NumberWatch>,
+    segment: &Segment<Watch<T>>,
 ) -> Result<Vec<u8>, Short<()>>
     ensures { IfOk result (λ out. out.items ≡ watch_trace
-        (watch_picture segment.now.start) (map watch_entry segment.now.entries)) }
+        (watch_picture T.spelled segment.now.start)
+        (map (watch_entry T.spelled) segment.now.entries)) }
 {
     let picture = pictures::watch_picture(alloc, segment.start())?;
     let entries = segment.entries();

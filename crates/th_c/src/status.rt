@@ -64,5 +64,11 @@ pub const ILLEGAL: u32 = 30;
 
 pub const BAD_TRACE: u32 = 31;
 
+pub const OTHER_VALUES: u32 = 32;
+
+pub const BAD_VALUE: u32 = 33;
+
+pub const SMALL_BUFFER: u32 = 34;
+
 /// The status of no call.
 pub const NEVER: u32 = 65_536;

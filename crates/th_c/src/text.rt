@@ -22,8 +22,8 @@ impl Model for Text {
     ghost invariant = { λ t. t.at ≤ length t.bytes.items };
 }
 
-// Copies as many bytes as there are, or as there is room for, and says how many.
-fn copied(source: &[u8], buffer: &mut [u8]) -> usize
+/// Copies as many bytes as there are, or as there is room for, and says how many.
+pub(crate) fn copied(source: &[u8], buffer: &mut [u8]) -> usize
     ensures count { result ≡ min (length buffer.old) (length source.now) }
     ensures bytes { buffer.new ≡ take result source.now ++ drop result buffer.old }
 {

@@ -3,15 +3,17 @@ ghost use Rattle.std.specs.Prelude.{◌≡◌, if◌then◌else◌};
 ghost use Rattle.th_c.specs.Watch.{Answered, Called, number_of, puts_at, status_of};
 ghost use Rattle.th_c.specs.declared.status.TheConstants.{NO, YES};
 
-use crate::content::{Content, NumberWatch};
+use crate::content::Content;
 use crate::handle::Handle;
 use crate::outcome::{Refusal, Told, reply};
+use crate::payload::Payload;
 use crate::raw::{put, take};
 use crate::reply::Reply;
 use crate::status;
 use crate::tells::{Tells, answered, recorded};
 use std::alloc::Global;
 use th_model::{Edit, WCall, WReply};
+use th_watch::Watch;
 
 // The status that answers a question.
 #[inline(always)]
@@ -23,17 +25,17 @@ fn yes_or_no(answer: bool) -> u32
 
 // The status of a reply, and the number that it speaks of.
 #[inline(always)]
-fn status_and_number(reply: &WReply<u64>) -> (u32, u64)
-    ensures { result ≡ (status_of reply.now, number_of reply.now) }
+fn status_and_number<T: Payload>(reply: &WReply<T>) -> (u32, u64)
+    ensures { result ≡ (status_of reply.now, number_of T.number reply.now) }
 {
     match reply {
         WReply::Done => (status::DONE, 0),
-        WReply::NoReceivers(value) => (status::NO_RECEIVERS, *value),
-        WReply::Exhausted(value) => (status::EXHAUSTED, *value),
-        WReply::Was(value) => (status::WAS, *value),
+        WReply::NoReceivers(value) => (status::NO_RECEIVERS, value.number()),
+        WReply::Exhausted(value) => (status::EXHAUSTED, value.number()),
+        WReply::Was(value) => (status::WAS, value.number()),
         WReply::Modified(published) => (yes_or_no(*published), 0),
-        WReply::Shown(value, true) => (status::NEW, *value),
-        WReply::Shown(value, false) => (status::SAME, *value),
+        WReply::Shown(value, true) => (status::NEW, value.number()),
+        WReply::Shown(value, false) => (status::SAME, value.number()),
         WReply::Changed(unseen) => (yes_or_no(*unseen), 0),
         WReply::Marked => (status::MARKED, 0),
         WReply::NotYet => (status::NOT_YET, 0),
@@ -43,14 +45,14 @@ fn status_and_number(reply: &WReply<u64>) -> (u32, u64)
         WReply::NewTx(tx) => (status::NEW_TX, tx.0),
         WReply::Count(n) => (status::COUNT, *n),
         WReply::TooMany => (status::TOO_MANY, 0),
-        WReply::NoHandle(Some(value)) => (status::NO_HANDLE, *value),
+        WReply::NoHandle(Some(value)) => (status::NO_HANDLE, value.number()),
         WReply::NoHandle(None) => (status::NO_HANDLE, 0),
     }
 }
 
 // The status with which a call puts its value in the place of the newest one.
 #[inline(always)]
-fn puts_at(call: &WCall<u64>) -> u32
+fn puts_at<T: Payload>(call: &WCall<T>) -> u32
     ensures { result ≡ puts_at call.now }
 {
     match call {
@@ -62,23 +64,23 @@ fn puts_at(call: &WCall<u64>) -> u32
     }
 }
 
-impl Tells for NumberWatch {
+impl<T: Payload> Tells for Watch<T> {
     ghost use Rattle.th_c.specs.Watch.{puts_at, tells};
 
     // The status with which the call puts its value in the place of the newest one.
     type Note = u32;
 
-    ghost tells = { tells };
+    ghost tells = { tells T.eq T.number };
 
     ghost noted = { λ p call. puts_at call };
 
     #[inline(always)]
-    fn note(&self, call: &WCall<u64>) -> u32 {
+    fn note(&self, call: &WCall<T>) -> u32 {
         puts_at(call)
     }
 
     #[inline(always)]
-    fn told(&self, note: u32, reply: &WReply<u64>) -> Reply {
+    fn told(&self, note: u32, reply: &WReply<T>) -> Reply {
         let (status, number) = status_and_number(reply);
         let let_go = if status == note { 1 } else { 0 };
         Reply {

@@ -1,11 +1,11 @@
 //! Calls of th_block, at numbers. What they answer is handed on, so that nothing is let go here.
 use std::alloc::Global;
 use std::collections::VecDeque;
-use std::sync::Wait;
+use std::sync::{Arc, Wait};
 use std::time::{Clock, Duration};
 use th_block::{
-    BReceiver, BSender, Receives, Resub, RingBroadcast, Sends, Shared, Side, WReader, WSender,
-    broadcast, broadcast_at, watch,
+    BReceiver, BSender, Cuts, Receives, Resub, RingBroadcast, Sends, Shared, Side, WReader,
+    WSender, broadcast, broadcast_at, watch,
 };
 use th_glance::Glance;
 use th_log::{Logged, MakeFault, Receipt, Refused, Segment};
@@ -246,6 +246,31 @@ pub fn keep(
 
 pub fn cut_of(rt: &impl Wait, shared: &Shared<Light>) -> Option<Result<Segment<Light>, Short<()>>> {
     shared.cut_of(rt, 1)
+}
+
+pub fn cuts(alloc: Global) -> Cuts<Light> {
+    Cuts::new(alloc, 1_000)
+}
+
+pub fn put(rt: &impl Wait, cuts: &Cuts<Light>, part: Segment<Light>) {
+    cuts.put(rt, part);
+}
+
+pub fn take_part(rt: &impl Wait, cuts: &Cuts<Light>) -> Option<Segment<Light>> {
+    cuts.take(rt)
+}
+
+pub fn end_cuts(rt: &impl Wait, cuts: &Cuts<Light>) -> u64 {
+    cuts.end(rt);
+    cuts.lost(rt)
+}
+
+pub fn roll_at(
+    rt: &impl Wait,
+    shared: &Shared<Light>,
+    cuts: &Arc<Cuts<Light>>,
+) -> Result<(), Short<()>> {
+    shared.roll_at(rt, 100, cuts)
 }
 
 pub fn finish(shared: Shared<Light>) -> Result<Logged<Light>, Shared<Light>> {

@@ -5,7 +5,7 @@ use std::process::ExitCode;
 use th_lines::Counted;
 use th_program::{
     Advising, End, Opens, check_by_words, check_files, check_joined, explanation, given_words,
-    greet, mode, run, run_for, run_not_text, run_on_streams, run_short, status, texts,
+    greet, mode, part_name, run, run_for, run_not_text, run_on_streams, run_short, status, texts,
 };
 
 pub fn say(errors: &mut Counted<File>) {
@@ -47,6 +47,7 @@ pub fn read_words(rt: &HostRuntime, alloc: Global, words: &[&str], given: &[Stri
     let _ = mode(alloc, words);
     let _ = given_words(rt);
     let _ = texts(alloc, given);
+    let _ = part_name(alloc, b"news", 1);
 }
 
 pub fn run_main(rt: &HostRuntime, given: &[String]) -> ExitCode {

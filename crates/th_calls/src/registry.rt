@@ -144,6 +144,10 @@ pub fn leave(
     )
 }
 
+pub fn give_back(desk: &mut LocalDesk, topic: TopicId, segment: TopicSegment) {
+    desk.give_back(topic, segment);
+}
+
 pub fn keep(
     desk: &mut LocalDesk,
     topic: TopicId,

@@ -1,4 +1,7 @@
 //! Calls of th_session, at a desk of one thread. Its reader and writer are files.
+ghost use Rattle.std.specs.Prelude.{◌≡◌, Some};
+ghost use Rattle.th_session.specs.declared.fault.SessionFault.TheVariants as faults;
+
 use std::alloc::Global;
 use std::fs::File;
 use std::time::Clock;
@@ -8,7 +11,8 @@ use th_registry::channel::{TopicReceipt, TopicSegment};
 use th_registry::{LocalDesk, TopicId};
 use th_session::quiet::{self, Own};
 use th_session::{
-    Answer, Bounds, Gate, Keeping, OpenGate, Session, SessionFault, laws, local, run_session,
+    Answer, Bounds, Gate, Keeping, OpenGate, Session, SessionFault, append_trace_lines, laws,
+    local, run_session,
 };
 
 pub fn law() {
@@ -46,6 +50,10 @@ pub fn put_answer(
     let _ = session.put_answer(answer, out, writer);
 }
 
+pub fn append_lines(segment: &TopicSegment, out: &mut WriteBuffer, writer: &mut Counted<File>) {
+    let _ = append_trace_lines(segment, out, writer);
+}
+
 pub fn act_quietly(
     session: &Session<LocalDesk>,
     desk: &mut LocalDesk,
@@ -63,8 +71,8 @@ pub fn look(session: &Session<LocalDesk>) -> usize {
     session.receipts().len().max(session.segments().len())
 }
 
-pub fn forget(session: &mut Session<LocalDesk>) {
-    session.let_go(Keeping::Nothing);
+pub fn forget(session: &mut Session<LocalDesk>, desk: &mut LocalDesk) {
+    session.let_go(desk, Keeping::Nothing);
 }
 
 pub fn make(alloc: Global) -> Session<LocalDesk> {
@@ -86,13 +94,17 @@ pub fn endless() -> Bounds {
     Bounds::none()
 }
 
+/// No run ends at the gate that lets every line through, and every session wait.
 pub fn run<C: Clock>(
     rt: &C,
     alloc: Global,
     reader: &mut Counted<File>,
     writer: &mut Counted<File>,
     desk: &mut LocalDesk,
-) -> (Session<LocalDesk>, Option<SessionFault>) {
+) -> (Session<LocalDesk>, Option<SessionFault>)
+    ensures gate { result.1 ≡ Some faults.Gate → ⊥ }
+    ensures gone { result.1 ≡ Some faults.Gone → ⊥ }
+{
     run_session(
         rt,
         alloc,

@@ -30,14 +30,14 @@ leads-append a b c [] ys p q = subst (λ (x : Point). Leads x ys c) p q
 leads-append a b c (x ∷ xs) ys p q = (p.0, p.1, leads-append p.0 b c xs ys p.2 q)
 
 -- one line was judged
-pub takes_on : (old new : Reached) (line : Line) (r : Result (Unit {0}) Stop) →
+pub takes_on : (so_many : ℕ) (old new : Reached) (line : Line) (r : Result (Unit {0}) Stop) →
     ((here : Point) → Holds here old.0 → Takes here line (taken r new.0))
-    → feeding.Takes Passes Halts line old r new
-takes_on old new line (Ok x) h = λ from lines p here held.
+    → feeding.Takes Passes Halts so_many line old r new
+takes_on so_many old new line (Ok x) h = λ from lines many p here held.
     let one = p here held in
     let t = h one.0 one.2 in
     (t.0, leads-append here one.0 t.0 lines (line ∷ []) one.1 (t.0, t.1, refl), t.2)
-takes_on old new line (Err why) h = λ from lines p here held.
+takes_on so_many old new line (Err why) h = λ from lines many p here held.
     let one = p here held in
     record { before = lines; line = line; parts = refl; there = one.0; led = one.1; stops = h one.0 one.2 }
 

@@ -71,8 +71,11 @@ module _ {P E : Type 0} {took : P → List Line → P → Type 0} {halts : P →
       still : mid.ended ≡ false
       still = ap (λ (f : Feeding). f.ended) h.2 ∙ u.more
 
-      pub takes_on : (now : P) → ((start : P) (lines : List Line) → took start lines was → took start (lines ++ line ∷ []) now) →
-          Underway took halts r r' from n last now
+      so_many : mid.taken ≡ length u.done
+      so_many = ap (λ (f : Feeding). f.taken) h.2 ∙ u.counted
+
+      pub takes_on : (now : P) → ((start : P) (lines : List Line) → mid.taken ≡ length lines → took start lines was →
+          took start (lines ++ line ∷ []) now) → Underway took halts r r' from n last now
       takes_on now t = subst (λ (f : Feeding). Underway took halts r r' from n f now) (sym e) (record {
         input = u.input;
         read = u.read;
@@ -81,10 +84,10 @@ module _ {P E : Type 0} {took : P → List Line → P → Type 0} {halts : P →
         lines = one_more;
         counted = counted;
         more = still;
-        stands = t from u.done u.stands;
+        stands = t from u.done so_many u.stands;
       })
 
-      pub halts_at : (why : E) (now : P) → ((start : P) (lines : List Line) → took start lines was →
+      pub halts_at : (why : E) (now : P) → ((start : P) (lines : List Line) → mid.taken ≡ length lines → took start lines was →
           halts start (lines ++ line ∷ []) why now) → Halted took halts r r' from last why now
       halts_at why now t = subst (λ (f : Feeding). Halted took halts r r' from f why now) (sym e) (record {
         input = u.input;
@@ -93,7 +96,7 @@ module _ {P E : Type 0} {took : P → List Line → P → Type 0} {halts : P →
         done = u.done ++ line ∷ [];
         lines = λ ended more _. (lines_after ended mid.came more, one_more ended more);
         counted = counted;
-        stands = t from u.done u.stands;
+        stands = t from u.done so_many u.stands;
       })
 
     -- the reader was asked for more
@@ -150,18 +153,21 @@ module _ {P E : Type 0} {took : P → List Line → P → Type 0} {halts : P →
         count : mid.taken + 1 ≡ length (u.done ++ final ∷ [])
         count = omega (arith, ap (λ (g : Feeding). g.taken) e, u.counted, length-append u.done (final ∷ []))
 
-        pub finishes_at : (now : P) → ((start : P) (lines : List Line) → took start lines was → took start (lines ++ final ∷ []) now) →
-            Finished took halts r r' from last now
+        so_far : mid.taken ≡ length u.done
+        so_far = ap (λ (g : Feeding). g.taken) e ∙ u.counted
+
+        pub finishes_at : (now : P) → ((start : P) (lines : List Line) → mid.taken ≡ length lines → took start lines was →
+            took start (lines ++ final ∷ []) now) → Finished took halts r r' from last now
         finishes_at now t = subst (λ (g : Feeding). Finished took halts r r' from g now) (sym k) (record {
           input = u.input;
           read = u.read;
           whole = end;
           counted = count ∙ ap length (sym whole_text);
           within = omega (arith, room, ap (λ (g : Feeding). g.taken) e, ap (λ (g : Feeding). g.limit) e);
-          stands = subst (λ (l : List Line). took from l now) (sym whole_text) (t from u.done u.stands);
+          stands = subst (λ (l : List Line). took from l now) (sym whole_text) (t from u.done so_far u.stands);
         })
 
-        pub halts_last : (why : E) (now : P) → ((start : P) (lines : List Line) → took start lines was →
+        pub halts_last : (why : E) (now : P) → ((start : P) (lines : List Line) → mid.taken ≡ length lines → took start lines was →
             halts start (lines ++ final ∷ []) why now) → Halted took halts r r' from last why now
         halts_last why now t = subst (λ (g : Feeding). Halted took halts r r' from g why now) (sym k) (record {
           input = u.input;
@@ -176,7 +182,7 @@ module _ {P E : Type 0} {took : P → List Line → P → Type 0} {halts : P →
                     ∙ ap (λ (b : List ℕ). lines_from true [] b) (append-nil u.input) ∙ whole_text ∙ sym (append-nil (u.done ++ final ∷ [])),
               );
           counted = count;
-          stands = t from u.done u.stands;
+          stands = t from u.done so_far u.stands;
         })
 
 module _ {P E : Type 0} (took : P → List Line → P → Type 0) (halts : P → List Line → E → P → Type 0) where

@@ -65,11 +65,11 @@ failures_so_far n (Some fed) = failures_by n fed
 -- was handed them, and has stopped.
 module _ {P E : Type 0} (took : P → List Line → P → Type 0)
     (halts : P → List Line → E → P → Type 0) where
-  -- one line more was taken, or the taker has stopped at it
-  abbrev pub Takes : {A : Type 0} → Line → P → Result A E → P → Type 0
-  Takes line old (Ok a) new = (from : P) (lines : List Line) →
+  -- where so many lines were taken, one line more was, or the taker has stopped at it
+  abbrev pub Takes : {A : Type 0} → (taken : ℕ) → Line → P → Result A E → P → Type 0
+  Takes taken line old (Ok a) new = (from : P) (lines : List Line) → taken ≡ length lines →
       took from lines old → took from (lines ++ line ∷ []) new
-  Takes line old (Err why) new = (from : P) (lines : List Line) →
+  Takes taken line old (Err why) new = (from : P) (lines : List Line) → taken ≡ length lines →
       took from lines old → halts from (lines ++ line ∷ []) why new
 
   -- nothing is held back, or the taker has stopped

@@ -42,7 +42,7 @@ pub trait TakesLines<D, W> {
         line: Option<&[u8]>,
         intake: &Intake,
     ) -> Result<(), Self::Stop>
-        ensures { Takes took halts (line_given line.entry)
+        ensures { Takes took halts taken (line_given line.entry)
             (self.old, desk.old, writer.old) result (self.new, desk.new, writer.new) };
 }
 
@@ -301,7 +301,7 @@ impl Feeder {
     ) -> Result<(), T::Stop>
         requires room { self.old.taken < self.old.limit }
         requires line { self.old.came.begun ≡ [] }
-        ensures took { Takes T.took T.halts (line_of before_lf self.old.line)
+        ensures took { Takes T.took T.halts self.old.taken (line_of before_lf self.old.line)
             (taker.old, desk.old, writer.old) result (taker.new, desk.new, writer.new) }
         ensures same { self.new ≡ record self.old { taken = self.old.taken + 1 } }
     {

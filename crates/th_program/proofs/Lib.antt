@@ -5,3 +5,4 @@ mod Writing
 mod GivenWords
 mod Checking
 mod Telling
+mod PartNames

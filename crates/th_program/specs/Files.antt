@@ -7,7 +7,7 @@ use Rattle.clap.specs.Words.{fault_of}
 use Rattle.th_lines.specs.Lines.{Line, lines_of}
 use Rattle.th_traces.specs.declared.picture.Picture.{Picture}
 use Rattle.th_check.specs.Checked.{Checked}
-use Rattle.th_check.specs.Joined.{AreAdded, Joins}
+use Rattle.th_check.specs.Joined.{AreAdded, IsPart, Joins, Part}
 use Rattle.th_check.specs.declared.fault.CheckFault.{CheckFault}
 use Rattle.th_check.specs.declared.fault.CheckFault.TheVariants as fault
 use Rattle.th_check.specs.declared.parts.Joined.{Joined}
@@ -16,6 +16,7 @@ use Rattle.th_check.specs.declared.verdict.Verdict.{Verdict}
 use Rattle.th_check.specs.declared.verdict.Verdict.TheVariants as verdict
 use Rattle.th_program.specs.declared.end.End.{End}
 use Rattle.th_program.specs.declared.end.End.TheVariants as end
+use Rattle.th_program.specs.PartNames.{Follows}
 use Rattle.th_program.specs.Run.{Errors, IsSaid, verdict_line}
 use Rattle.th_program.specs.Status.{status_of}
 use Rattle.th_program.specs.Words.{arguments_by, asked_by, command_line, files_of, is_joined}
@@ -96,13 +97,32 @@ pub record IsTextOf (held : Option (List ℕ)) (lines : List Line) : Type 0 wher
   pub whole : IsAtEnd left
   pub is : lines ≡ lines_of input
 
+-- a file that is a part of a history: its name, its lines, and how many entries they have
+pub record PartFile : Type 0 where
+  pub name : List ℕ
+  pub lines : List Line
+  pub entries : ℕ
+
+-- this is known of its text
+abbrev pub IsFile : (List ℕ → Option (List ℕ)) → PartFile → Type 0
+IsFile holds f =
+    IsTextOf (holds f.name) f.lines
+    × ((part : Part) × IsPart f.lines part × (part.count ≡ f.entries))
+
+-- by their names each of the files follows the one before it
+abbrev pub AreNumbered : List PartFile → Type 0
+AreNumbered [] = Unit {0}
+AreNumbered (f ∷ []) = Unit {0}
+AreNumbered (f ∷ g ∷ later) = Follows f.name f.entries g.name × AreNumbered (g ∷ later)
+
 -- These files are one history with so many entries, which ends there.
 pub record AreOneHistory (holds : List ℕ → Option (List ℕ)) (names : List (List ℕ)) (count : ℕ)
     (there : Option Picture) : Type 0 where
-  pub texts : List (List ℕ × List Line)
-  pub named : map (λ f. f.0) texts ≡ names
-  pub are : AllByRecursion (λ f. IsTextOf (holds f.0) f.1) texts
-  pub added : AreAdded None (map (λ f. f.1) texts) count there
+  pub files : List PartFile
+  pub named : map (λ f. f.name) files ≡ names
+  pub are : AllByRecursion (IsFile holds) files
+  pub added : AreAdded None (map (λ f. f.lines) files) count there
+  pub numbered : AreNumbered files
 
 -- the line that tells of a history, and the one that tells which file breaks it
 abbrev pub joined_line : ℕ → List ℕ
@@ -123,6 +143,23 @@ entries_of (Ok (Judged said)) = None
 entries_of (Ok Apart) = None
 entries_of (Err why) = None
 
+-- the file is legal and begins where the history ends, and by its name it does not follow the last file
+pub record IsMisnumbered (held : Option (List ℕ)) (files : List PartFile) (name : List ℕ)
+    (here : Option Picture) : Type 0 where
+  pub earlier : List PartFile
+  pub last : PartFile
+  pub are : files ≡ earlier ++ last ∷ []
+  pub apart : Follows last.name last.entries name → ⊥
+  pub count : ℕ
+  pub there : Option Picture
+  pub next : IsNext held here (Judged (verdict.Legal count)) there
+
+-- why this is said of a file that does not go on with the history of these files
+abbrev pub Breaks : Option (List ℕ) → List PartFile → (name : List ℕ) → (here : Option Picture)
+    → Joined → Type 0
+Breaks held files name here (Judged said) = IsNext held here (Judged said) here
+Breaks held files name here Apart = IsNext held here Apart here ⊎ IsMisnumbered held files name here
+
 -- The files before this one are one history, and it does not go on with it: this is said of it.
 pub record IsBrokenBy (holds : List ℕ → Option (List ℕ)) (names : List (List ℕ)) (said : Joined)
     (before after : Option (List ℕ)) : Type 0 where
@@ -133,7 +170,7 @@ pub record IsBrokenBy (holds : List ℕ → Option (List ℕ)) (names : List (Li
   pub count : ℕ
   pub there : Option Picture
   pub so_far : AreOneHistory holds earlier count there
-  pub judged : IsNext (holds name) there said there
+  pub breaks : Breaks (holds name) so_far.files name there said
   pub told : Appends before after (broken_line name said)
 
 -- how a run ends that checks files as one history

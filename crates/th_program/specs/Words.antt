@@ -1,5 +1,5 @@
 -- What the words of the command line ask for.
-use Rattle.std.specs.Prelude.{◌≡◌, ◌⊎◌, ◌≤◌, ◌||◌, ℕ, Bool, List, [], ◌∷◌, Option, Some, None, is_some, IsSome, Result, MatchResult, codes, map, string_bytes, true, false, if◌then◌else◌}
+use Rattle.std.specs.Prelude.{◌≡◌, ◌⊎◌, ◌≤◌, ◌||◌, ◌&&◌, ℕ, Bool, List, [], ◌∷◌, Option, Some, None, is_some, IfSome, IsSome, Result, MatchResult, codes, map, string_bytes, true, false, if◌then◌else◌}
 use Rattle.std.specs.Str.{bytes_eq}
 use Rattle.std.specs.Str.Parse.{IsNumeral, digits_value, without_leading_plus}
 use Rattle.std.specs.Option.{option_map, unwrap_or}
@@ -70,10 +70,13 @@ asked_of (Some name) =
     else if bytes_eq name (codes "serve") then Asked.Serve
     else Asked.Replay
 
--- 1 to 64 sessions, or 1 to 1,024 at a time
+-- 1 to 64 sessions, or 1 to 1,024 at a time, with numbers within their bounds
 abbrev pub IsWithin : Serving → Type 0
 IsWithin (serving.Sessions n) = (1 ≤ n) × (n ≤ 64)
 IsWithin (serving.Standing how) = (1 ≤ how.at_once) × (how.at_once ≤ 1024)
+    × (1 ≤ how.history) × (how.history ≤ 1000000)
+    × (1024 ≤ how.memory) × (how.memory ≤ 1000000000)
+    × IfSome how.socket_fd (λ fd. (3 ≤ fd) × (fd ≤ 1023))
 
 -- a mode that serves has so many
 abbrev pub HasSessions : Mode → Type 0
@@ -89,28 +92,40 @@ with_required app =
 abbrev pub flag_of : List ℕ → Rule
 flag_of word = record (new_rule word) { long = Some word; action = Some SetTrue }
 
--- how many sessions at a time
-abbrev pub at_once : Rule
-at_once = record (new_rule (codes "AT_ONCE")) { long = Some (codes "at-once"); value_names = 1 }
+-- a word with a text behind it, which its help names by a letter or a word
+abbrev pub option_of : List ℕ → Rule
+option_of word = record (new_rule word) { long = Some word; value_names = 1 }
 
--- the words of a server that stands: how many sessions at a time, and three that are given or not
+-- the first words of a server that stands: how many sessions at a time, and three that are given or not
 abbrev pub with_standing : App → App
 with_standing app =
     with_rule
     (with_rule
     (with_rule
-    (with_rule app at_once)
+    (with_rule app (option_of (codes "at-once")))
     (flag_of (codes "replace")))
     (flag_of (codes "until-eof")))
     (flag_of (codes "verbose"))
 
+-- and its further ones: how long histories may be, where what is cut goes, and which socket is bound already
+abbrev pub with_keeping : App → App
+with_keeping app =
+    with_rule
+    (with_rule
+    (with_rule
+    (with_rule app (option_of (codes "history")))
+    (option_of (codes "memory")))
+    (option_of (codes "traces")))
+    (option_of (codes "socket-fd"))
+
 -- `serve` and its words: a path, how many sessions, and those of a server that stands
 abbrev pub serve_line : App
 serve_line =
-    with_standing
+    with_keeping
+    (with_standing
     (with_rule
     (with_rule (new_app (codes "serve")) (record (new_rule (codes "PATH")) { required = true }))
-    (record (new_rule (codes "N")) { long = Some (codes "sessions") }))
+    (option_of (codes "sessions"))))
 
 -- `check` and its words: files, and whether they are one history
 abbrev pub check_line : App
@@ -143,45 +158,90 @@ arguments_by words = arguments_of (subcommand_of command_line words)
 abbrev pub text_of : List ℕ → List Row → List ℕ
 text_of id rows = unwrap_or (first_of id rows) []
 
--- the text is a number from 1 to the bound in decimal digits; a plus may stand before them
-abbrev pub IsCount : ℕ → List ℕ → ℕ → Type 0
-IsCount bound text n = IsNumeral 10 (without_leading_plus text)
+-- whether a text was given behind such a word
+abbrev pub has : List ℕ → List Row → Bool
+has id rows = is_some (first_of id rows)
+
+-- the text is a number from the least to the most in decimal digits; a plus may stand before them
+abbrev pub IsCount : (least most : ℕ) → List ℕ → ℕ → Type 0
+IsCount least most text n = IsNumeral 10 (without_leading_plus text)
     × (n ≡ digits_value 10 (without_leading_plus text))
-    × (1 ≤ n) × (n ≤ bound)
+    × (least ≤ n) × (n ≤ most)
+
+-- so is the number where a text is given, and else there is none
+abbrev pub IsCountIf : (least most : ℕ) → Option (List ℕ) → Option ℕ → Type 0
+IsCountIf least most None None = Unit {0}
+IsCountIf least most None (Some n) = ⊥
+IsCountIf least most (Some text) None = ⊥
+IsCountIf least most (Some text) (Some n) = IsCount least most text n
+
+-- so is the number where a text is given, and else it is that other one
+abbrev pub IsCountOr : ℕ → (least most : ℕ) → Option (List ℕ) → ℕ → Type 0
+IsCountOr other least most None n = n ≡ other
+IsCountOr other least most (Some text) n = IsCount least most text n
+
+-- a text that is given is such a number
+abbrev pub CountsIf : (least most : ℕ) → Option (List ℕ) → Type 0
+CountsIf least most given = (found : Option ℕ) × IsCountIf least most given found
 
 -- so many sessions in all, 1 to 64; or at a time, 1 to 1,024
 abbrev pub AsksFor : List ℕ → ℕ → Type 0
-AsksFor = IsCount 64
+AsksFor = IsCount 1 64
 
 abbrev pub AsksAtOnce : List ℕ → ℕ → Type 0
-AsksAtOnce = IsCount 1024
+AsksAtOnce = IsCount 1 1024
+
+-- from how many entries on a history is cut, and how many all of them hold together
+abbrev pub AsksHistory : List Row → ℕ → Type 0
+AsksHistory rows = IsCountOr 100000 1 1000000 (first_of (codes "history") rows)
+
+abbrev pub AsksMemory : List Row → ℕ → Type 0
+AsksMemory rows = IsCountOr 2000000 1024 1000000000 (first_of (codes "memory") rows)
+
+-- which descriptor is a socket that is bound already
+abbrev pub AsksSocket : List Row → Option ℕ → Type 0
+AsksSocket rows = IsCountIf 3 1023 (first_of (codes "socket-fd") rows)
 
 -- whether such a word was given
 abbrev pub is_given : List ℕ → List Row → Bool
 is_given word rows = bytes_eq (text_of word rows) (codes "true")
 
+-- a socket that is bound already is to be replaced
+abbrev pub replaces_bound : List Row → Bool
+replaces_bound rows = is_given (codes "replace") rows && has (codes "socket-fd") rows
+
 -- a server that stands runs as these words say
-abbrev pub StandsBy : List Row → Standing → Type 0
-StandsBy rows how = AsksAtOnce (text_of (codes "AT_ONCE") rows) how.at_once
-    × (how.replaces ≡ is_given (codes "replace") rows)
-    × (how.until_eof ≡ is_given (codes "until-eof") rows)
-    × (how.is_verbose ≡ is_given (codes "verbose") rows)
+pub record StandsBy (rows : List Row) (how : Standing) : Type 0 where
+  pub at_once : AsksAtOnce (text_of (codes "at-once") rows) how.at_once
+  pub replaces : how.replaces ≡ is_given (codes "replace") rows
+  pub until_eof : how.until_eof ≡ is_given (codes "until-eof") rows
+  pub is_verbose : how.is_verbose ≡ is_given (codes "verbose") rows
+  pub history : AsksHistory rows how.history
+  pub memory : AsksMemory rows how.memory
+  pub traces : option_map string_bytes how.traces ≡ first_of (codes "traces") rows
+  pub socket_fd : AsksSocket rows how.socket_fd
+  pub leaves_bound : replaces_bound rows ≡ false
 
 -- which words of one that serves are given: how many sessions in all, how many at a time, and others of a server that stands
 abbrev pub has_sessions : List Row → Bool
-has_sessions rows = is_some (first_of (codes "N") rows)
+has_sessions rows = has (codes "sessions") rows
 
 abbrev pub has_at_once : List Row → Bool
-has_at_once rows = is_some (first_of (codes "AT_ONCE") rows)
+has_at_once rows = has (codes "at-once") rows
 
-abbrev pub has_others : List Row → Bool
-has_others rows = is_given (codes "replace") rows
+abbrev pub has_flags : List Row → Bool
+has_flags rows = is_given (codes "replace") rows
     || is_given (codes "until-eof") rows || is_given (codes "verbose") rows
 
--- as many sessions are served as these words say
+abbrev pub has_others : List Row → Bool
+has_others rows = has_flags rows || has (codes "history") rows || has (codes "memory") rows
+    || has (codes "traces") rows || has (codes "socket-fd") rows
+
+-- as many sessions are served as these words say, and none of them belongs to the other way to serve
 abbrev pub ServesBy : List Row → Serving → Type 0
-ServesBy rows (serving.Sessions n) = AsksFor (text_of (codes "N") rows) n
-ServesBy rows (serving.Standing how) = StandsBy rows how
+ServesBy rows (serving.Sessions n) = AsksFor (text_of (codes "sessions") rows) n
+    × (has_at_once rows ≡ false) × (has_others rows ≡ false)
+ServesBy rows (serving.Standing how) = StandsBy rows how × (has_sessions rows ≡ false)
 
 -- the files that are named, none where none is
 abbrev pub files_of : List Row → Option (List (List ℕ))
@@ -207,12 +267,19 @@ IsMode asked rows (Serve path serving) = (asked ≡ Asked.Serve)
     × (string_bytes path ≡ text_of (codes "PATH") rows)
     × ServesBy rows serving
 
+-- the further words of a server that stands are right: numbers within their bounds, and no bound socket that is to be replaced
+pub record AreRight (rows : List Row) : Type 0 where
+  pub history : CountsIf 1 1000000 (first_of (codes "history") rows)
+  pub memory : CountsIf 1024 1000000000 (first_of (codes "memory") rows)
+  pub socket_fd : CountsIf 3 1023 (first_of (codes "socket-fd") rows)
+  pub leaves_bound : replaces_bound rows ≡ false
+
 -- words that ask rightly to serve so many sessions, or so many at a time: one of both, and further words with the second alone
 abbrev pub AsksRightly : List Row → ℕ → Type 0
 AsksRightly rows n =
-    (AsksFor (text_of (codes "N") rows) n × (has_sessions rows ≡ true)
+    (AsksFor (text_of (codes "sessions") rows) n × (has_sessions rows ≡ true)
     × (has_at_once rows ≡ false) × (has_others rows ≡ false))
-    ⊎ (AsksAtOnce (text_of (codes "AT_ONCE") rows) n
+    ⊎ (AsksAtOnce (text_of (codes "at-once") rows) n × AreRight rows
     × (has_at_once rows ≡ true) × (has_sessions rows ≡ false))
 
 pub record AreServe (words : List (List ℕ)) (n : ℕ) : Type 0 where

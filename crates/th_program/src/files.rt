@@ -6,6 +6,7 @@ ghost use Rattle.th_program.specs.Run.{IsSaid, errors_of};
 
 use crate::end::{End, status};
 use crate::modes::{Mode, ModeFault};
+use crate::part_names::follows;
 use crate::program::{explain, run_short, say, write_line, write_text, write_verdict};
 use crate::words::mode;
 use std::alloc::Global;
@@ -263,7 +264,8 @@ fn tell_broken<W: Write, E: Write>(
 }
 
 /// Checks these files as one history, in their order: each is to be legal, and to begin with the picture to which the
-/// entries of the one before it lead. `output` gets one line: how many entries they have, or which file is the first that
+/// entries of the one before it lead. Where two neighbours have names of parts of a topic's history, they are also to be
+/// parts of one topic, and the number of the second is to be that of the first and its entries. `output` gets one line: how many entries they have, or which file is the first that
 /// breaks the history; no file behind that is read. A file that there is no verdict on is told of in `errors`, and so is, to
 /// people at a terminal, what is wrong with a trace. More than 2^64 - 1 entries are too long.
 pub fn check_joined<O: Opens, W: Write, E: Write>(
@@ -279,6 +281,8 @@ pub fn check_joined<O: Opens, W: Write, E: Write>(
 {
     let mut history = Joining::new();
     let mut count: u64 = 0;
+    let mut before: &[u8] = b"";
+    let mut entries: u64 = 0;
     for name in names {
         let mut text = Vec::new(alloc);
         let said = add_file(alloc, files, name.as_str(), &mut history, &mut text);
@@ -286,11 +290,17 @@ pub fn check_joined<O: Opens, W: Write, E: Write>(
             let wrong = if people { Some(text.as_slice()) } else { None };
             return tell_broken(output, errors, name.as_str(), said, wrong);
         };
+        let path = name.as_bytes();
+        if !follows(before, entries, path) {
+            return tell_broken(output, errors, name.as_str(), Ok(Joined::Apart), None);
+        }
         let Some(sum) = count.checked_add(more) else {
             say_fault(errors, name.as_str(), CheckFault::TooLong);
             return End::TooLong;
         };
         count = sum;
+        before = path;
+        entries = more;
     }
     if write_line(output, b"joined ", count) {
         End::Done

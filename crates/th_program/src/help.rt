@@ -188,11 +188,14 @@ Of files each has such a line, with its name in front, as in `FILE: legal n`. On
 that cannot be read is told of on standard error, and the others are checked.
 
 With --joined all files tell one history: each is legal, and begins with the
-picture to which the entries of the one before it lead. It prints one line, and
+picture to which the entries of the one before it lead. Where two neighbours are
+named TOPIC.NUMBER.trace, as `serve` does, the topic is also the same, and the
+second number is the first and the entries of the first. It prints one line, and
 reads no further than the first file that breaks the history. The line is
 
   joined n              one history of n entries
-  gap f                 the file f is legal, and begins elsewhere
+  gap f                 the file f is legal, and begins elsewhere, by its first
+                        picture or by its name
 
 or the line of the first file that is not legal.
 
@@ -230,6 +233,21 @@ pub const SERVE_UNTIL_EOF: &str = "End all sessions, and the server, at the end 
 pub const SERVE_VERBOSE: &str =
     "Say what stopped it and where, also where nobody sits at a terminal";
 
+/// The word for how long a topic's history may be.
+pub const SERVE_HISTORY: &str =
+    "Cut a topic's history at so many entries, 1 to 1000000; 100000 if left out";
+
+/// The word for how long all of them may be.
+pub const SERVE_MEMORY: &str =
+    "How many entries all histories hold together, 1024 to 1000000000; 2000000 if left out";
+
+/// The word for where it puts what it has cut.
+pub const SERVE_TRACES: &str = "Keep each part that was cut, as a trace in a folder below DIR";
+
+/// The word for a socket that somebody else has bound.
+pub const SERVE_SOCKET_FD: &str =
+    "The descriptor, 3 to 1023, of a socket that is bound at PATH already";
+
 /// What stands below the options of the mode `serve`.
 pub const SERVE_AFTER: &str = "\
 It makes the socket, prints `listening` on standard output, and serves the first
@@ -243,6 +261,15 @@ socket at PATH whose server is gone, by a lock on the file PATH.lock, which stay
 With `--until-eof` the server ends at the end of standard input: each session
 answers what it has read, one that waits ends unanswered, all that they hold is
 spent, the socket is removed, and `done N` says how many sessions there were.
+
+Such a server cuts histories by itself, so no TRACE is needed: that of a topic at
+`--history K` entries, or at `--memory M` divided by the number of topics where
+that is less. What was cut is let go; with `--traces DIR` each part is written to
+a file in a folder below DIR, a trace that `topichub check` reads.
+
+With `--socket-fd FD` the socket is bound already and is this descriptor, as
+systemd's socket activation hands it over. PATH is then where it is bound, and
+nothing is made or removed there, so `--replace` is refused beside it.
 
 A session's lines are the commands of `topichub replay --help`, without an actor
 in front: a session is an actor. Each line is answered in its turn, and lines may
@@ -258,7 +285,7 @@ Example, with two shells and `socat`:
 
 Only the user who serves may connect: the socket has the mode 0600, and its
 directory decides who may come near. Values are bytes. With `--sessions` a session
-takes at most 1000000 lines. A topic's history takes 1000000 events from one TRACE
+takes at most 1000000 lines, and a topic's history 1000000 events from one TRACE
 to the next. A signal such as Ctrl-C ends the program at once, and leaves the
 socket where it is.
 

@@ -24,7 +24,7 @@ pub enum Mode {
 }
 
 /// How many sessions are served.
-#[derive(Clone, Copy, Debug, Drop, PartialEq, Eq)]
+#[derive(Debug, Drop, PartialEq, Eq)]
 pub enum Serving {
     /// So many, 1 to 64.
     Sessions(u64),
@@ -33,7 +33,7 @@ pub enum Serving {
 }
 
 /// How a server runs that stands until it is ended from outside.
-#[derive(Clone, Copy, Debug, Drop, PartialEq, Eq)]
+#[derive(Debug, Drop, PartialEq, Eq)]
 pub struct Standing {
     /// How many sessions at a time, 1 to 1,024.
     pub at_once: u64,
@@ -43,6 +43,14 @@ pub struct Standing {
     pub until_eof: bool,
     /// Whether a fault is told with what and where, also where nobody sits at a terminal.
     pub is_verbose: bool,
+    /// From so many entries on a topic's history is cut, 1 to 1,000,000.
+    pub history: u64,
+    /// How many entries all topics' histories hold together, 1,024 to 1,000,000,000.
+    pub memory: u64,
+    /// The folder that the parts are written below which were cut; without one they are let go.
+    pub traces: Option<String>,
+    /// The descriptor of a socket that is bound already, 3 to 1,023; without one a socket is made.
+    pub socket_fd: Option<u64>,
 }
 
 /// Which mode a command's name is of.

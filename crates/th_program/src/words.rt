@@ -3,12 +3,13 @@
 ghost use Rattle.std.specs.Prelude.{◌≡◌, ◌≢◌, ◌⊎◌, ◌≤◌, IfErr, IfOk, IfSome, IsOk, IsSome, Ok, OnOk, ℕ, [], codes, false, is_some, map, option_map, string_bytes};
 ghost use Rattle.clap.specs.declared.builder.command.Command.TheViews.{out-Command};
 ghost use Rattle.clap.specs.Words.{app_of, fault_of, first_of, found_of, kind_of, new_app, rows_of, rule_of, subcommand_name_of, subcommand_rows_of, with_rule, with_subcommand};
-ghost use Rattle.th_program.specs.Words.{AreCheck, AreReplay, AreHelp, AreServe, AreVersion, AreNone, AsksAtOnce, AsksFor, AsksRightly, IsCount, IsHelp, IsMode, IsUsage, GivesCheck, GivesMode, GivesReplay, GivesFault, HasFiles, HasSessions, IsWithin, ServesBy, StandsBy, arguments_by, arguments_of, asked_by, asked_of, at_once, check_line, command_line, flag_of, has_others, is_given, serve_line, text_of, with_required, with_standing};
+ghost use Rattle.th_program.specs.Words.{AreCheck, AreReplay, AreHelp, AreRight, AreServe, AreVersion, AreNone, AsksAtOnce, AsksFor, AsksHistory, AsksMemory, AsksRightly, AsksSocket, CountsIf, IsCount, IsCountIf, IsHelp, IsMode, IsUsage, GivesCheck, GivesMode, GivesReplay, GivesFault, HasFiles, HasSessions, IsWithin, ServesBy, StandsBy, arguments_by, arguments_of, asked_by, asked_of, check_line, command_line, flag_of, has, has_flags, has_others, is_given, option_of, replaces_bound, serve_line, text_of, with_keeping, with_required, with_standing};
 
 use crate::help::{
     ABOUT, AFTER, CHECK_ABOUT, CHECK_AFTER, CHECK_FILES, CHECK_INPUT, CHECK_JOINED, NO_FILES,
-    REPLAY_ABOUT, REPLAY_AFTER, REPLAY_INPUT, SERVE_ABOUT, SERVE_AFTER, SERVE_AT_ONCE, SERVE_INPUT,
-    SERVE_PATH, SERVE_REPLACE, SERVE_SESSIONS, SERVE_UNTIL_EOF, SERVE_VERBOSE, VERSION,
+    REPLAY_ABOUT, REPLAY_AFTER, REPLAY_INPUT, SERVE_ABOUT, SERVE_AFTER, SERVE_AT_ONCE,
+    SERVE_HISTORY, SERVE_INPUT, SERVE_MEMORY, SERVE_PATH, SERVE_REPLACE, SERVE_SESSIONS,
+    SERVE_SOCKET_FD, SERVE_TRACES, SERVE_UNTIL_EOF, SERVE_VERBOSE, VERSION,
 };
 use crate::modes::{Asked, Mode, ModeFault, Serving, Standing};
 use clap::error::ErrorKind;
@@ -21,12 +22,35 @@ const MOST_SESSIONS: u64 = 64;
 /// The most sessions at a time of one that stands.
 const MOST_AT_ONCE: u64 = 1024;
 
+/// From how many entries on a history is cut, at most.
+const MOST_HISTORY: u64 = 1_000_000;
+
+/// And where that is not said.
+const HISTORY: u64 = 100_000;
+
+/// How many entries all histories hold together: the least and the most.
+const LEAST_MEMORY: u64 = 1024;
+
+const MOST_MEMORY: u64 = 1_000_000_000;
+
+/// And where that is not said.
+const MEMORY: u64 = 2_000_000;
+
+/// The descriptors that are none of the standard streams.
+const LEAST_FD: u64 = 3;
+
+const MOST_FD: u64 = 1023;
+
 /// What is said where it is not one of both.
 const SESSIONS_OR_AT_ONCE: &str = "one of '--sessions <N>' and '--at-once <N>' is wanted";
 
 /// What is said where other words are given with sessions.
 const OTHERS_WITH_AT_ONCE: &str =
-    "'--replace', '--until-eof' and '--verbose' go with '--at-once <N>' alone";
+    "'--replace', '--until-eof', '--verbose', '--history', '--memory', '--traces' and '--socket-fd' go with '--at-once <N>' alone";
+
+/// What is said where a socket that is bound already is to be replaced.
+const REPLACE_OR_SOCKET_FD: &str =
+    "'--replace' does not go with '--socket-fd <FD>': that socket is bound already";
 
 impl From<AllocError> for ModeFault {
     fn from(_: AllocError) -> ModeFault {
@@ -82,23 +106,37 @@ fn serve_command<'a>(alloc: Global) -> Result<Command<'a>, AllocError>
     ensures local { IfOk result (λ c. (out-Command c).has_globals ≡ false) }
 {
     let path = Arg::new(alloc, "PATH").help(SERVE_PATH).required(true);
-    let sessions = Arg::new(alloc, "N").long("sessions").help(SERVE_SESSIONS);
     let serve = Command::new(alloc, "serve")
         .about(SERVE_ABOUT)
         .after_help(SERVE_AFTER);
-    with_standing(alloc, serve.arg(path)?.arg(sessions)?)
+    let serve = with_arg(serve, path)?;
+    let serve = with_arg(serve, option(alloc, "sessions", "N", SERVE_SESSIONS))?;
+    let serve = with_standing(alloc, serve)?;
+    with_keeping(alloc, serve)
 }
 
-// The same with the words of a server that stands.
+// The same with the first words of a server that stands.
 fn with_standing<'a>(alloc: Global, serve: Command<'a>) -> Result<Command<'a>, AllocError>
     ensures app { IfOk result (λ c. app_of c ≡ with_standing (app_of serve.entry)) }
     ensures local { (out-Command serve.entry).has_globals ≡ false →
         IfOk result (λ c. (out-Command c).has_globals ≡ false) }
 {
-    let serve = with_arg(serve, at_once(alloc))?;
+    let serve = with_arg(serve, option(alloc, "at-once", "N", SERVE_AT_ONCE))?;
     let serve = with_arg(serve, flag(alloc, "replace", SERVE_REPLACE))?;
     let serve = with_arg(serve, flag(alloc, "until-eof", SERVE_UNTIL_EOF))?;
     with_arg(serve, flag(alloc, "verbose", SERVE_VERBOSE))
+}
+
+// The same with its further ones.
+fn with_keeping<'a>(alloc: Global, serve: Command<'a>) -> Result<Command<'a>, AllocError>
+    ensures app { IfOk result (λ c. app_of c ≡ with_keeping (app_of serve.entry)) }
+    ensures local { (out-Command serve.entry).has_globals ≡ false →
+        IfOk result (λ c. (out-Command c).has_globals ≡ false) }
+{
+    let serve = with_arg(serve, option(alloc, "history", "K", SERVE_HISTORY))?;
+    let serve = with_arg(serve, option(alloc, "memory", "M", SERVE_MEMORY))?;
+    let serve = with_arg(serve, option(alloc, "traces", "DIR", SERVE_TRACES))?;
+    with_arg(serve, option(alloc, "socket-fd", "FD", SERVE_SOCKET_FD))
 }
 
 // One argument more, which is the command's own.
@@ -112,15 +150,12 @@ fn with_arg<'a>(command: Command<'a>, arg: Arg<'a>) -> Result<Command<'a>, Alloc
     command.arg(arg)
 }
 
-// How many sessions at a time.
-fn at_once<'a>(alloc: Global) -> Arg<'a>
-    ensures rule { rule_of result ≡ at_once }
+// A word with a text behind it, which help calls by this name.
+fn option<'a>(alloc: Global, word: &'a str, name: &'a str, help: &'a str) -> Arg<'a>
+    ensures rule { rule_of result ≡ option_of word.entry.now }
     ensures local { result.global ≡ false }
 {
-    Arg::new(alloc, "AT_ONCE")
-        .long("at-once")
-        .value_name("N")
-        .help(SERVE_AT_ONCE)
+    Arg::new(alloc, word).long(word).value_name(name).help(help)
 }
 
 // A word that is given or not.
@@ -194,15 +229,15 @@ fn asked(name: Option<&str>) -> Asked
     }
 }
 
-// The number in the text, where it is one from 1 to this bound.
-fn count_in(text: &str, bound: u64) -> Option<u64>
-    ensures number { IfSome result (IsCount bound text.now) }
-    ensures none { (n : ℕ) → IsCount bound text.now n → IsSome result }
+// The number in the text, where it is one from the least to the most.
+fn count_in(text: &str, least: u64, most: u64) -> Option<u64>
+    ensures number { IfSome result (IsCount least most text.now) }
+    ensures none { (n : ℕ) → IsCount least most text.now n → IsSome result }
 {
     let Ok(count) = text.parse::<u64>() else {
         return None;
     };
-    if 1 <= count && count <= bound {
+    if least <= count && count <= most {
         Some(count)
     } else {
         None
@@ -219,12 +254,19 @@ fn wrong(made: Result<String, AllocError>) -> ModeFault
     }
 }
 
-// What is wrong with such a text behind this word.
-fn wrong_count(alloc: Global, word: &str, text: &str, bound: u64) -> ModeFault
+// What is wrong with such a text behind this word, which help calls by that name.
+fn wrong_count(
+    alloc: Global,
+    word: &str,
+    name: &str,
+    text: &str,
+    least: u64,
+    most: u64,
+) -> ModeFault
     ensures { IsUsage result ⊎ (result ≡ ModeFault.Short) }
 {
     wrong(format!(in alloc;
-        "error: invalid value '{text}' for '--{word} <N>': it is no number from 1 to {bound}\n\nFor more information, try '--help'.\n"
+        "error: invalid value '{text}' for '--{word} <{name}>': it is no number from {least} to {most}\n\nFor more information, try '--help'.\n"
     ))
 }
 
@@ -235,18 +277,25 @@ fn wrong_words(alloc: Global, why: &str) -> ModeFault
     wrong(format!(in alloc; "error: {why}\n\nFor more information, try '--help'.\n"))
 }
 
+// The text behind this word, where one was given.
+fn given<'a>(words: &ArgMatches<'a>, word: &str) -> Option<&'a str>
+    ensures { option_map (λ t. t.now) result ≡ first_of word.now (rows_of (found_of words.now)) }
+{
+    words.get_str(word)
+}
+
 // Whether a text was given behind this word.
 fn has(words: &ArgMatches<'_>, word: &str) -> bool
-    ensures { result ≡ is_some (first_of word.now (rows_of (found_of words.now))) }
+    ensures { result ≡ has word.now (rows_of (found_of words.now)) }
 {
-    words.get_str(word).is_some()
+    given(words, word).is_some()
 }
 
 // The text behind this word, none where there is none.
 fn text<'a>(words: &ArgMatches<'a>, word: &str) -> &'a str
     ensures { result.now ≡ text_of word.now (rows_of (found_of words.now)) }
 {
-    words.get_str(word).unwrap_or("")
+    given(words, word).unwrap_or("")
 }
 
 // Whether this word was given, which takes no text.
@@ -256,55 +305,193 @@ fn is_given(words: &ArgMatches<'_>, word: &str) -> bool
     text(words, word) == "true"
 }
 
-// Whether a word was given that goes with a server that stands.
-fn has_others(words: &ArgMatches<'_>) -> bool
-    ensures { result ≡ has_others (rows_of (found_of words.now)) }
+// Whether a word was given that takes no text and goes with a server that stands.
+fn has_flags(words: &ArgMatches<'_>) -> bool
+    ensures { result ≡ has_flags (rows_of (found_of words.now)) }
 {
     is_given(words, "replace") || is_given(words, "until-eof") || is_given(words, "verbose")
 }
 
-// How many sessions the words ask for.
-fn sessions(alloc: Global, words: &ArgMatches<'_>) -> Result<u64, ModeFault>
-    ensures number { IfOk result (AsksFor (text_of (codes "N") (rows_of (found_of words.now)))) }
-    ensures rightly { (n : ℕ) → AsksFor (text_of (codes "N") (rows_of (found_of words.now))) n
+// Whether any word was given that goes with a server that stands, beside how many sessions at a time.
+fn has_others(words: &ArgMatches<'_>) -> bool
+    ensures { result ≡ has_others (rows_of (found_of words.now)) }
+{
+    has_flags(words)
+        || has(words, "history")
+        || has(words, "memory")
+        || has(words, "traces")
+        || has(words, "socket-fd")
+}
+
+// Whether a socket that is bound already is to be replaced.
+fn replaces_bound(words: &ArgMatches<'_>) -> bool
+    ensures { result ≡ replaces_bound (rows_of (found_of words.now)) }
+{
+    is_given(words, "replace") && has(words, "socket-fd")
+}
+
+// The number in the text behind this word, which help calls by that name.
+fn count(
+    alloc: Global,
+    word: &str,
+    name: &str,
+    text: &str,
+    least: u64,
+    most: u64,
+) -> Result<u64, ModeFault>
+    ensures number { IfOk result (IsCount least most text.now) }
+    ensures rightly { (n : ℕ) → IsCount least most text.now n → IsOk result }
+    ensures wrong { IfErr result (λ fault. IsUsage fault ⊎ (fault ≡ ModeFault.Short)) }
+{
+    match count_in(text, least, most) {
+        Some(count) => Ok(count),
+        None => Err(wrong_count(alloc, word, name, text, least, most)),
+    }
+}
+
+// The same where a text was given.
+fn count_if(
+    alloc: Global,
+    words: &ArgMatches<'_>,
+    word: &str,
+    name: &str,
+    least: u64,
+    most: u64,
+) -> Result<Option<u64>, ModeFault>
+    ensures number { let given = first_of word.now (rows_of (found_of words.now)) in
+        IfOk result (IsCountIf least most given) }
+    ensures rightly { CountsIf least most (first_of word.now (rows_of (found_of words.now)))
         → IsOk result }
     ensures wrong { IfErr result (λ fault. IsUsage fault ⊎ (fault ≡ ModeFault.Short)) }
 {
-    let number = text(words, "N");
-    match count_in(number, MOST_SESSIONS) {
-        Some(sessions) => Ok(sessions),
-        None => Err(wrong_count(alloc, "sessions", number, MOST_SESSIONS)),
+    let Some(text) = given(words, word) else {
+        return Ok(None);
+    };
+    match count(alloc, word, name, text, least, most) {
+        Ok(count) => Ok(Some(count)),
+        Err(fault) => Err(fault),
+    }
+}
+
+// How many sessions the words ask for.
+fn sessions(alloc: Global, words: &ArgMatches<'_>) -> Result<u64, ModeFault>
+    ensures number { let given = text_of (codes "sessions") (rows_of (found_of words.now)) in
+        IfOk result (AsksFor given) }
+    ensures rightly { let given = text_of (codes "sessions") (rows_of (found_of words.now)) in
+        (n : ℕ) → AsksFor given n → IsOk result }
+    ensures wrong { IfErr result (λ fault. IsUsage fault ⊎ (fault ≡ ModeFault.Short)) }
+{
+    let text = text(words, "sessions");
+    count(alloc, "sessions", "N", text, 1, MOST_SESSIONS)
+}
+
+// How many at a time.
+fn at_once(alloc: Global, words: &ArgMatches<'_>) -> Result<u64, ModeFault>
+    ensures number { let given = text_of (codes "at-once") (rows_of (found_of words.now)) in
+        IfOk result (AsksAtOnce given) }
+    ensures rightly { let given = text_of (codes "at-once") (rows_of (found_of words.now)) in
+        (n : ℕ) → AsksAtOnce given n → IsOk result }
+    ensures wrong { IfErr result (λ fault. IsUsage fault ⊎ (fault ≡ ModeFault.Short)) }
+{
+    let text = text(words, "at-once");
+    count(alloc, "at-once", "N", text, 1, MOST_AT_ONCE)
+}
+
+// From how many entries on a history is cut.
+fn history(alloc: Global, words: &ArgMatches<'_>) -> Result<u64, ModeFault>
+    ensures number { IfOk result (AsksHistory (rows_of (found_of words.now))) }
+    ensures rightly { CountsIf 1 1000000 (first_of (codes "history") (rows_of (found_of words.now)))
+        → IsOk result }
+    ensures wrong { IfErr result (λ fault. IsUsage fault ⊎ (fault ≡ ModeFault.Short)) }
+{
+    match count_if(alloc, words, "history", "K", 1, MOST_HISTORY) {
+        Ok(Some(count)) => Ok(count),
+        Ok(None) => Ok(HISTORY),
+        Err(fault) => Err(fault),
+    }
+}
+
+// How many entries all histories hold together.
+fn memory(alloc: Global, words: &ArgMatches<'_>) -> Result<u64, ModeFault>
+    ensures number { IfOk result (AsksMemory (rows_of (found_of words.now))) }
+    ensures rightly { let given = first_of (codes "memory") (rows_of (found_of words.now)) in
+        CountsIf 1024 1000000000 given → IsOk result }
+    ensures wrong { IfErr result (λ fault. IsUsage fault ⊎ (fault ≡ ModeFault.Short)) }
+{
+    match count_if(alloc, words, "memory", "M", LEAST_MEMORY, MOST_MEMORY) {
+        Ok(Some(count)) => Ok(count),
+        Ok(None) => Ok(MEMORY),
+        Err(fault) => Err(fault),
+    }
+}
+
+// The folder that is named for what was cut.
+fn traces(alloc: Global, words: &ArgMatches<'_>) -> Result<Option<String>, AllocError>
+    ensures { let given = first_of (codes "traces") (rows_of (found_of words.now)) in
+        IfOk result (λ folder. option_map string_bytes folder ≡ given) }
+{
+    let Some(folder) = given(words, "traces") else {
+        return Ok(None);
+    };
+    match String::from_str(alloc, folder) {
+        Ok(folder) => Ok(Some(folder)),
+        Err(e) => Err(e),
     }
 }
 
 // How a server that stands is to run.
 fn standing(alloc: Global, words: &ArgMatches<'_>) -> Result<Standing, ModeFault>
     ensures by { IfOk result (StandsBy (rows_of (found_of words.now))) }
-    ensures rightly { (n : ℕ)
-        → AsksAtOnce (text_of (codes "AT_ONCE") (rows_of (found_of words.now))) n → IsOk result }
+    ensures within { IfOk result (λ how. IsWithin (Serving.Standing how)) }
+    ensures rightly { let rows = rows_of (found_of words.now) in
+        (n : ℕ) → AsksAtOnce (text_of (codes "at-once") rows) n → AreRight rows
+        → IfErr result (λ fault. fault ≡ ModeFault.Short) }
     ensures wrong { IfErr result (λ fault. IsUsage fault ⊎ (fault ≡ ModeFault.Short)) }
 {
-    let number = text(words, "AT_ONCE");
-    match count_in(number, MOST_AT_ONCE) {
-        Some(at_once) => Ok(Standing {
-            at_once,
-            replaces: is_given(words, "replace"),
-            until_eof: is_given(words, "until-eof"),
-            is_verbose: is_given(words, "verbose"),
-        }),
-        None => Err(wrong_count(alloc, "at-once", number, MOST_AT_ONCE)),
+    if replaces_bound(words) {
+        return Err(wrong_words(alloc, REPLACE_OR_SOCKET_FD));
     }
+    let at_once = match at_once(alloc, words) {
+        Ok(at_once) => at_once,
+        Err(fault) => return Err(fault),
+    };
+    let history = match history(alloc, words) {
+        Ok(history) => history,
+        Err(fault) => return Err(fault),
+    };
+    let memory = match memory(alloc, words) {
+        Ok(memory) => memory,
+        Err(fault) => return Err(fault),
+    };
+    let socket_fd = match count_if(alloc, words, "socket-fd", "FD", LEAST_FD, MOST_FD) {
+        Ok(socket_fd) => socket_fd,
+        Err(fault) => return Err(fault),
+    };
+    let Ok(traces) = traces(alloc, words) else {
+        return Err(ModeFault::Short);
+    };
+    Ok(Standing {
+        at_once,
+        replaces: is_given(words, "replace"),
+        until_eof: is_given(words, "until-eof"),
+        is_verbose: is_given(words, "verbose"),
+        history,
+        memory,
+        traces,
+        socket_fd,
+    })
 }
 
 // How many sessions are served, by the words behind the mode's name.
 fn serving(alloc: Global, words: &ArgMatches<'_>) -> Result<Serving, ModeFault>
     ensures by { IfOk result (ServesBy (rows_of (found_of words.now))) }
     ensures within { IfOk result IsWithin }
-    ensures rightly { (n : ℕ) → AsksRightly (rows_of (found_of words.now)) n → IsOk result }
+    ensures rightly { (n : ℕ) → AsksRightly (rows_of (found_of words.now)) n
+        → IfErr result (λ fault. fault ≡ ModeFault.Short) }
     ensures wrong { IfErr result (λ fault. IsUsage fault ⊎ (fault ≡ ModeFault.Short)) }
 {
-    let has_sessions = has(words, "N");
-    let has_at_once = has(words, "AT_ONCE");
+    let has_sessions = has(words, "sessions");
+    let has_at_once = has(words, "at-once");
     if has_sessions == has_at_once {
         return Err(wrong_words(alloc, SESSIONS_OR_AT_ONCE));
     }

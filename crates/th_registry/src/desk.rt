@@ -16,8 +16,8 @@ use th_model::{Listing, Making, NameRef, Question, ReceiverVerb, SenderVerb, Sho
 /// The most calls of one handle that a desk is asked to have ready at once ([`Desk::ready`], [`Desk::send_ahead`]).
 pub const MOST_READY: usize = 64;
 
-/// Topics by name. Each call but `find`, `list`, `cut`, `wake`, `ready`, `wait` and `send_ahead` is one event, on the topic of that
-/// number or of the registry, or none; `resubscribe` is both of its events, or none. By which side of handles an event is made
+/// Topics by name. Each call but `find`, `list`, `cut`, `give_back`, `wake`, `ready`, `wait` and `send_ahead` is one event, on the
+/// topic of that number or of the registry, or none; `resubscribe` is both of its events, or none. By which side of handles an event is made
 /// is the call's name and the type of its verb. An event's receipt is handed out, but for the end of a handle.
 pub trait Desk: Drop {
     /// A sender of a topic.
@@ -129,6 +129,10 @@ pub trait Desk: Drop {
     /// Hands out the topic's segment so far, and begins the next one. It is no event.
     fn cut(&mut self, topic: TopicId) -> Result<TopicSegment, NoEvent>
         ensures { says self.old (Cut topic.0) result self.new };
+
+    /// Takes back a segment that was handed out and answered: a desk that keeps histories keeps it. It is no event.
+    fn give_back(&mut self, topic: TopicId, segment: TopicSegment)
+        ensures { self.new ≡ self.old };
 
     /// Wakes who waits for what was done here since. It is no event. Nothing is claimed of waking.
     fn wake(&mut self)

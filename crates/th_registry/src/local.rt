@@ -221,6 +221,8 @@ impl Desk for LocalDesk {
         event::cut(channel)
     }
 
+    fn give_back(&mut self, _topic: TopicId, _segment: TopicSegment) {}
+
     fn wake(&mut self) {}
 
     fn send_ahead(&mut self, _topic: TopicId, _sender: &mut TxId, _values: &[Value]) {}

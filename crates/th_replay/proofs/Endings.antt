@@ -32,11 +32,11 @@ told lines texts now t = let r = turned_text answers lines seen_start texts now 
 
 module _ {W D : Type 0} (contents : W → Option (List ℕ)) where
   -- one line was answered
-  pub takes_on : (line : Line) (old new : Progress × D × Tally W) (text : List ℕ) (r : Result (Unit {0}) WriteFailed) →
+  pub takes_on : (taken : ℕ) (line : Line) (old new : Progress × D × Tally W) (text : List ℕ) (r : Result (Unit {0}) WriteFailed) →
       Turns answers old.0.hub line text new.0.hub
-      → AddsOrFails text (stands contents old).1 (stands contents new).1 r → Takes (Took contents) (IsBroken contents) line old r new
-  takes_on line old new text (Ok x) t said = λ from lines a. answers_line a line text (stands contents new) t said
-  takes_on line old new text (Err why) t front = λ from lines a.
+      → AddsOrFails text (stands contents old).1 (stands contents new).1 r → Takes (Took contents) (IsBroken contents) taken line old r new
+  takes_on taken line old new text (Ok x) t said = λ from lines many a. answers_line a line text (stands contents new) t said
+  takes_on taken line old new text (Err why) t front = λ from lines many a.
       breaks_after a (breaks_at false (stands contents old) line text (stands contents new) t front)
 
   -- all replies that waited were written

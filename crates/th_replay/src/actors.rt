@@ -215,7 +215,7 @@ impl Hub {
             }
             told => {
                 let put = session.put_answer(told, out, writer);
-                session.let_go(Keeping::Nothing);
+                session.let_go(&mut self.desk, Keeping::Nothing);
                 put
             }
         }
@@ -257,7 +257,7 @@ impl Hub {
         if is_over {
             return put;
         }
-        session.let_go(Keeping::Nothing);
+        session.let_go(&mut self.desk, Keeping::Nothing);
         let Ok(_) = self.actors.insert(name.to_name(), session) else {
             unreachable!();
         };

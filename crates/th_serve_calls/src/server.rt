@@ -1,4 +1,5 @@
 //! Calls of th_server. Only `main` has a runtime that may wait, so they take one by its bounds.
+use std::alloc::Global;
 use std::fs::File;
 use std::io::{Eprint, Input, Print};
 use std::net::Net;
@@ -6,7 +7,13 @@ use std::rt::Files;
 use std::sync::Wait;
 use std::thread::Threads;
 use std::time::Clock;
-use th_server::serve_by_words;
+use th_model::Name;
+use th_registry::channel::TopicSegment;
+use th_server::{Store, serve_by_words};
+
+pub fn store<R: Store>(rt: &R, alloc: Global, topic: &Name, part: &TopicSegment) -> bool {
+    rt.store(alloc, "traces", topic, part)
+}
 
 pub fn serve<
     R: Threads
@@ -19,6 +26,7 @@ pub fn serve<
         + Eprint
         + Input
         + Files<File = File>
+        + Store
         + Net
         + AllocGlobal,
 >(rt: &R, words: &[String]) {

@@ -1,9 +1,10 @@
 //! Serves any number of connections, so many at a time.
 use crate::client::Client;
 use crate::connections::Connections;
+use crate::parts::{Keeper, Store, folder};
 use crate::serve::Teller;
 use crate::socket;
-use crate::socket::SocketFault;
+use crate::socket::{Socket, SocketFault};
 use std::alloc::Global;
 use std::fs::File;
 use std::io::{Eprint, Input, Print, Read};
@@ -11,13 +12,14 @@ use std::net::{Net, Shutdown};
 use std::os::unix::net::{UnixListener, UnixStream};
 use std::rt::Files;
 use std::sync::{Arc, Wait};
-use std::thread::{Threads, sleep};
+use std::thread;
+use std::thread::{JoinHandle, Scope, Threads, sleep};
 use std::time::{Clock, Duration};
-use std::{fs, thread};
 use th_lines::Counted;
+use th_model::Kind;
 use th_program::{End, Standing};
-use th_session::{Bounds, Keeping, run_session};
-use th_shared::{Observer, SharedDesk};
+use th_session::{Bounds, Keeping, SessionFault, run_session};
+use th_shared::{Histories, Observer, SharedDesk};
 
 // How long a worker waits after a connection that could not be accepted, in milliseconds: descriptors may come back.
 const PAUSE: u64 = 100;
@@ -33,10 +35,11 @@ fn attend<R: Wait + Clock + Clone + Eprint>(
     connections: &Connections,
     stream: &UnixStream,
 ) {
+    let number = connections.begin();
     let Ok(mut desk) = shared.another() else {
+        Teller { rt }.ended(number, Some(SessionFault::Short));
         return;
     };
-    let number = connections.begin();
     let client = Client {
         connections,
         stream,
@@ -59,17 +62,27 @@ fn attend<R: Wait + Clock + Clone + Eprint>(
     }
 }
 
-// The next connection; none where none could be accepted.
-fn accept(
+// The next connection; none where none could be accepted. One for which there is no memory is a session that had none.
+fn accept<R: Eprint>(
+    rt: &R,
     alloc: Global,
     listener: &UnixListener,
     connections: &Connections,
 ) -> Option<Arc<UnixStream>> {
     connections.accepts(true);
+    // Whoever ends the server sees that this one waits, or this one sees the end.
+    if connections.is_ending() {
+        connections.accepts(false);
+        return None;
+    }
     let accepted = listener.accept();
     connections.accepts(false);
     let (stream, _) = accepted.ok()?;
-    Arc::new(alloc, stream).ok()
+    let kept = Arc::new(alloc, stream);
+    if kept.is_err() {
+        Teller { rt }.ended(connections.begin(), Some(SessionFault::Short));
+    }
+    kept.ok()
 }
 
 // Serves one connection after another at this place, until the server ends.
@@ -85,7 +98,7 @@ fn work<R: Wait + Clock + Clone + Eprint>(
         if connections.is_ending() {
             return;
         }
-        let Some(stream) = accept(alloc, listener, connections) else {
+        let Some(stream) = accept(rt, alloc, listener, connections) else {
             sleep(rt, Duration::from_millis(PAUSE));
             continue;
         };
@@ -114,9 +127,11 @@ fn read_to_end<R: Input + Wait>(rt: &R) {
     }
 }
 
-// Ends all sessions: each one's input, and after a while both its sides. A worker that waits for a connection gets one.
-fn end_all<R: Wait + Clock + Net>(rt: &R, path: &str, connections: &Connections) {
+// Ends all sessions: each one's input, and after a while both its sides. A worker that waits for a connection at a socket that was
+// handed over gets one; where nobody can connect there, that socket ends too.
+fn end_all<R: Wait + Clock + Net>(rt: &R, path: &str, made: &Socket, connections: &Connections) {
     connections.end();
+    made.close_own();
     connections.shut(rt, Shutdown::Read);
     for _ in 0..LAST {
         if connections.is_accepting() {
@@ -127,75 +142,149 @@ fn end_all<R: Wait + Clock + Net>(rt: &R, path: &str, connections: &Connections)
         sleep(rt, Duration::from_millis(1));
     }
     connections.shut(rt, Shutdown::Both);
+    if connections.is_accepting() {
+        made.close();
+    }
 }
 
-// Serves at this socket, which stands at the path, and says when clients can connect.
-fn serve_at<R: Threads + Wait + Clock + Clone + Send + Sync + Print + Eprint + Net + Input>(
+// A thread that keeps the parts of topics of this kind, where one can be started.
+fn start_keeper<'s, E, R: Wait + Clock + Clone + Send + Sync + Eprint + Store>(
+    scope: &Scope<'s, E>,
+    rt: &'s R,
+    alloc: Global,
+    shared: &'s SharedDesk<R>,
+    histories: &'s Histories,
+    keeper: &'s Keeper<'s>,
+    kind: Kind,
+) -> Option<JoinHandle<()>> {
+    match scope.spawn(move || keeper.keep_all(rt, alloc, shared, histories, kind)) {
+        Ok(handle) => Some(handle),
+        Err(_) => None,
+    }
+}
+
+// Serves at this socket, which stands at the path, and says when clients can connect: by threads of this scope.
+fn serve_all<
+    's,
+    E,
+    R: Threads + Wait + Clock + Clone + Send + Sync + Print + Eprint + Store + Net + Input,
+>(
+    scope: &Scope<'s, E>,
+    rt: &'s R,
+    alloc: Global,
+    path: &str,
+    made: &'s Socket,
+    shared: &'s SharedDesk<R>,
+    connections: &'s Connections,
+    keeper: &'s Keeper<'s>,
+    how: &Standing,
+) -> End {
+    let listener = &made.listener;
+    let Ok(mut workers) = Vec::with_capacity(alloc, how.at_once as usize) else {
+        return End::Short;
+    };
+    let Some(histories) = shared.histories() else {
+        return End::Short;
+    };
+    let one = start_keeper(scope, rt, alloc, shared, histories, keeper, Kind::Broadcast);
+    let other = start_keeper(scope, rt, alloc, shared, histories, keeper, Kind::Watch);
+    let mut end = if one.is_some() && other.is_some() {
+        End::Done
+    } else {
+        End::Short
+    };
+    let at_once = if end == End::Done { how.at_once } else { 0 };
+    for place in 0..at_once {
+        match scope.spawn(move || work(rt, alloc, shared, listener, connections, place)) {
+            Ok(worker) => {
+                let _ = workers.push(worker);
+            }
+            Err(_) => {
+                end = End::Short;
+                break;
+            }
+        }
+    }
+    if end == End::Done && println!(rt; "listening").is_err() {
+        end = End::Write;
+    }
+    if end == End::Done && how.until_eof {
+        read_to_end(rt);
+    }
+    if end != End::Done || how.until_eof {
+        end_all(rt, path, made, connections);
+    }
+    for worker in workers {
+        worker.join(rt);
+    }
+    histories.end(rt);
+    if let Some(one) = one {
+        one.join(rt);
+    }
+    if let Some(other) = other {
+        other.join(rt);
+    }
+    end
+}
+
+// The same, once all threads have ended.
+fn serve_at<R: Threads + Wait + Clock + Clone + Send + Sync + Print + Eprint + Store + Net + Input>(
     rt: &R,
     alloc: Global,
     path: &str,
-    listener: &UnixListener,
+    made: &Socket,
     shared: &SharedDesk<R>,
     connections: &Connections,
-    how: Standing,
+    keeper: &Keeper<'_>,
+    how: &Standing,
 ) -> End {
     thread::scope(thread::scope_env(), rt, |scope| {
-        let Ok(mut workers) = Vec::with_capacity(alloc, how.at_once as usize) else {
-            return End::Short;
-        };
-        let mut end = End::Done;
-        for place in 0..how.at_once {
-            match scope.spawn(move || work(rt, alloc, shared, listener, connections, place)) {
-                Ok(worker) => {
-                    let _ = workers.push(worker);
-                }
-                Err(_) => {
-                    end = End::Short;
-                    break;
-                }
-            }
-        }
-        if end == End::Done && println!(rt; "listening").is_err() {
-            end = End::Write;
-        }
-        if end == End::Done && how.until_eof {
-            read_to_end(rt);
-        }
-        if end != End::Done || how.until_eof {
-            end_all(rt, path, connections);
-        }
-        for worker in workers {
-            worker.join(rt);
-        }
-        end
+        serve_all(
+            scope,
+            rt,
+            alloc,
+            path,
+            made,
+            shared,
+            connections,
+            keeper,
+            how,
+        )
     })
 }
 
 // Serves at this socket, which stands at the path: how many sessions began, once the server was ended; or what else ended it.
-fn serve_on<R: Threads + Wait + Clock + Clone + Send + Sync + Print + Eprint + Net + Input>(
+fn serve_on<R: Threads + Wait + Clock + Clone + Send + Sync + Print + Eprint + Store + Net + Input>(
     rt: &R,
     alloc: Global,
     path: &str,
-    listener: &UnixListener,
-    how: Standing,
+    made: &Socket,
+    folder: Option<&str>,
+    how: &Standing,
 ) -> Result<u64, End> {
     let Ok(own) = rt.clone() else {
         return Err(End::Short);
     };
-    let Ok(desk) = SharedDesk::new(own, alloc) else {
+    let Ok(histories) = Histories::new(alloc, how.history, how.memory) else {
+        return Err(End::Short);
+    };
+    let Ok(desk) = SharedDesk::rolling(own, alloc, histories) else {
         return Err(End::Short);
     };
     let Ok(connections) = Connections::new(alloc, how.at_once) else {
         return Err(End::Short);
     };
-    match serve_at(rt, alloc, path, listener, &desk, &connections, how) {
+    let keeper = Keeper::new(folder);
+    let end = serve_at(rt, alloc, path, made, &desk, &connections, &keeper, how);
+    keeper.keep_last(rt, alloc, desk);
+    match end {
         End::Done => Ok(connections.begun()),
         end => Err(end),
     }
 }
 
-/// Makes a socket at the path, serves any number of connections, so many at a time, and removes the socket once it ends. Where it
-/// could not be made, why.
+/// Makes a socket at the path, or takes one that is bound there already, serves any number of connections, so many at a time, and
+/// removes the socket that it made once it ends. Where it could not begin, why.
 pub(crate) fn keep_serving<
     R: Threads
         + Wait
@@ -206,18 +295,26 @@ pub(crate) fn keep_serving<
         + Print
         + Eprint
         + Files<File = File>
+        + Store
         + Net
         + Input,
->(rt: &R, alloc: Global, path: &str, how: Standing) -> (End, Option<SocketFault>) {
-    let made = match socket::make(rt, alloc, path, how.replaces) {
+>(rt: &R, alloc: Global, path: &str, how: &Standing) -> (End, Option<SocketFault>) {
+    let made = match socket::find(rt, alloc, path, how) {
         Ok(made) => made,
         Err(fault) => return (End::Socket, Some(fault)),
     };
-    let end = serve_on(rt, alloc, path, &made.listener, how);
-    let _ = fs::remove_file(rt, path);
+    let traces = how.traces.as_ref().map(|dir| dir.as_str());
+    let (end, fault) = match folder(rt, alloc, traces) {
+        Ok(folder) => {
+            let folder = folder.as_ref().map(|name| name.as_str());
+            (serve_on(rt, alloc, path, &made, folder, how), None)
+        }
+        Err(()) => (Err(End::Write), Some(SocketFault::Traces)),
+    };
+    made.remove(rt, path);
     match end {
         Ok(begun) if println!(rt; "done {begun}").is_err() => (End::Write, None),
         Ok(_) => (End::Done, None),
-        Err(end) => (end, None),
+        Err(end) => (end, fault),
     }
 }

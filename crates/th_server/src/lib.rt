@@ -11,8 +11,10 @@
 mod client;
 mod connections;
 mod keep_serving;
+mod parts;
 mod serve;
 mod socket;
 mod words;
 
+pub use parts::Store;
 pub use words::serve_by_words;

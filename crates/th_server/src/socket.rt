@@ -1,13 +1,16 @@
 //! The socket of a server that stands.
+use os::FromRawFd;
 use std::alloc::Global;
 use std::fmt::Display;
 use std::fs;
 use std::fs::{File, Permissions};
 use std::io::ErrorKind;
-use std::net::Net;
+use std::net::{Net, Shutdown};
+use std::os::fd::OwnedFd;
 use std::os::unix::fs::{FileTypeExt, PermissionsExt};
 use std::os::unix::net::{UnixListener, UnixStream};
 use std::rt::Files;
+use th_program::Standing;
 use thiserror::Error;
 
 /// Nobody but the user who serves may connect.
@@ -31,6 +34,15 @@ pub(crate) enum SocketFault {
     /// It could not be bound, or not linked to the path.
     #[error("no socket can be made there")]
     Bind,
+    /// What was handed over is not at the path.
+    #[error("no socket stands there, so none was handed over")]
+    Missing,
+    /// What was handed over is no socket.
+    #[error("the descriptor that was handed over is no socket")]
+    NotHanded,
+    /// There is a socket, and no folder for traces.
+    #[error("no folder for the traces can be made")]
+    Traces,
     /// There was no memory.
     #[error("no memory")]
     Short,
@@ -41,7 +53,32 @@ pub(crate) enum SocketFault {
 pub(crate) struct Socket {
     pub(crate) listener: UnixListener,
     // Who has it is the one server at this path, from before the socket is made until it is removed. It ends with the process.
-    _lock: File,
+    // None where the socket was handed over: then it belongs to whoever made it.
+    lock: Option<File>,
+}
+
+impl Socket {
+    /// Nobody gets a connection any more: whoever waits for one is woken, and so is whoever waits to be accepted. It needs nothing at
+    /// the path.
+    pub(crate) fn close(&self) {
+        if let Ok(own) = self.listener.try_clone() {
+            let _ = UnixStream::from(OwnedFd::from(own)).shutdown(Shutdown::Both);
+        }
+    }
+
+    /// The same, where the socket was made here: one that was handed over goes on without this server.
+    pub(crate) fn close_own(&self) {
+        if self.lock.is_some() {
+            self.close();
+        }
+    }
+
+    /// Removes the socket at the path, if it was made here.
+    pub(crate) fn remove<R: Files>(self, rt: &R, path: &str) {
+        if self.lock.is_some() {
+            let _ = fs::remove_file(rt, path);
+        }
+    }
 }
 
 /// Why no socket could be bound at the path.
@@ -82,10 +119,10 @@ fn bound<R: Files + Net>(rt: &R, name: &str) -> Result<UnixListener, SocketFault
     }
 }
 
-/// Makes a socket at the path, with its mode before anybody can connect: it is bound beside it, and linked to the path. Where
-/// something stands there it stays, but for a socket whose server is gone, where such a one is to be replaced. Whether it is gone
-/// is decided by a lock on `PATH.lock`, a file that is left when the server ends.
-pub(crate) fn make<R: Files<File = File> + Net>(
+// Makes a socket at the path, with its mode before anybody can connect: it is bound beside it, and linked to the path. Where
+// something stands there it stays, but for a socket whose server is gone, where such a one is to be replaced. Whether it is gone
+// is decided by a lock on `PATH.lock`, a file that is left when the server ends.
+fn make<R: Files<File = File> + Net>(
     rt: &R,
     alloc: Global,
     path: &str,
@@ -112,9 +149,44 @@ pub(crate) fn make<R: Files<File = File> + Net>(
     match linked {
         Ok(()) => Ok(Socket {
             listener,
-            _lock: lock,
+            lock: Some(lock),
         }),
         Err(e) if e.kind() == ErrorKind::AlreadyExists => Err(SocketFault::Stands),
         Err(_) => Err(SocketFault::Bind),
+    }
+}
+
+// The socket that was handed over as this descriptor, and is bound at the path.
+fn inherited<R: Files>(rt: &R, path: &str, descriptor: u64) -> Result<Socket, SocketFault> {
+    let Ok(found) = fs::symlink_metadata(rt, path) else {
+        return Err(SocketFault::Missing);
+    };
+    if !found.file_type().is_socket() {
+        return Err(SocketFault::Missing);
+    }
+    let Ok(descriptor) = i32::try_from(descriptor) else {
+        return Err(SocketFault::Missing);
+    };
+    // Whoever started the server says that this is a socket that listens, and gives it up to the server.
+    let listener = unsafe { UnixListener::from_raw_fd(descriptor) };
+    if listener.local_addr().is_err() {
+        return Err(SocketFault::NotHanded);
+    }
+    Ok(Socket {
+        listener,
+        lock: None,
+    })
+}
+
+/// The socket of a server that is to run so: the one that was handed over, or one that is made at the path.
+pub(crate) fn find<R: Files<File = File> + Net>(
+    rt: &R,
+    alloc: Global,
+    path: &str,
+    how: &Standing,
+) -> Result<Socket, SocketFault> {
+    match how.socket_fd {
+        Some(descriptor) => inherited(rt, path, descriptor),
+        None => make(rt, alloc, path, how.replaces),
     }
 }

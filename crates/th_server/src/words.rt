@@ -4,6 +4,7 @@ ghost use Rattle.th_program.specs.Words.{AreServe, IsWithin, ServesBy, arguments
 ghost use Rattle.th_server.specs.Words.{asks_to_serve};
 
 use crate::keep_serving::keep_serving;
+use crate::parts::Store;
 use crate::serve::serve;
 use crate::socket::SocketFault;
 use std::alloc::{AllocError, Global};
@@ -82,6 +83,7 @@ pub fn serve_by_words<
         + Eprint
         + Input
         + Files<File = File>
+        + Store
         + Net
         + AllocGlobal,
 >(rt: &R, words: &[String], people: bool) -> Option<ExitCode>
@@ -104,7 +106,7 @@ pub fn serve_by_words<
             ended(rt, path, end, fault, people)
         }
         Serving::Standing(how) => {
-            let (end, fault) = keep_serving(rt, rt.alloc(), path, how);
+            let (end, fault) = keep_serving(rt, rt.alloc(), path, &how);
             ended(rt, path, end, fault, people || how.is_verbose)
         }
     })

@@ -1,5 +1,5 @@
 -- What a run comes to, by what was fed to it and what was written of the answers.
-use Rattle.std.proofs.Common.{◌≡◌, ℕ, ◌<◌, ◌≤◌, true, false, List, [], ◌++◌, length, take, refl, sym, ap, ◌∙◌, append_assoc, append-nil, arith, Option, subst, length-append}
+use Rattle.std.proofs.Common.{◌≡◌, Bool, ◌+◌, ℕ, ◌<◌, ◌≤◌, true, false, List, [], ◌++◌, length, take, refl, sym, ap, ◌∙◌, append_assoc, append-nil, arith, Option, subst, length-append}
 use Rattle.std.specs.Io.KnownBytes.{Appends}
 use Rattle.std.proofs.Math.Seq.{take-append_seam}
 use Rattle.std.proofs.lemmas.Bool.{false≢true}
@@ -144,9 +144,11 @@ module _ {P E : Type 0} {took : P → List Line → P → Type 0} {halts : P →
           wrote = wrote;
         }
 
-    -- and others are not
-    pub held_back : 0 < length later → (g : FirstAnswered answers f.limit old new writes) × (0 < length g.later)
+    -- and others are not, behind so many that it may be
+    pub held_back : (may_say_no : ℕ → Bool) → 0 < length later → may_say_no (0 + length first) ≡ true →
+        (g : FirstAnswered answers f.limit old new writes) × (0 < length g.later) × (may_say_no (length g.first) ≡ true)
     unfolding first_halted
-    held_back some =
+    held_back may_say_no some may =
         let more = s.lines f.ended [] (λ e. (e, refl)) in
-        (first_halted, omega (arith, some, length-append later more.0))
+        let so_many : length first ≡ 0 + length first = omega arith in
+        (first_halted, omega (arith, some, length-append later more.0), ap may_say_no so_many ∙ may)

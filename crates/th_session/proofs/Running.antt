@@ -1,5 +1,5 @@
 -- How a session's run goes on, and how it ends.
-use Rattle.std.proofs.Common.{◌≡◌, inl, inr, ℕ, ◌+◌, ◌≤◌, Bool, true, false, List, [], ◌∷◌, ◌++◌, refl, sym, ap, ◌∙◌, append-nil, arith, Option, Some, Ok, Err, subst}
+use Rattle.std.proofs.Common.{◌≡◌, inl, inr, ℕ, ◌+◌, ◌≤◌, Bool, true, false, List, [], ◌∷◌, ◌++◌, length, refl, sym, ap, ◌∙◌, append-nil, length-append, arith, Option, Some, Ok, Err, subst}
 use Rattle.std.specs.List.{concat}
 use Rattle.std.specs.Io.KnownBytes.{Appends}
 use Rattle.std.specs.Prelude.{Result}
@@ -28,7 +28,7 @@ use Rattle.th_session.specs.declared.session.Answer as session
 use Rattle.th_session.specs.Answer.{said}
 use Rattle.th_session.specs.Ending.{AppendsFront, Devices}
 use Rattle.th_session.specs.Kept.{IsKept, Kept, Tells, kept_by, told}
-use Rattle.th_session.specs.Run.{AnsweredBy, EndsBefore, Enters, HeldBack, Progress, Halts, IsAnswered, IsOver, Ran, Served, Serves, Took, fault_by, beginning, line_turn, may_wait, nothing_had, quitting, stands, tells_bye, writer_failures}
+use Rattle.th_session.specs.Run.{AnsweredBy, EndsBefore, Enters, HeldBack, Progress, Halts, IsAnswered, IsOver, Ran, Served, Serves, Took, fault_by, beginning, line_turn, may_wait, nothing_had, Strictness, holds_next, quitting, stands, tells_bye, writer_failures}
 use Rattle.th_session.specs.Script.{Answer, Replied, Told, Traced, has_quit}
 use Rattle.th_session.proofs.Endings.{all_answered, appended, first_halted, first_whole, first_within, fronts, held_back, past_lines, whole_answered}
 use Rattle.th_session.proofs.Kept.{as-before, keeps_as}
@@ -39,22 +39,34 @@ tells_quit (Replied reply) = refl
 tells_quit (Told n receipt) = refl
 tells_quit (Traced n segment) = refl
 
-module _ {D : Type 0} (keeping : Keeping) (says : D → (q : Query) → Said q → D → Type 0) where
+-- so many lines, and no further one
+none_more : (may_say_no : ℕ → Bool) (n : ℕ) → may_say_no n ≡ true → may_say_no (n + 0) ≡ true
+none_more may_say_no n may = let e : n + 0 ≡ n = omega arith in ap may_say_no e ∙ may
+
+-- behind these lines, and so many of the next
+all_more : (may_say_no : ℕ → Bool) (n : ℕ) (lines done : List Line) → n ≡ length lines → may_say_no (n + length done) ≡ true →
+    may_say_no (0 + length (lines ++ done)) ≡ true
+all_more may_say_no n lines done many may =
+    let e : 0 + length (lines ++ done) ≡ n + length done = omega (arith, length-append lines done) in ap may_say_no e ∙ may
+
+module _ {D : Type 0} (keeping : Keeping) (says : D → (q : Query) → Said q → D → Type 0) (gate : Strictness) (answered : ℕ) where
   -- it is to end before a line
-  halts_here : (line : Line) (at : Kept × D) (before after : Output) (why : Stop) → Enters {A = Unit {0}} before after (Err why)
-      → Halts keeping says (at, before) (line ∷ []) why (at, after)
+  halts_here : (line : Line) (at : Kept × D) (before after : Output) (why : Stop) →
+      Enters {A = Unit {0}} gate answered before after (Err why) → Halts keeping says gate answered (at, before) (line ∷ []) why (at, after)
   unfolding breaks_here
   halts_here line at before after stop.Quit never = absurd never
-  halts_here line at before after stop.Gate said = (breaks_here true ((at, false), before) (line ∷ []) after said, omega arith)
-  halts_here line at before after stop.Gone said = (breaks_here true ((at, false), before) (line ∷ []) after said, omega arith)
+  halts_here line at before after stop.Gate said =
+      (breaks_here true ((at, false), before) (line ∷ []) after said.0, omega arith, none_more (holds_next gate) answered said.1)
+  halts_here line at before after stop.Gone said =
+      (breaks_here true ((at, false), before) (line ∷ []) after said.0, omega arith, said.1)
   halts_here line at before after stop.Write said = (false, breaks_here false ((at, false), before) (line ∷ []) after said)
 
   -- a line was not let through
   pub kept_out : (line : Line) (s : Kept) (d e : D) (before after : Output) (why : Stop) → e ≡ d →
-      Enters {A = Unit {0}} before after (Err why)
-      → Halts keeping says ((s, d), before) (line ∷ []) why ((s, e), after)
+      Enters {A = Unit {0}} gate answered before after (Err why)
+      → Halts keeping says gate answered ((s, d), before) (line ∷ []) why ((s, e), after)
   kept_out line s d e before after why same said =
-      subst (λ (x : D). Halts keeping says ((s, d), before) (line ∷ []) why ((s, x), after)) (sym same)
+      subst (λ (x : D). Halts keeping says gate answered ((s, d), before) (line ∷ []) why ((s, x), after)) (sym same)
       (halts_here line (s, d) before after why said)
 
   -- what is kept after a line
@@ -63,20 +75,20 @@ module _ {D : Type 0} (keeping : Keeping) (says : D → (q : Query) → Said q �
   keeps_line Long old new answer w = as-before says old.0 old.1 new.0 answer (Refused Codes.LongLine) w.0 (ap (λ (s : Kept × D). s.0) w.1)
 
   -- nothing was said before it
-  enters_after : (before entered after : Output) (why : Stop) → Adds [] before entered → Enters {A = Unit {0}} entered after (Err why)
-      → Enters {A = Unit {0}} before after (Err why)
+  enters_after : (before entered after : Output) (why : Stop) → Adds [] before entered →
+      Enters {A = Unit {0}} gate answered entered after (Err why) → Enters {A = Unit {0}} gate answered before after (Err why)
   enters_after before entered after stop.Quit p never = never
-  enters_after before entered after stop.Gate p q = adds_both p q
-  enters_after before entered after stop.Gone p q = adds_both p q
+  enters_after before entered after stop.Gate p q = (adds_both p q.0, q.1)
+  enters_after before entered after stop.Gone p q = (adds_both p q.0, q.1)
   enters_after before entered after stop.Write p f = front_after [] p f
 
   -- it was let through
   module _ (line : Line) (s : Kept) (d e : D) (new : Kept × D) (before entered after : Output) (same : e ≡ d) (p : Adds [] before entered)
     where
       -- and not carried out
-      pub in_time_broken : (why : Stop) → new ≡ (s, e) → Enters {A = Unit {0}} entered after (Err why) →
-          Halts keeping says ((s, d), before) (line ∷ []) why (new, after)
-      in_time_broken why at said = subst (λ (x : Kept × D). Halts keeping says ((s, d), before) (line ∷ []) why (x, after))
+      pub in_time_broken : (why : Stop) → new ≡ (s, e) → Enters {A = Unit {0}} gate answered entered after (Err why) →
+          Halts keeping says gate answered ((s, d), before) (line ∷ []) why (new, after)
+      in_time_broken why at said = subst (λ (x : Kept × D). Halts keeping says gate answered ((s, d), before) (line ∷ []) why (x, after))
           (sym (at ∙ ap (λ (x : D). (s, x)) same)) (halts_here line (s, d) before after why (enters_after before entered after why p said))
 
       -- it was carried out
@@ -101,15 +113,17 @@ module _ {D : Type 0} (keeping : Keeping) (says : D → (q : Query) → Said q �
           put_on : Adds (said t.0) before after
           put_on = adds_both p (adds_both q (put t.0 s t.1 kept))
 
-          pub carries : false ≡ tells_bye tells → Serves keeping says {A = Unit {0}} line ((s, d), before) ((left, new.1), after) (Ok tt)
+          pub carries : false ≡ tells_bye tells →
+              Serves keeping says gate answered {A = Unit {0}} line ((s, d), before) ((left, new.1), after) (Ok tt)
           carries stays = (said t.0, turned false stays, put_on)
 
-          pub quits : true ≡ tells_bye tells → Halts keeping says ((s, d), before) (line ∷ []) stop.Quit ((left, new.1), after)
+          pub quits : true ≡ tells_bye tells →
+              Halts keeping says gate answered ((s, d), before) (line ∷ []) stop.Quit ((left, new.1), after)
           quits bye = breaks_at true (((s, d), false), before) line (said t.0) (((left, new.1), true), after) (turned true bye) put_on
 
         pub carries_broken : ((answer : Answer) (had : Kept) → tells ≡ told answer → IsKept had answer new.0 →
             WritesFront (mid.waiting ++ said answer) mid after)
-            → Halts keeping says ((s, d), before) (line ∷ []) stop.Write ((left, new.1), after)
+            → Halts keeping says gate answered ((s, d), before) (line ∷ []) stop.Write ((left, new.1), after)
         carries_broken put =
             let quit : Bool = tells_bye tells in (
               quit,
@@ -117,62 +131,72 @@ module _ {D : Type 0} (keeping : Keeping) (says : D → (q : Query) → Said q �
                   (front_after (said t.0) p (front_after (said t.0) q (put t.0 s t.1 kept))),
             )
 
-  -- it is to end behind lines that were answered
-  halts_after : (from old new : (Kept × D) × Output) (lines more : List Line) (why : Stop)
+  -- it is to end behind lines that were answered, the first ones of all
+  halts_after : (from old new : (Kept × D) × Output) (lines more : List Line) (why : Stop) → answered ≡ length lines
       → Answers (line_turn keeping says) (quitting false from) lines (quitting false old)
-      → Halts keeping says old more why new → Halts keeping says from (lines ++ more) why new
+      → Halts keeping says gate answered old more why new → Halts keeping says gate 0 from (lines ++ more) why new
   unfolding breaks_after
-  halts_after from old new lines more stop.Quit a b = breaks_after a b
-  halts_after from old new lines more stop.Gate a b = (breaks_after a b.0, b.1)
-  halts_after from old new lines more stop.Gone a b = (breaks_after a b.0, b.1)
-  halts_after from old new lines more stop.Write a b = (b.0, breaks_after a b.1)
+  halts_after from old new lines more stop.Quit many a b = breaks_after a b
+  halts_after from old new lines more stop.Gate many a b =
+      (breaks_after a b.0, b.1, all_more (holds_next gate) answered lines b.0.done many b.2)
+  halts_after from old new lines more stop.Gone many a b = (breaks_after a b.0, b.1, b.2)
+  halts_after from old new lines more stop.Write many a b = (b.0, breaks_after a b.1)
 
-module _ {W D : Type 0} (says : D → (q : Query) → Said q → D → Type 0) (contents : W → Option (List ℕ)) where
+module _ {W D G : Type 0} (says : D → (q : Query) → Said q → D → Type 0) (strict : G × ℕ → Strictness)
+    (contents : W → Option (List ℕ)) where
   -- a run takes a line
-  pub takes_on : (line : Line) (old new : Progress × D × Tally W) (r : Result (Unit {0}) Stop) →
-      new.0.keeping ≡ old.0.keeping
-      → Serves old.0.keeping says line (stands contents old) (stands contents new) r →
-      Takes (Took says contents) (IsOver says contents) line old r new
-  takes_on line old new (Ok x) same s = λ from lines t.
-      let s' = subst (λ (k : Keeping). Serves k says line (stands contents old) (stands contents new) (Ok x)) t.0 s in
-      (same ∙ t.0, answers_line t.1 line s'.0 (quitting false (stands contents new)) s'.1 s'.2)
-  takes_on line old new (Err why) same s = λ from lines t.
-      halts_after from.0.keeping says (stands contents from) (stands contents old) (stands contents new) lines (line ∷ []) why t.1
-      (subst (λ (k : Keeping). Halts k says (stands contents old) (line ∷ []) why (stands contents new)) t.0 s)
+  pub takes_on : (taken : ℕ) (line : Line) (old new : Progress G × D × Tally W) (r : Result (Unit {0}) Stop) →
+      new.0.keeping ≡ old.0.keeping → new.0.gate ≡ old.0.gate
+      → Serves old.0.keeping says (strict old.0.gate) taken line (stands contents old) (stands contents new) r →
+      Takes (Took says strict contents) (IsOver says strict contents) taken line old r new
+  takes_on taken line old new (Ok x) same gate s = λ from lines many t.
+      let served : Keeping → Type 0 =
+      λ k. Serves k says (strict old.0.gate) taken line (stands contents old) (stands contents new) (Ok x) in
+      let s' = subst (λ (k : Keeping). served k) t.0 s in
+      (same ∙ t.0, gate ∙ t.1, answers_line t.2 line s'.0 (quitting false (stands contents new)) s'.1 s'.2)
+  takes_on taken line old new (Err why) same gate s = λ from lines many t.
+      let halted : G × ℕ → Keeping → Type 0 =
+      λ g k. Halts k says (strict g) taken (stands contents old) (line ∷ []) why (stands contents new) in
+      halts_after from.0.keeping says (strict from.0.gate) taken (stands contents from) (stands contents old) (stands contents new) lines
+      (line ∷ []) why many t.2
+      (subst (λ (g : G × ℕ). halted g from.0.keeping) t.1 (subst (λ (k : Keeping). halted old.0.gate k) t.0 s))
 
   -- it settles
-  pub settles_on : (old new : Progress × D × Tally W) → new.0.keeping ≡ old.0.keeping → new.0.kept ≡ old.0.kept → new.1 ≡ old.1
+  pub settles_on : (old new : Progress G × D × Tally W) → new.0.keeping ≡ old.0.keeping → new.0.gate ≡ old.0.gate
+      → new.0.kept ≡ old.0.kept → new.1 ≡ old.1
       → WritesAll old.0.waiting (stands contents old).1 (stands contents new).1 × (new.0.waiting ≡ [])
-      → Settles (Took says contents) (IsOver says contents) {A = Unit {0}} (λ p. p.0.waiting ≡ []) old (Ok tt) new
-  settles_on old new same actor desk f = (
+      → Settles (Took says strict contents) (IsOver says strict contents) {A = Unit {0}} (λ p. p.0.waiting ≡ []) old (Ok tt) new
+  settles_on old new same gate actor desk f = (
     λ from lines t. (
       same ∙ t.0,
+      gate ∙ t.1,
       subst (λ (x : Kept × D). Answers (line_turn from.0.keeping says) (quitting false (stands contents from)) lines
           ((x, false), (stands contents new).1))
-          (λ i. (sym actor i, sym desk i)) (answers_on t.1 (stands contents new).1 (flushed_adds f.0 f.1)),
+          (λ i. (sym actor i, sym desk i)) (answers_on t.2 (stands contents new).1 (flushed_adds f.0 f.1)),
     ),
     f.1,
   )
 
-  pub settles_broken : (old new : Progress × D × Tally W) → new.0.kept ≡ old.0.kept → new.1 ≡ old.1
+  pub settles_broken : (old new : Progress G × D × Tally W) → new.0.kept ≡ old.0.kept → new.1 ≡ old.1
       → WritesFront old.0.waiting (stands contents old).1 (stands contents new).1
-      → (from : Progress × D × Tally W) (lines : List Line) → Took says contents from lines old →
-      IsOver says contents from lines stop.Write new
+      → (from : Progress G × D × Tally W) (lines : List Line) → Took says strict contents from lines old →
+      IsOver says strict contents from lines stop.Write new
   settles_broken old new actor desk f from lines t =
       let at = (stands contents old).0 in
       let out = (stands contents new).1 in
       let front = waiting_front (adds_none (stands contents old).1) f in
-      let b = breaks_after t.1 (breaks_here false ((at, false), (stands contents old).1) [] out front) in
-      subst (λ (x : Kept × D). Halts from.0.keeping says (stands contents from) lines stop.Write (x, out))
-      (λ i. (sym actor i, sym desk i))
-      (subst (λ (ls : List Line). Halts from.0.keeping says (stands contents from) ls stop.Write (at, out)) (append-nil lines) (false, b))
+      let b = breaks_after t.2 (breaks_here false ((at, false), (stands contents old).1) [] out front) in
+      let over : List Line → Kept × D → Type 0 =
+      λ ls x. Halts from.0.keeping says (strict from.0.gate) 0 (stands contents from) ls stop.Write (x, out) in
+      subst (λ (x : Kept × D). over lines x) (λ i. (sym actor i, sym desk i))
+      (subst (λ (ls : List Line). over ls at) (append-nil lines) (false, b))
 
 -- A run from its beginning on, its devices before and after it, and where it stands.
-module _ {W D : Type 0} (keeping : Keeping) (says : D → (q : Query) → Said q → D → Type 0) (contents : W → Option (List ℕ))
-    (old new : Devices) (d : D) (w : Tally W) (before : old.contents ≡ contents w.device) (f : Feeding)
-    (now : Progress × D × Tally W) (few : f.taken ≤ f.limit) where
-  abbrev first : Progress × D × Tally W
-  first = (beginning keeping, d, w)
+module _ {W D G : Type 0} (keeping : Keeping) (says : D → (q : Query) → Said q → D → Type 0) (strict : G × ℕ → Strictness)
+    (gate : G × ℕ) (contents : W → Option (List ℕ)) (old new : Devices) (d : D) (w : Tally W)
+    (before : old.contents ≡ contents w.device) (f : Feeding) (now : Progress G × D × Tally W) (few : f.taken ≤ f.limit) where
+  abbrev first : Progress G × D × Tally W
+  first = (beginning keeping gate, d, w)
 
   abbrev out : Output
   out = output contents w []
@@ -186,7 +210,8 @@ module _ {W D : Type 0} (keeping : Keeping) (says : D → (q : Query) → Said q
 
   -- how the run has ended, and how often the writer has failed
   abbrev pub Comes : (reads failures : ℕ) → Option SessionFault → Type 0
-  Comes reads failures fault = Ran keeping says f.limit reads old new d at.0 fault × (failures ≡ writer_failures w.failures fault)
+  Comes reads failures fault = Ran keeping says (strict gate) f.limit reads old new d at.0 fault
+      × (failures ≡ writer_failures w.failures fault)
 
   module _ (after : Output) (same : new.contents ≡ after.written) where
     -- so much of a text was written
@@ -197,25 +222,25 @@ module _ {W D : Type 0} (keeping : Keeping) (says : D → (q : Query) → Said q
     wrote_part text g = fronts old new out after before same text g
 
     -- all replies of lines that were taken are written, or a front of them
-    shown : WritesAll at.1.waiting at.1 after → (lines : List Line) → Took says contents first lines now
+    shown : WritesAll at.1.waiting at.1 after → (lines : List Line) → Took says strict contents first lines now
         → (text : List ℕ) × By false lines text × Appends old.contents new.contents text
     shown g lines t =
-        let text : List ℕ = concat t.1.texts in
-        (text, (t.1.texts, t.1.turned, refl), wrote text (wrote_all refl t.1.said g))
+        let text : List ℕ = concat t.2.texts in
+        (text, (t.2.texts, t.2.turned, refl), wrote text (wrote_all refl t.2.said g))
 
-    shown_front : WritesFront at.1.waiting at.1 after → (lines : List Line) → Took says contents first lines now
+    shown_front : WritesFront at.1.waiting at.1 after → (lines : List Line) → Took says strict contents first lines now
         → (text : List ℕ) × By false lines text × AppendsFront old.contents new.contents text
     shown_front g lines t =
-        let text : List ℕ = concat t.1.texts in
-        (text, (t.1.texts, t.1.turned, refl), wrote_part text (wrote_front refl t.1.said g))
+        let text : List ℕ = concat t.2.texts in
+        (text, (t.2.texts, t.2.turned, refl), wrote_part text (wrote_front refl t.2.said g))
 
   module _ (reads : ℕ) where
     abbrev spent : Type 0
     spent = kept_count new.calls ≡ kept_count (old.calls + reads)
 
     abbrev Here : Fed Stop → Type 0
-    Here fed = Stands (Took says contents) (IsOver says contents) old.remaining new.remaining first (λ p. p.0.waiting ≡ []) spent reads
-        fed f now
+    Here fed = Stands (Took says strict contents) (IsOver says strict contents) old.remaining new.remaining first
+        (λ p. p.0.waiting ≡ []) spent reads fed f now
 
     -- it ended with no reply left
     pub ends_at_once : (fed : Fed Stop) → Here fed → new.contents ≡ at.1.written → may_wait (fault_by fed) ≡ false →
@@ -234,28 +259,28 @@ module _ {W D : Type 0} (keeping : Keeping) (says : D → (q : Query) → Said q
     ends_at_once why.Failed s same e =
         let all : WritesAll at.1.waiting at.1 at.1 = subst (λ (l : List ℕ). WritesAll l at.1 at.1) (sym s.2)
         (record { wrote = Appends-nil at.1.written; same = refl }) in
-        (all_answered (By false) old new first now f few reads s.0 s.1 (shown at.1 same all), s.0.stands.1.said.same)
+        (all_answered (By false) old new first now f few reads s.0 s.1 (shown at.1 same all), s.0.stands.2.said.same)
     ends_at_once why.Spent s same e = absurd (false≢true (sym e))
 
     module _ (after : Output) (same : new.contents ≡ after.written) where
       -- it ended before a line, at which the lines in front had been answered
-      abbrev Before : List Line → Type 0
-      Before lines = HeldBack keeping says (stands contents first) lines at
+      abbrev Before : (ℕ → Bool) → List Line → Type 0
+      Before may_say_no lines = HeldBack keeping says (strict gate) 0 may_say_no (stands contents first) lines at
 
-      before_written : (stopped : Stop) (s : Here (why.Stopped stopped)) → Before s.done → WritesAll at.1.waiting at.1 after →
-          EndsBefore keeping says f.limit reads old new d at.0
+      before_written : (may_say_no : ℕ → Bool) (stopped : Stop) (s : Here (why.Stopped stopped)) → Before may_say_no s.done →
+          WritesAll at.1.waiting at.1 after → EndsBefore keeping says (strict gate) f.limit reads old new d at.0 may_say_no
           × (after.failures ≡ w.failures)
-      before_written stopped s h g =
+      before_written may_say_no stopped s h g =
           let b = h.0 in
           let text : List ℕ = concat b.texts in
           let all = wrote_all refl b.said g in
           let ran = held_back (By false) old new first now f few Appends stopped s b.done b.later b.parts text
-          (b.texts, b.turned, refl) (wrote after same text all) h.1 in
+          (b.texts, b.turned, refl) (wrote after same text all) may_say_no h.1 h.2 in
           (ran, all.same)
 
-      before_broken : (stopped : Stop) (s : Here (why.Stopped stopped)) → Before s.done → WritesFront at.1.waiting at.1 after →
-          Comes reads after.failures (Some Write)
-      before_broken stopped s h g =
+      before_broken : (may_say_no : ℕ → Bool) (stopped : Stop) (s : Here (why.Stopped stopped)) → Before may_say_no s.done →
+          WritesFront at.1.waiting at.1 after → Comes reads after.failures (Some Write)
+      before_broken may_say_no stopped s h g =
           let b = h.0 in
           let text : List ℕ = concat b.texts in
           let front = wrote_front refl b.said g in
@@ -267,7 +292,7 @@ module _ {W D : Type 0} (keeping : Keeping) (says : D → (q : Query) → Said q
       pub ends_written : (fed : Fed Stop) → Here fed → WritesAll at.1.waiting at.1 after → may_wait (fault_by fed) ≡ true →
           Comes reads after.failures (fault_by fed)
       ends_written why.Ended s g e =
-          (inl (whole_answered (By false) old new first now f few s (shown after same g)), g.same ∙ s.stands.1.said.same)
+          (inl (whole_answered (By false) old new first now f few s (shown after same g)), g.same ∙ s.stands.2.said.same)
       ends_written (why.Stopped stop.Quit) s g e =
           let b = s.stands in
           let text : List ℕ = concat b.texts in
@@ -275,21 +300,21 @@ module _ {W D : Type 0} (keeping : Keeping) (says : D → (q : Query) → Said q
           let ran = first_halted (By true) old new first now f few Appends stop.Quit s b.done b.later b.parts text
           (b.texts, b.turned, refl) (wrote after same text all) in
           (inr ran, all.same)
-      ends_written (why.Stopped stop.Gate) s g e = before_written stop.Gate s s.stands g
-      ends_written (why.Stopped stop.Gone) s g e = before_written stop.Gone s s.stands g
+      ends_written (why.Stopped stop.Gate) s g e = before_written (holds_next (strict gate)) stop.Gate s s.stands g
+      ends_written (why.Stopped stop.Gone) s g e = before_written (λ _. (strict gate).gives_up) stop.Gone s s.stands g
       ends_written (why.Stopped stop.Write) s g e = absurd (false≢true e)
       ends_written why.Full s g e =
-          (inl (past_lines (By false) old new first now f few reads s.0 s.1 (shown after same g)), g.same ∙ s.0.stands.1.said.same)
+          (inl (past_lines (By false) old new first now f few reads s.0 s.1 (shown after same g)), g.same ∙ s.0.stands.2.said.same)
       ends_written why.Failed s g e = absurd (false≢true e)
       ends_written why.Spent s g e =
-          (inr (all_answered (By false) old new first now f few reads s.0 s.1 (shown after same g), s.2), g.same ∙ s.0.stands.1.said.same)
+          (inr (all_answered (By false) old new first now f few reads s.0 s.1 (shown after same g), s.2), g.same ∙ s.0.stands.2.said.same)
 
       -- or the writer failed
       pub ends_broken : (fed : Fed Stop) → Here fed → WritesFront at.1.waiting at.1 after → may_wait (fault_by fed) ≡ true →
           Comes reads after.failures (Some Write)
       ends_broken why.Ended s g e = (
         (false, first_whole (By false) old new first now f few s AppendsFront (shown_front after same g)),
-        g.failed ∙ ap one_more s.stands.1.said.same,
+        g.failed ∙ ap one_more s.stands.2.said.same,
       )
       ends_broken (why.Stopped stop.Quit) s g e =
           let b = s.stands in
@@ -298,23 +323,24 @@ module _ {W D : Type 0} (keeping : Keeping) (says : D → (q : Query) → Said q
           let ran = first_halted (By true) old new first now f few AppendsFront stop.Quit s b.done b.later b.parts text
           (b.texts, b.turned, refl) (wrote_part after same text front) in
           ((true, ran), front.failed)
-      ends_broken (why.Stopped stop.Gate) s g e = before_broken stop.Gate s s.stands g
-      ends_broken (why.Stopped stop.Gone) s g e = before_broken stop.Gone s s.stands g
+      ends_broken (why.Stopped stop.Gate) s g e = before_broken (holds_next (strict gate)) stop.Gate s s.stands g
+      ends_broken (why.Stopped stop.Gone) s g e = before_broken (λ _. (strict gate).gives_up) stop.Gone s s.stands g
       ends_broken (why.Stopped stop.Write) s g e = absurd (false≢true e)
       ends_broken why.Full s g e = (
         (false, first_within (By false) old new first now f few reads s.0 AppendsFront (shown_front after same g)),
-        g.failed ∙ ap one_more s.0.stands.1.said.same,
+        g.failed ∙ ap one_more s.0.stands.2.said.same,
       )
       ends_broken why.Failed s g e = absurd (false≢true e)
       ends_broken why.Spent s g e = (
         (false, first_within (By false) old new first now f few reads s.0 AppendsFront (shown_front after same g)),
-        g.failed ∙ ap one_more s.0.stands.1.said.same,
+        g.failed ∙ ap one_more s.0.stands.2.said.same,
       )
 
 -- there was no memory for the buffers
-pub served_short : {D : Type 0} (keeping : Keeping) (says : D → (q : Query) → Said q → D → Type 0) (lines reads : ℕ) (here : Devices)
-    (d : D) (left : Kept) → left ≡ nothing_had → Served keeping says lines reads here here d d left (Some Short)
-served_short keeping says lines reads here d left e = record {
+pub served_short : {D : Type 0} (keeping : Keeping) (says : D → (q : Query) → Said q → D → Type 0) (gate : Strictness)
+    (lines reads : ℕ) (here : Devices) (d : D) (left : Kept) → left ≡ nothing_had →
+    Served keeping says gate lines reads here here d d left (Some Short)
+served_short keeping says gate lines reads here d left e = record {
   last = (nothing_had, d);
   ran = (refl, refl);
   spent = (refl, refl, refl);

@@ -1,5 +1,5 @@
 -- A session's run: its lines are answered one after another at a desk, until it ends, and then its handles are spent.
-use Rattle.std.specs.Prelude.{◌≡◌, ◌⊎◌, ℕ, ◌<◌, Bool, true, false, List, [], ◌∷◌, ◌++◌, length, Option, Some, None, Result, Ok, Err}
+use Rattle.std.specs.Prelude.{◌≡◌, ◌⊎◌, ℕ, ◌+◌, ◌<◌, Bool, true, false, List, [], ◌∷◌, ◌++◌, length, Option, Some, None, Result, Ok, Err}
 use Rattle.std.specs.Io.KnownBytes.{Appends}
 use Rattle.std.specs.List.{concat}
 use Rattle.th_lines.specs.Answering.{Answers, Breaks, Turned}
@@ -25,22 +25,46 @@ use Rattle.th_session.specs.Ending.{AllAnswered, AppendsFront, Devices, FirstAns
 use Rattle.th_session.specs.Kept.{Kept, Tells, kept_by}
 use Rattle.th_session.specs.Script.{Answer, Plays, Replied, has_quit, spend_all}
 
+-- How strict a gate is with one session: which lines it may hold back, by their numbers, and whether it may give the session
+-- up while that waits for an answer.
+pub record Strictness : Type 0 where
+  pub holds_back : ℕ → Bool
+  pub gives_up : Bool
+
+-- the same of this gate, with the session of this number
+abbrev pub strictness : {G : Type 0} → (holds_back : G → ℕ → ℕ → Bool) →
+    (gives_up : G → ℕ → Bool) → G × ℕ → Strictness
+strictness holds_back gives_up (gate, session) =
+    record { holds_back = holds_back gate session; gives_up = gives_up gate session }
+
+-- whether it may hold back the line behind so many
+abbrev pub holds_next : Strictness → ℕ → Bool
+holds_next gate answered = gate.holds_back (one_more answered)
+
+-- What is not written yet of the replies of a session; and its gate, with its number there.
+pub record Unwritten (G : Type 0) : Type 0 where
+  pub text : List ℕ
+  pub gate : G × ℕ
+
 -- an actor that has nothing
 abbrev pub nothing_had : Kept
 nothing_had = record { handles = []; receipts = []; segments = [] }
 
--- How far a run has got: what its actor has, the replies that wait, and what it keeps of them.
-pub record Progress : Type 0 where
+-- How far a run has got: what its actor has, and the replies that wait; its gate, with its number there; and what it keeps of
+-- the answers.
+pub record Progress (G : Type 0) : Type 0 where
   pub kept : Kept
   pub waiting : List ℕ
+  pub gate : G × ℕ
   pub keeping : Keeping
 
 -- before anything was read
-abbrev pub beginning : Keeping → Progress
-beginning keeping = record { kept = nothing_had; waiting = []; keeping = keeping }
+abbrev pub beginning : {G : Type 0} → Keeping → G × ℕ → Progress G
+beginning keeping gate =
+    record { kept = nothing_had; waiting = []; gate = gate; keeping = keeping }
 
 -- what a run and its desk have, and where the replies stand
-abbrev pub stands : {W D : Type 0} → (W → Option (List ℕ)) → Progress × D × Tally W →
+abbrev pub stands : {W D G : Type 0} → (W → Option (List ℕ)) → Progress G × D × Tally W →
     (Kept × D) × Output
 stands contents p = ((p.0.kept, p.1), output contents p.2 p.0.waiting)
 
@@ -80,13 +104,18 @@ tells_bye (answers.Reply reply) = has_quit (Replied reply)
 tells_bye answers.Event = false
 tells_bye answers.Trace = false
 
--- a line may be carried out, and nothing was said; or it may not, or the writer failed
-abbrev pub Enters : {A : Type 0} → Output → Output → Result A Stop → Type 0
-Enters before after (Ok a) = Adds [] before after
-Enters before after (Err stop.Gate) = Adds [] before after
-Enters before after (Err stop.Gone) = Adds [] before after
-Enters before after (Err stop.Write) = WritesFront (before.waiting ++ []) before after
-Enters before after (Err stop.Quit) = ⊥
+-- The line behind so many may be carried out, and nothing was said; or the gate said no, to it or to who waits; or the writer
+-- failed.
+abbrev pub Enters : {A : Type 0} → Strictness → (answered : ℕ) → Output → Output →
+    Result A Stop → Type 0
+Enters gate answered before after (Ok a) = Adds [] before after
+Enters gate answered before after (Err stop.Gate) =
+    Adds [] before after × (holds_next gate answered ≡ true)
+Enters gate answered before after (Err stop.Gone) =
+    Adds [] before after × (gate.gives_up ≡ true)
+Enters gate answered before after (Err stop.Write) =
+    WritesFront (before.waiting ++ []) before after
+Enters gate answered before after (Err stop.Quit) = ⊥
 
 module _ {D : Type 0} (says : D → (q : Query) → Said q → D → Type 0) where
   -- the answer to a line; what is too long is answered 23, and nothing has changed
@@ -95,12 +124,12 @@ module _ {D : Type 0} (says : D → (q : Query) → Said q → D → Type 0) whe
   IsAnswered (Good bytes) old answer new = desk.Answers says old.0 old.1 bytes answer new.0 new.1
 
   -- a line was answered, and its text is still to come; or nothing was done, since it may not be or the writer failed
-  abbrev pub AnswersInTime : Line → Kept × D → Kept × D → Output → Output →
-      Result session.Answer Stop → Type 0
-  AnswersInTime line old new before after (Ok tells) =
+  abbrev pub AnswersInTime : Strictness → (answered : ℕ) → Line → Kept × D → Kept × D →
+      Output → Output → Result session.Answer Stop → Type 0
+  AnswersInTime gate answered line old new before after (Ok tells) =
       Tells tells (λ answer. IsAnswered line old answer new) × Adds [] before after
-  AnswersInTime line old new before after (Err why) =
-      (new ≡ old) × Enters {A = Unit {0}} before after (Err why)
+  AnswersInTime gate answered line old new before after (Err why) =
+      (new ≡ old) × Enters {A = Unit {0}} gate answered before after (Err why)
 
 -- where a run keeps so much of its answers
 module _ {D : Type 0} (keeping : Keeping) (says : D → (q : Query) → Said q → D → Type 0) where
@@ -112,28 +141,31 @@ module _ {D : Type 0} (keeping : Keeping) (says : D → (q : Query) → Said q �
       × (new.0.0 ≡ kept_by keeping has) × (text ≡ said answer)
       × (old.1 ≡ false) × (new.1 ≡ has_quit answer)
 
-  -- the line behind those that were answered was not carried out
-  abbrev pub HeldBack : (Kept × D) × Output → List Line → (Kept × D) × Output → Type 0
-  HeldBack old lines new =
-      (b : Breaks line_turn true (quitting false old) lines (quitting false new))
-      × (0 < length b.later)
+  -- by a gate that is so strict, and behind so many lines
+  module _ (gate : Strictness) (answered : ℕ) where
+    -- The line behind those that were answered was not carried out, and behind so many the gate may say no.
+    abbrev pub HeldBack : (ℕ → Bool) → (Kept × D) × Output → List Line →
+        (Kept × D) × Output → Type 0
+    HeldBack may_say_no old lines new =
+        (b : Breaks line_turn true (quitting false old) lines (quitting false new))
+        × (0 < length b.later) × (may_say_no (answered + length b.done) ≡ true)
 
-  -- These lines were answered, as far as they were done, and no further one is: the last was answered BYE; or one of them was
-  -- not let through, or given up; or the writer failed.
-  abbrev pub Halts : (Kept × D) × Output → List Line → Stop → (Kept × D) × Output → Type 0
-  Halts old lines stop.Quit new =
-      Breaks line_turn true (quitting false old) lines (quitting true new)
-  Halts old lines stop.Gate new = HeldBack old lines new
-  Halts old lines stop.Gone new = HeldBack old lines new
-  Halts old lines stop.Write new =
-      (quit : Bool) × Breaks line_turn false (quitting false old) lines (quitting quit new)
+    -- These lines were answered, as far as they were done, and no further one is: the last was answered BYE; or one of them was
+    -- not let through, or given up; or the writer failed.
+    abbrev pub Halts : (Kept × D) × Output → List Line → Stop → (Kept × D) × Output → Type 0
+    Halts old lines stop.Quit new =
+        Breaks line_turn true (quitting false old) lines (quitting true new)
+    Halts old lines stop.Gate new = HeldBack (holds_next gate) old lines new
+    Halts old lines stop.Gone new = HeldBack (λ _. gate.gives_up) old lines new
+    Halts old lines stop.Write new =
+        (quit : Bool) × Breaks line_turn false (quitting false old) lines (quitting quit new)
 
-  -- a line was answered by this text, and the actor has not quit; or the run is to end
-  abbrev pub Serves : {A : Type 0} → Line → (Kept × D) × Output → (Kept × D) × Output →
-      Result A Stop → Type 0
-  Serves line old new (Ok a) =
-      (text : List ℕ) × line_turn (old.0, false) line text (new.0, false) × Adds text old.1 new.1
-  Serves line old new (Err why) = Halts old (line ∷ []) why new
+    -- a line was answered by this text, and the actor has not quit; or the run is to end
+    abbrev pub Serves : {A : Type 0} → Line → (Kept × D) × Output → (Kept × D) × Output →
+        Result A Stop → Type 0
+    Serves line old new (Ok a) =
+        (text : List ℕ) × line_turn (old.0, false) line text (new.0, false) × Adds text old.1 new.1
+    Serves line old new (Err why) = Halts old (line ∷ []) why new
 
   -- From an actor that has nothing on, these lines were answered in turn by this text; and whether the last was answered BYE.
   abbrev pub AnsweredBy : D → Kept × D → Bool → List Line → List ℕ → Type 0
@@ -141,45 +173,50 @@ module _ {D : Type 0} (keeping : Keeping) (says : D → (q : Query) → Said q �
       × Turned line_turn lines ((nothing_had, desk), false) texts (last, quit)
       × (text ≡ concat texts)
 
-  -- at most so many lines and reads; where the devices and the desk stood, and where they and the actor stand then
-  module _ (lines reads : ℕ) (old new : Devices) (desk : D) (last : Kept × D) where
-    -- the line behind those that are answered was not carried out
-    abbrev pub EndsBefore : Type 0
-    EndsBefore = (f : FirstAnswered (AnsweredBy desk last false) lines old new Appends)
-        × (0 < length f.later)
+  -- by a gate that is so strict, at most so many lines and reads; where the devices and the desk stood, and where they and the
+  -- actor stand then
+  module _ (gate : Strictness) (lines reads : ℕ) (old new : Devices) (d : D) (last : Kept × D) where
+    -- The line behind those that are answered was not carried out, and behind so many the gate may say no.
+    abbrev pub EndsBefore : (ℕ → Bool) → Type 0
+    EndsBefore may_say_no =
+        (f : FirstAnswered (AnsweredBy d last false) lines old new Appends)
+        × (0 < length f.later) × (may_say_no (length f.first) ≡ true)
 
     -- How a run ends. Without a fault the whole input was read and its lines are answered, or the last answer was BYE. At Read
     -- all lines that came are answered. At TooLong a line beyond the bound began, or all reads were made and the input had
-    -- not ended. At Gate and Gone a line was not let through, or given up while it waited. At Short nothing was read.
+    -- not ended. At Gate and Gone a line was not let through, or given up while it waited, by a gate that may say no to it. At
+    -- Short nothing was read.
     abbrev pub Ran : Option SessionFault → Type 0
     Ran None =
-        WholeAnswered (AnsweredBy desk last false) lines old new
-        ⊎ FirstAnswered (AnsweredBy desk last true) lines old new Appends
-    Ran (Some Read) = AllAnswered (AnsweredBy desk last false) lines old new
+        WholeAnswered (AnsweredBy d last false) lines old new
+        ⊎ FirstAnswered (AnsweredBy d last true) lines old new Appends
+    Ran (Some Read) = AllAnswered (AnsweredBy d last false) lines old new
     Ran (Some Write) = (quit : Bool)
-        × FirstAnswered (AnsweredBy desk last quit) lines old new AppendsFront
-    Ran (Some TooLong) = WasTooLong (AnsweredBy desk last false) lines old new reads
-    Ran (Some Gate) = EndsBefore
-    Ran (Some Gone) = EndsBefore
-    Ran (Some Short) = (new ≡ old) × (last ≡ (nothing_had, desk))
+        × FirstAnswered (AnsweredBy d last quit) lines old new AppendsFront
+    Ran (Some TooLong) = WasTooLong (AnsweredBy d last false) lines old new reads
+    Ran (Some Gate) = EndsBefore (holds_next gate)
+    Ran (Some Gone) = EndsBefore (λ _. gate.gives_up)
+    Ran (Some Short) = (new ≡ old) × (last ≡ (nothing_had, d))
 
   -- And then every handle was spent, in the order of QUIT, whatever was said of it.
-  pub record Served (lines reads : ℕ) (old new : Devices) (desk desk' : D) (left : Kept)
-      (fault : Option SessionFault) : Type 0 where
+  pub record Served (gate : Strictness) (lines reads : ℕ) (old new : Devices) (desk desk' : D)
+      (left : Kept) (fault : Option SessionFault) : Type 0 where
     pub last : Kept × D
-    pub ran : Ran lines reads old new desk last fault
+    pub ran : Ran gate lines reads old new desk last fault
     pub spent : Plays says (spend_all last.0.handles) last.1 (Replied Bye) [] desk'
     pub kept : left ≡ record last.0 { handles = [] }
 
-module _ {W D : Type 0} (says : D → (q : Query) → Said q → D → Type 0)
-    (contents : W → Option (List ℕ)) where
+module _ {W D G : Type 0} (says : D → (q : Query) → Said q → D → Type 0)
+    (strict : G × ℕ → Strictness) (contents : W → Option (List ℕ)) where
   -- a run took these lines
-  abbrev pub Took : Progress × D × Tally W → List Line → Progress × D × Tally W → Type 0
-  Took old lines new = (new.0.keeping ≡ old.0.keeping)
+  abbrev pub Took : Progress G × D × Tally W → List Line → Progress G × D × Tally W → Type 0
+  Took old lines new = (new.0.keeping ≡ old.0.keeping) × (new.0.gate ≡ old.0.gate)
       × Answers (line_turn old.0.keeping says)
       (quitting false (stands contents old)) lines (quitting false (stands contents new))
 
   -- or no further one is taken
-  abbrev pub IsOver : Progress × D × Tally W → List Line → Stop → Progress × D × Tally W → Type 0
+  abbrev pub IsOver : Progress G × D × Tally W → List Line → Stop → Progress G × D × Tally W →
+      Type 0
   IsOver old lines why new =
-      Halts old.0.keeping says (stands contents old) lines why (stands contents new)
+      Halts old.0.keeping says (strict old.0.gate) 0 (stands contents old) lines why
+      (stands contents new)

@@ -44,3 +44,4 @@ pub use handles::Handles;
 pub use keeping::Keeping;
 pub use run::run_session;
 pub use session::{Answer, Session};
+pub use trace::append_trace_lines;

@@ -1,10 +1,10 @@
 //! The replies of a session that wait to be written, and its gate, which is told of them.
-ghost use Rattle.std.specs.Prelude.{◌≡◌, []};
+ghost use Rattle.std.specs.Prelude.{◌≡◌, [], true, false};
 ghost use Rattle.th_lines.specs.Commands.{carries_value, command_of};
 ghost use Rattle.th_lines.specs.Reads.{Reads};
 ghost use Rattle.th_lines.specs.Output.{Flushes, output};
 ghost use Rattle.th_session.specs.Answer.{PutsTold};
-ghost use Rattle.th_session.specs.Run.{Enters};
+ghost use Rattle.th_session.specs.Run.{Enters, strictness};
 
 use crate::fault::Stop;
 use crate::gate::Gate;
@@ -33,7 +33,7 @@ const LOOK: u64 = 1000;
 
 /// The replies of a session that wait, and its gate.
 #[derive(Drop)]
-pub(crate) struct Replies<'a, C, G> {
+pub(crate) struct Replies<'a, C, G: Gate> {
     clock: &'a C,
     gate: &'a G,
     // The session's number.
@@ -50,12 +50,12 @@ pub(crate) struct Replies<'a, C, G> {
     sends: SendsAhead,
 }
 
-impl<'a, C, G> Model for Replies<'a, C, G> {
-    ghost use Rattle.std.specs.Prelude.{ℕ, List};
+impl<'a, C, G: Gate> Model for Replies<'a, C, G> {
+    ghost use Rattle.th_session.specs.Run.{Unwritten};
 
-    ghost Value = { List ℕ };
+    ghost Value = { Unwritten G };
 
-    ghost view = { λ r. r.waiting };
+    ghost view = { λ r. record { text = r.waiting; gate = (r.gate.now, r.session) } };
 }
 
 // Tells the gate of each line behind the first ones, up to the one of this number.
@@ -110,6 +110,7 @@ fn wait<G: Gate, D: Desk>(
 ) -> bool
     ensures session { session.new ≡ session.old }
     ensures desk { desk.new ≡ desk.old }
+    ensures gate { result ≡ false → G.gives_up gate.now number ≡ true }
 {
     for _ in 0..u64::MAX {
         if session.wait(desk, command, Duration::from_millis(LOOK)) {
@@ -119,7 +120,8 @@ fn wait<G: Gate, D: Desk>(
             return false;
         }
     }
-    false
+    // No wait is as long as that, and only the gate gives a line up.
+    true
 }
 
 impl<'a, C: Clock, G: Gate> Replies<'a, C, G> {
@@ -132,7 +134,7 @@ impl<'a, C: Clock, G: Gate> Replies<'a, C, G> {
         limit: u64,
         alloc: Global,
     ) -> Replies<'a, C, G>
-        ensures { result ≡ waiting }
+        ensures { result ≡ record { text = waiting; gate = (gate.now, session) } }
     {
         Replies {
             clock,
@@ -155,8 +157,9 @@ impl<'a, C: Clock, G: Gate> Replies<'a, C, G> {
         answered: u64,
     ) -> Result<(), WriteFailed>
         ensures desk { desk.new ≡ desk.old }
-        ensures wrote { Flushes
-            (output W.contents writer.old self.old) (output W.contents writer.new self.new) result }
+        ensures gate { self.new.gate ≡ self.old.gate }
+        ensures wrote { Flushes (output W.contents writer.old self.old.text)
+            (output W.contents writer.new self.new.text) result }
     {
         desk.wake();
         let waiting = &mut self.waiting;
@@ -238,8 +241,10 @@ impl<'a, C: Clock, G: Gate> Replies<'a, C, G> {
     ) -> Result<(), Stop>
         ensures session { session.new ≡ session.old }
         ensures desk { desk.new ≡ desk.old }
-        ensures wrote { Enters
-            (output W.contents writer.old self.old) (output W.contents writer.new self.new) result }
+        ensures gate { self.new.gate ≡ self.old.gate }
+        ensures wrote { Enters (strictness G.holds_back G.gives_up self.old.gate) answered
+            (output W.contents writer.old self.old.text)
+            (output W.contents writer.new self.new.text) result }
     {
         if !waits(command) {
             if let Command::On(name, Action::BySender(SenderVerb::Send(value))) = command {
@@ -287,8 +292,10 @@ impl<'a, C: Clock, G: Gate> Replies<'a, C, G> {
         answered: u64,
     ) -> Result<(), Stop>
         ensures desk { desk.new ≡ desk.old }
-        ensures wrote { Enters
-            (output W.contents writer.old self.old) (output W.contents writer.new self.new) result }
+        ensures gate { self.new.gate ≡ self.old.gate }
+        ensures wrote { Enters (strictness G.holds_back G.gives_up self.old.gate) answered
+            (output W.contents writer.old self.old.text)
+            (output W.contents writer.new self.new.text) result }
     {
         let line = answered.saturating_add(1);
         if self.gate.may(self.session, line) {
@@ -318,8 +325,10 @@ impl<'a, C: Clock, G: Gate> Replies<'a, C, G> {
         writer: &mut Counted<W>,
     ) -> Result<(), WriteFailed>
         ensures desk { desk.new ≡ desk.old }
+        ensures gate { self.new.gate ≡ self.old.gate }
         ensures told { PutsTold answer session.now
-            (output W.contents writer.old self.old) (output W.contents writer.new self.new) result }
+            (output W.contents writer.old self.old.text)
+            (output W.contents writer.new self.new.text) result }
     {
         let waiting = &mut self.waiting;
         if !waiting.has_room() || has_lines(&answer) {

@@ -5,7 +5,7 @@ ghost use Rattle.th_lines.specs.Feeding.{failures_by};
 ghost use Rattle.th_lines.specs.Intake.{line_given};
 ghost use Rattle.th_lines.specs.Output.{output};
 ghost use Rattle.th_session.specs.Ending.{devices};
-ghost use Rattle.th_session.specs.Run.{AnswersInTime, Ran, Served, Serves, beginning, fault_by, may_wait, reader_failures, tells_bye, writer_failures};
+ghost use Rattle.th_session.specs.Run.{AnswersInTime, Ran, Served, Serves, beginning, fault_by, may_wait, reader_failures, strictness, tells_bye, writer_failures};
 ghost use Rattle.th_session.specs.Script.{Replied, has_quit};
 
 use crate::answer::refused;
@@ -24,7 +24,7 @@ use th_registry::Desk;
 
 /// How far a session's run has got.
 #[derive(Drop)]
-struct Run<'a, D: Desk, C, G> {
+struct Run<'a, D: Desk, C, G: Gate> {
     // The actor. Each line that is answered changes it.
     session: Session<D>,
     // The replies that are not written yet.
@@ -33,14 +33,15 @@ struct Run<'a, D: Desk, C, G> {
     keeping: Keeping,
 }
 
-impl<'a, D: Desk, C, G> Model for Run<'a, D, C, G> {
+impl<'a, D: Desk, C, G: Gate> Model for Run<'a, D, C, G> {
     ghost use Rattle.th_session.specs.Run.{Progress};
 
-    ghost Value = { Progress };
+    ghost Value = { Progress G };
 
     ghost view = { λ r. record {
       kept = r.session;
-      waiting = r.replies;
+      waiting = r.replies.text;
+      gate = r.replies.gate;
       keeping = r.keeping;
     } };
 }
@@ -79,10 +80,11 @@ fn answer_in_time<C: Clock, G: Gate, D: Desk, W: Write>(
     line: Option<&[u8]>,
     intake: &Intake,
 ) -> Result<Answer, Stop>
-    ensures { AnswersInTime D.says (line_given line.entry)
-        (session.old, desk.old) (session.new, desk.new)
-        (output W.contents writer.old replies.old) (output W.contents writer.new replies.new)
-        result }
+    ensures answers { AnswersInTime D.says (strictness G.holds_back G.gives_up replies.old.gate)
+        answered (line_given line.entry) (session.old, desk.old) (session.new, desk.new)
+        (output W.contents writer.old replies.old.text)
+        (output W.contents writer.new replies.new.text) result }
+    ensures gate { replies.new.gate ≡ replies.old.gate }
 {
     let Some(bytes) = line else {
         return Ok(Answer::Reply(Reply::Refused(Code::LongLine)));
@@ -111,9 +113,11 @@ fn serve<C: Clock, G: Gate, D: Desk, W: Write>(
     line: Option<&[u8]>,
     intake: &Intake,
 ) -> Result<(), Stop>
-    ensures { Serves keeping D.says (line_given line.entry)
-        ((session.old, desk.old), output W.contents writer.old replies.old)
-        ((session.new, desk.new), output W.contents writer.new replies.new) result }
+    ensures serves { Serves keeping D.says (strictness G.holds_back G.gives_up replies.old.gate)
+        answered (line_given line.entry)
+        ((session.old, desk.old), output W.contents writer.old replies.old.text)
+        ((session.new, desk.new), output W.contents writer.new replies.new.text) result }
+    ensures gate { replies.new.gate ≡ replies.old.gate }
 {
     match replies.enter(desk, writer, answered) {
         Ok(()) => {}
@@ -125,7 +129,7 @@ fn serve<C: Clock, G: Gate, D: Desk, W: Write>(
         Ok(answer) => {
             let quits = tells_bye(&answer);
             let put = replies.put(session, answer, desk, writer);
-            session.let_go(keeping);
+            session.let_go(desk, keeping);
             match put {
                 Ok(()) if quits => Err(Stop::Quit),
                 Ok(()) => Ok(()),
@@ -138,13 +142,13 @@ fn serve<C: Clock, G: Gate, D: Desk, W: Write>(
 
 impl<'a, D: Desk, C: Clock, G: Gate, W: Write> TakesLines<D, Counted<W>> for Run<'a, D, C, G> {
     ghost use Rattle.std.specs.Prelude.{◌≡◌, []};
-    ghost use Rattle.th_session.specs.Run.{IsOver, Took};
+    ghost use Rattle.th_session.specs.Run.{IsOver, Took, strictness};
 
     type Stop = Stop;
 
-    ghost took = { Took D.says W.contents };
+    ghost took = { Took D.says (strictness G.holds_back G.gives_up) W.contents };
 
-    ghost halts = { IsOver D.says W.contents };
+    ghost halts = { IsOver D.says (strictness G.holds_back G.gives_up) W.contents };
 
     ghost is_settled = { λ p. p.0.waiting ≡ [] };
 
@@ -191,7 +195,7 @@ impl<'a, D: Desk, C: Clock, G: Gate> Run<'a, D, C, G> {
         limit: u64,
         keeping: Keeping,
     ) -> Result<Run<'a, D, C, G>, AllocError>
-        ensures { IfOk result (λ r. r ≡ beginning keeping) }
+        ensures { IfOk result (λ r. r ≡ beginning keeping (gate.now, number)) }
     {
         let waiting = WriteBuffer::new(alloc)?;
         Ok(Run {
@@ -220,8 +224,9 @@ impl<'a, D: Desk, C: Clock, G: Gate> Run<'a, D, C, G> {
         reads: u64,
     ) -> Option<SessionFault>
         requires feeder { feeder.old ≡ feeding.beginning feeder.old.limit }
-        requires run { self.old ≡ beginning self.old.keeping }
-        ensures ran { Ran self.old.keeping D.says feeder.old.limit reads
+        requires run { self.old ≡ beginning self.old.keeping self.old.gate }
+        ensures ran { Ran self.old.keeping D.says
+            (strictness G.holds_back G.gives_up self.old.gate) feeder.old.limit reads
             (devices R.remaining reader.old W.contents writer.old)
             (devices R.remaining reader.new W.contents writer.new)
             desk.old (self.new.kept, desk.new) result
@@ -315,7 +320,8 @@ pub fn run_session<C: Clock, R: Read, W: Write, D: Desk, G: Gate>(
     keeping: Keeping,
     bounds: Bounds,
 ) -> (Session<D>, Option<SessionFault>)
-    ensures served { Served keeping D.says bounds.lines bounds.reads
+    ensures served { Served keeping D.says
+        (strictness G.holds_back G.gives_up (gate.now, number)) bounds.lines bounds.reads
         (devices R.remaining reader.old W.contents writer.old)
         (devices R.remaining reader.new W.contents writer.new)
         desk.old desk.new result.0 result.1 }

@@ -167,6 +167,16 @@ fn send_ahead<D: Desk>(
     desk.send_ahead(topic, sender, values);
 }
 
+// Gives these back to the desk that handed them out, in their order.
+fn give_back<D: Desk>(segments: &mut Vec<(TopicId, TopicSegment)>, desk: &mut D)
+    ensures segments { segments.new.items ≡ [] }
+    ensures desk { desk.new ≡ desk.old }
+{
+    for (topic, segment) in segments.drain(..) {
+        desk.give_back(topic, segment);
+    }
+}
+
 impl<D: Desk> Session<D> {
     /// An actor that holds nothing, and was told nothing. It takes no memory.
     pub fn new(alloc: Global) -> Session<D>
@@ -293,16 +303,19 @@ impl<D: Desk> Session<D> {
         (receipts, segments)
     }
 
-    /// Lets go of what a run does not keep that keeps so much.
+    /// Lets go of what a run does not keep that keeps so much. The segments among it go back to the desk, in their order.
     #[inline(always)]
-    pub fn let_go(&mut self, keeping: Keeping)
-        ensures { self.new ≡ kept_by keeping self.old }
+    pub fn let_go(&mut self, desk: &mut D, keeping: Keeping)
+        ensures session { self.new ≡ kept_by keeping self.old }
+        ensures desk { desk.new ≡ desk.old }
     {
         match keeping {
             Keeping::All => {}
             Keeping::Nothing => {
                 self.receipts.clear();
-                self.segments.clear();
+                if !self.segments.is_empty() {
+                    give_back(&mut self.segments, desk);
+                }
             }
         }
     }

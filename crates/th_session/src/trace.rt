@@ -3,7 +3,8 @@ ghost use Rattle.std.specs.Prelude.{◌++◌};
 ghost use Rattle.std.specs.List.{concat};
 ghost use Rattle.th_lines.specs.Output.{AddsOrFails, output};
 ghost use Rattle.th_lines.specs.Replies.{spell};
-ghost use Rattle.th_session.specs.Answer.{trace_told};
+ghost use Rattle.th_traces.specs.Spelled.{text};
+ghost use Rattle.th_session.specs.Answer.{trace_lines, trace_told};
 ghost use Rattle.th_session.specs.Pieces.{to_come};
 
 use std::alloc::AllocError;
@@ -44,6 +45,32 @@ fn append_counted<W: Write, L: Lines>(
     match out.append(writer, &Reply::Count(count)) {
         Ok(()) => out.append_lines(writer, lines),
         Err(e) => Err(e),
+    }
+}
+
+/// Puts the lines of a segment's trace behind what waits, as a file has them. However many there are, it takes no memory.
+///
+/// # Errors
+///
+/// The writer failed, and a front of what waited and the lines was written.
+pub fn append_trace_lines<W: Write>(
+    segment: &TopicSegment,
+    out: &mut WriteBuffer,
+    writer: &mut Counted<W>,
+) -> Result<(), WriteFailed>
+    ensures { AddsOrFails (text (trace_lines segment.now))
+        (output W.contents writer.old out.old) (output W.contents writer.new out.new) result }
+{
+    match segment {
+        Channel::Broadcast(segment) => {
+            out.append_lines(
+                writer,
+                &mut TraceLines::Broadcast(BroadcastTrace::new(segment)),
+            )
+        }
+        Channel::Watch(segment) => {
+            out.append_lines(writer, &mut TraceLines::Watch(WatchTrace::new(segment)))
+        }
     }
 }
 

@@ -7,6 +7,7 @@ use crate::cut::cut;
 use crate::deferred_wake::{DeferredWake, defer, is_deferred, wake};
 use crate::ended::{Ended, end_of};
 use crate::handles::{TopicReceiver, TopicSender};
+use crate::histories::{Histories, divide, name_of};
 use crate::registry::{another_owner, ask, bind, end, find, open, subscribe};
 use crate::shared_topics::SharedTopics;
 use crate::shares::Shares;
@@ -19,7 +20,8 @@ use std::mem::replace;
 use std::sync::{Arc, Wait};
 use std::time::{Clock, Duration};
 use th_model::{
-    Listing, Making, NameRef, Question, ReceiverVerb, RxId, SenderVerb, Short, Start, Value, WCall,
+    Listing, Making, Name, NameRef, Question, ReceiverVerb, RxId, SenderVerb, Short, Start, Value,
+    WCall,
 };
 use th_registry::channel::{TopicReceipt, TopicSegment};
 use th_registry::topics::list;
@@ -74,7 +76,27 @@ impl<R: Wait + Clone> SharedDesk<R> {
     ///
     /// There was no memory.
     pub fn new(rt: R, alloc: Global) -> Result<SharedDesk<R>, Short<()>> {
-        match Arc::new(alloc, SharedTopics::new(alloc)?) {
+        SharedDesk::opening(rt, alloc, None)
+    }
+
+    /// The same of topics that cut their histories by themselves, so that none of them is ever full. The parts go to the queues of
+    /// these histories, and so does each that a session was answered as a trace. The desks keep no shares of the handles that
+    /// are spent through them.
+    ///
+    /// # Errors
+    ///
+    /// There was no memory.
+    pub fn rolling(rt: R, alloc: Global, histories: Histories) -> Result<SharedDesk<R>, Short<()>> {
+        SharedDesk::opening(rt, alloc, Some(histories))
+    }
+
+    // The first owner of topics with such histories.
+    fn opening(
+        rt: R,
+        alloc: Global,
+        histories: Option<Histories>,
+    ) -> Result<SharedDesk<R>, Short<()>> {
+        match Arc::new(alloc, SharedTopics::new(alloc, histories)?) {
             Ok(hub) => Ok(SharedDesk::owning(rt, alloc, hub)),
             Err(_) => Err(Short { call: () }),
         }
@@ -84,10 +106,11 @@ impl<R: Wait + Clone> SharedDesk<R> {
     fn owning(rt: R, alloc: Global, hub: Arc<SharedTopics>) -> SharedDesk<R>
         ensures { result ≡ (arc_value hub).seal.ptr }
     {
+        let shares = Shares::new(alloc, hub.histories.is_none());
         SharedDesk {
             rt,
             hub,
-            shares: Shares::new(alloc),
+            shares,
             deferred: None,
             cache: TopicCache::new(alloc),
             spare: None,
@@ -109,6 +132,17 @@ impl<R: Wait + Clone> SharedDesk<R> {
             Ok(hub) => Ok(SharedDesk::owning(rt, self.shares.allocator(), hub)),
             Err(_) => Err(Short { call: () }),
         }
+    }
+
+    /// The histories of its topics, where they cut them by themselves.
+    pub fn histories(&self) -> Option<&Histories> {
+        self.hub.histories.as_ref()
+    }
+
+    /// The name of a topic. It takes the lock of the topics; `None` where there is no such topic, or no memory.
+    pub fn name_of(&self, topic: TopicId) -> Option<Name> {
+        let topics = self.hub.topics.lock(&self.rt);
+        name_of(&*topics, topic)
     }
 
     /// The shares of the handles that were spent through this desk, once nothing more is asked at it.
@@ -222,7 +256,13 @@ impl<R: Wait + Clock + Clone> Desk for SharedDesk<R> {
 
     fn open_topic(&mut self, name: NameRef<'_>, making: Making) -> Result<u64, Refusal> {
         let mut topics = self.hub.topics.lock(&self.rt);
-        open(&mut *topics, &name, making)
+        let told = open(&mut *topics, &name, making);
+        if let Some(histories) = &self.hub.histories {
+            if told.is_ok() {
+                divide(&self.rt, &*topics, histories);
+            }
+        }
+        told
     }
 
     fn bind(&mut self, topic: TopicId) -> Result<Made<TopicSender>, NoEvent> {
@@ -438,6 +478,12 @@ impl<R: Wait + Clock + Clone> Desk for SharedDesk<R> {
         match owner {
             Ok(owner) => cut(rt, &owner, topic),
             Err(why) => Err(why),
+        }
+    }
+
+    fn give_back(&mut self, _topic: TopicId, segment: TopicSegment) {
+        if let Some(histories) = &self.hub.histories {
+            histories.put(&self.rt, segment);
         }
     }
 

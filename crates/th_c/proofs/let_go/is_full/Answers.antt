@@ -5,7 +5,7 @@ use Rattle.th_c.proofs.let_go.is_full.Goals as goal
 
 -- src/let_go.rt
 pub returns : goal.returns
-returns c =
+returns g c =
     let w = c.args.channel.now.window in
     let sound = c.next_number-sound.ensures.sound in
     let first : c.gone_at.result ≡ gone_at w (w.tail - w.capacity) =

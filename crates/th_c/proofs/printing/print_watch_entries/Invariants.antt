@@ -2,11 +2,11 @@ use Rattle.std.proofs.Common.{◌≡◌, ◌++◌, map, take}
 use Rattle.th_traces.specs.Grammars.{fields}
 use Rattle.th_traces.specs.Spelled.{entry_lines, text}
 use Rattle.th_traces.specs.WatchWords.{grammar}
-use Rattle.th_c.specs.SpelledNumbers.{watch_entry}
+use Rattle.th_c.specs.SpelledValues.{watch_entry}
 use Rattle.th_c.proofs.printing.print_watch_entries.Given as goal
 
 -- the entries so far
 abbrev pub invariant-loop-call : goal.invariant-loop-call
-invariant-loop-call l =
-    let told = fields grammar (map watch_entry (take l.call-index l.entries)) in
+invariant-loop-call g l =
+    let told = fields grammar (map (watch_entry g.T.Payload.spelled) (take l.call-index l.entries)) in
     l.out.items ≡ l.fn.out.items ++ text (entry_lines told)

@@ -1,10 +1,10 @@
 use Rattle.std.proofs.Common.{◌≡◌, map, string_bytes, take}
-use Rattle.th_program.specs.Files.{AreOneHistory}
+use Rattle.th_program.proofs.Telling.{UpTo}
 use Rattle.th_program.proofs.files.check_joined.Given as goal
 
--- the files up to here are one history, and nothing was told
+-- the files up to here are one history, the last has this name and so many entries, and nothing was told
 abbrev pub invariant-loop-name : goal.invariant-loop-name
 invariant-loop-name g l = record {
-  history : AreOneHistory (g.O.Opens.holds l.files) (map string_bytes (take l.name-index l.names)) l.count l.history;
+  up : UpTo (g.O.Opens.holds l.files) (map string_bytes (take l.name-index l.names)) l.count l.history l.before l.entries;
   same : l.output ≡ l.fn.output;
 }

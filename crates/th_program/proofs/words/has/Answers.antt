@@ -1,7 +1,7 @@
-use Rattle.clap.specs.Words.{found_of}
-use Rattle.th_program.proofs.GivenWords.{has_text}
+use Rattle.std.proofs.Common.{◌∙◌, List, ap, Option, ℕ}
+use Rattle.std.specs.Prelude.{is_some}
+use Rattle.th_program.proofs.GivenWords.{is_mapped}
 use Rattle.th_program.proofs.words.has.Goals as goal
-use Rattle.std.proofs.Common.{◌∙◌}
 
 pub returns : goal.returns
-returns c = c.is_some.ensures ∙ has_text (found_of c.args.words.now) c.args.word.now c.get_str.result c.get_str.ensures
+returns c = c.is_some.ensures ∙ is_mapped c.given.result ∙ ap (λ (o : Option (List ℕ)). is_some o) c.given.ensures

@@ -1,4 +1,4 @@
-use Rattle.std.proofs.Common.{◌≡◌, List, ap, sym, subst, unwrap_or, ℕ, [], Option}
+use Rattle.std.proofs.Common.{◌≡◌, List, ap, subst, unwrap_or, [], Option}
 use Rattle.clap.specs.Words.{Row, found_of, rows_of, subcommand_rows_of}
 use Rattle.th_program.specs.Words.{AsksRightly, arguments_of}
 use Rattle.th_program.proofs.words.taken.Goals as goal

@@ -6,7 +6,7 @@ use Rattle.th_program.proofs.words.with_standing.Goals as goal
 
 pub returns-clause-app : goal.returns-clause-app
 returns-clause-app c =
-    let one = c.in_ok-serve.ensures.app ∙ ap₂ with_rule refl c.at_once.ensures.rule in
+    let one = c.in_ok-serve.ensures.app ∙ ap₂ with_rule refl c.option.ensures.rule in
     let two = c.in_ok-serve-2.ensures.app ∙ ap₂ with_rule one c.flag.ensures.rule in
     let three = c.in_ok-serve-3.ensures.app ∙ ap₂ with_rule two c.flag-2.ensures.rule in
     ok_is app_of c.with_arg-4.result (ap₂ with_rule three c.flag-3.ensures.rule) c.with_arg-4.ensures.app

@@ -8,21 +8,21 @@ use Rattle.th_lines.specs.declared.reply.Code.TheVariants as Codes
 use Rattle.th_lines.specs.declared.reply.Reply.TheVariants.{Refused}
 use Rattle.th_lines.proofs.OutputLemmas.{adds_none}
 use Rattle.th_session.specs.Answer.{refused}
-use Rattle.th_session.specs.Run.{IsAnswered}
+use Rattle.th_session.specs.Run.{IsAnswered, Unwritten}
 use Rattle.th_session.specs.Script.{Answer, Replied}
 use Rattle.th_session.proofs.Kept.{refused_line}
 use Rattle.th_session.proofs.run.answer_in_time.Goals as goal
 
-pub returns-in_default : goal.returns-in_default
-returns-in_default g c =
+pub returns-in_default-clause-answers : goal.returns-in_default-clause-answers
+returns-in_default-clause-answers g c =
     let answer : Answer = Replied (Refused Codes.LongLine) in
     let P : Option (Bor (List ℕ)) → Type 0 =
     λ line.
     IsAnswered g.D.Desk.says (line_given line) (c.args.session.now, c.args.desk.now) answer (c.args.session.now, c.args.desk.now) in
     ((answer, refl, subst P (sym c.in_default.is) (refl, refl)), adds_none _)
 
-pub returns-in-Err : goal.returns-in-Err
-returns-in-Err g c =
+pub returns-in-Err-clause-answers : goal.returns-in-Err-clause-answers
+returns-in-Err-clause-answers g c =
     let answer : Answer = refused c.in-Err.fault in
     let P : Option (Bor (List ℕ)) → Type 0 =
     λ line.
@@ -32,6 +32,6 @@ returns-in-Err g c =
     (command_of c.in-Some.bytes.now) c.in-Err.fault c.in-Err.ensures.read in
     let at : List ℕ → Output = λ waiting. output g.W.Write.contents c.args.writer.now waiting in
     let none =
-    subst (λ (waiting : List ℕ). Adds [] (at c.args.replies.now) (at waiting)) (sym c.read.ensures.same)
-    (adds_none (at c.args.replies.now)) in
+    subst (λ (r : Unwritten g.row.G.Denot). Adds [] (at c.args.replies.now.text) (at r.text)) (sym c.read.ensures.same)
+    (adds_none (at c.args.replies.now.text)) in
     ((answer, c.refused.ensures, subst P (sym c.in-Some.is) bad), none)

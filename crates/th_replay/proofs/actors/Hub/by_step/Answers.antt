@@ -6,7 +6,7 @@ use Rattle.indexmap.specs.IndexMap.{set_value_at}
 use Rattle.th_lines.specs.Output.{Output, output}
 use Rattle.th_lines.specs.declared.reply.Code.TheVariants as Codes
 use Rattle.th_lines.specs.declared.reply.Reply.TheVariants.{Refused}
-use Rattle.th_registry.specs.Pictures.{SeenTopics}
+use Rattle.th_registry.specs.Pictures.{Desk, SeenTopics}
 use Rattle.th_session.specs.Kept.{told}
 use Rattle.th_session.specs.Script.{Replied, has_quit}
 use Rattle.th_session.specs.declared.session.Answer.TheVariants as answers
@@ -98,11 +98,12 @@ returns-in_default-step g c =
     let has = c.step.new.session in
     let after : Output = output g.W.Write.contents c.put_answer-put-in_default-step.new.writer c.put_answer-put-in_default-step.new.out in
     let left : Actors = holdings (set_value_at i.actors.entries c.args.place c.let_go.new.self) in
-    let P : Hub SeenTopics → Type 0 = λ hub. PutsAt c.args.place c.args.command hub
-    (record { topics = c.step.new.desk.topics; actors = left })
+    let given = ap (λ (d : Desk). d.topics) c.let_go.ensures.desk in
+    let P : SeenTopics → Hub SeenTopics → Type 0 = λ ts hub. PutsAt c.args.place c.args.command hub
+    (record { topics = ts; actors = left })
     (output g.W.Write.contents c.args.writer.now c.args.out.now) after c.put_answer-put-in_default-step.result in
     let not_quit : has_quit a.0 ≡ false = only_replies_quit a.0 (λ reply t. c.in_default-step.not-Reply reply (a.1 ∙ t)) in
-    let kept = ap handles c.let_go.ensures in
+    let kept = ap handles c.let_go.ensures.session in
     let rest = set-held i.actors.entries c.args.place c.let_go.new.self ∙ ap (set_value_at (holdings i.actors.entries) c.args.place) kept
     ∙ stays a.0 c.args.place has.handles (holdings i.actors.entries) not_quit in
     let there = at-held i.actors.entries c.args.place ∙ ap (option_map handles)
@@ -110,12 +111,12 @@ returns-in_default-step g c =
     let end = ends_so had i.desk.topics c.args.command a.0 has c.step.new.desk.topics i.desk.limit c.self.invariant a.2 in
     let put = c.put_answer-put-in_default-step.ensures a.0 had a.1
     (keeps had i.desk.topics c.args.command a.0 has c.step.new.desk.topics i.desk.limit a.2) in
-    subst P c.self.view_is (
+    subst (λ (ts : SeenTopics). P ts c.args.self.now) (sym given) (subst (P c.step.new.desk.topics) c.self.view_is (
       a.0,
       goes_on i.desk.topics (holdings
           i.actors.entries) c.args.place c.args.command had.handles has.handles a.0 c.step.new.desk.topics left there end rest,
       put,
-    )
+    ))
 
 pub invariant_of-self-then-is_gone : goal.invariant_of-self-then-is_gone
 invariant_of-self-then-is_gone g c = c.step.ensures.limit ∙ c.self.invariant

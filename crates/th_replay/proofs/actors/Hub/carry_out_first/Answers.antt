@@ -8,7 +8,7 @@ use Rattle.indexmap.specs.IndexMap.{insert_entry}
 use Rattle.th_lines.specs.Output.{Output, output}
 use Rattle.th_lines.specs.declared.reply.Code.TheVariants as Codes
 use Rattle.th_lines.specs.declared.reply.Reply.TheVariants.{Refused}
-use Rattle.th_registry.specs.Pictures.{SeenTopics, pictures}
+use Rattle.th_registry.specs.Pictures.{Desk, SeenTopics, pictures}
 use Rattle.th_session.specs.Held.{Holding}
 use Rattle.th_session.specs.Kept.{Kept}
 use Rattle.th_session.specs.Script.{Replied, has_quit}
@@ -84,8 +84,9 @@ returns g c =
     let has = c.step-answer.new.session in
     let topics = c.step-answer.new.desk.topics in
     let after : Output = output g.W.Write.contents c.put_answer-put.new.writer c.put_answer-put.new.out in
-    let P : Hub SeenTopics → Type 0 = λ hub. PutsAnswer (by_place picture_step hub c.args.name c.args.command None)
-    (asks_by_place picture_asks hub c.args.command None) hub (record { topics = topics; actors = holdings c.insert.new.self.entries })
+    let given = ap (λ (d : Desk). d.topics) c.let_go.ensures.desk in
+    let P : SeenTopics → Hub SeenTopics → Type 0 = λ ts hub. PutsAnswer (by_place picture_step hub c.args.name c.args.command None)
+    (asks_by_place picture_asks hub c.args.command None) hub (record { topics = ts; actors = holdings c.insert.new.self.entries })
     (output g.W.Write.contents c.args.writer.now c.args.out.now) after c.put_answer-put.result in
     let room : length (holdings i.actors.entries) < 1024 = omega
     (arith, c.len.ensures.len, c.if-len-ge-MOST_ACTORS.false, length-held i.actors.entries) in
@@ -103,17 +104,17 @@ returns g c =
     ∙ ap (λ (n : List ℕ). insert_entry (pointwise nat_eq) c.reserve.new.self.entries n left) c.to_name.ensures
     ∙ ap (λ (l : All). insert_entry (pointwise nat_eq) l c.args.name left) c.in-Ok.ensures.entries
     ∙ insert-new i.actors.entries c.args.name left none in
-    subst P c.self.view_is (
+    subst (λ (ts : SeenTopics). P ts c.args.self.now) (sym given) (subst (P topics) c.self.view_is (
       a.0,
       begins i.desk.topics (holdings i.actors.entries) c.args.name c.args.command has.handles a.0 topics
           (holdings c.insert.new.self.entries) room one end
           (ap holdings last ∙ append-held i.actors.entries c.args.name left
-          ∙ ap (λ (h : Holding). holdings i.actors.entries ++ (c.args.name, h) ∷ []) (ap handles c.let_go.ensures)),
+          ∙ ap (λ (h : Holding). holdings i.actors.entries ++ (c.args.name, h) ∷ []) (ap handles c.let_go.ensures.session)),
       put,
-    )
+    ))
 
 pub invariant_of-self-then-is_over : goal.invariant_of-self-then-is_over
 invariant_of-self-then-is_over g c = c.step-answer.ensures.limit ∙ c.self.invariant
 
 pub invariant_of-self-2 : goal.invariant_of-self-2
-invariant_of-self-2 g c = c.step-answer.ensures.limit ∙ c.self.invariant
+invariant_of-self-2 g c = ap (λ (d : Desk). d.limit) c.let_go.ensures.desk ∙ c.step-answer.ensures.limit ∙ c.self.invariant

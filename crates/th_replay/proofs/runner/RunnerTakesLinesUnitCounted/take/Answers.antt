@@ -12,7 +12,7 @@ returns g c =
     let new : Progress = record { hub = c.answer.new.self; waiting = c.answer.new.out } in
     let line = line_given c.args.line in
     let a = c.answer.ensures in
-    subst (λ (k : Progress). Takes (Took g.W.Write.contents) (IsBroken g.W.Write.contents) line (k, c.args._desk.now, c.args.writer.now)
-    c.answer.result (new, c.args._desk.now, c.answer.new.writer)) c.self.view_is
-    (takes_on g.W.Write.contents line (old, c.args._desk.now, c.args.writer.now) (new, c.args._desk.now, c.answer.new.writer) a.0
+    subst (λ (k : Progress). Takes (Took g.W.Write.contents) (IsBroken g.W.Write.contents) c.args._taken line
+    (k, c.args._desk.now, c.args.writer.now) c.answer.result (new, c.args._desk.now, c.answer.new.writer)) c.self.view_is
+    (takes_on g.W.Write.contents c.args._taken line (old, c.args._desk.now, c.args.writer.now) (new, c.args._desk.now, c.answer.new.writer) a.0
     c.answer.result a.1 a.2)

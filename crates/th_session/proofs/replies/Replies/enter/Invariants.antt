@@ -5,5 +5,6 @@ use Rattle.th_session.proofs.replies.Replies.enter.Given as goal
 abbrev pub invariant-loop : goal.invariant-loop
 invariant-loop g l = record {
   desk : l.desk ≡ l.fn.desk;
-  said : Adds [] (output g.W.Write.contents l.fn.writer l.fn.self) (output g.W.Write.contents l.writer l.self);
+  gate : l.self.gate ≡ l.fn.self.gate;
+  said : Adds [] (output g.W.Write.contents l.fn.writer l.fn.self.text) (output g.W.Write.contents l.writer l.self.text);
 }

@@ -2,4 +2,4 @@ use Rattle.th_shared.proofs.Opened.{says-opened}
 use Rattle.th_shared.proofs.desk.SharedDeskDesk.open_topic.Goals as goal
 
 pub returns : goal.returns
-returns g c = says-opened _ _ _ c.args.making c.open.result c.open.ensures
+returns g c = says-opened _ _ _ c.args.making c.open-told.result c.open-told.ensures

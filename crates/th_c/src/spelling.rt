@@ -1,39 +1,30 @@
-//! Calls and replies of channels of numbers, as a trace tells of them: each value is its digits.
+//! Calls and replies of channels, as a trace tells of them: each value is as it is spelled.
 ghost use Rattle.std.specs.Prelude.{◌≡◌, IfOk};
-ghost use Rattle.std.specs.Fmt.{decimal};
-ghost use Rattle.th_c.specs.SpelledNumbers.{back, broadcast_call, broadcast_reply, edit, watch_call, watch_reply};
+ghost use Rattle.th_c.specs.SpelledValues.{back, broadcast_call, broadcast_reply, edit, watch_call, watch_reply};
 
-use itoa::Buffer;
+use crate::payload::Payload;
 use std::alloc::Global;
-use th_model::{BCall, BReply, Edit, Short, Value, ValueFault, WCall, WReply};
-
-/// The digits of a number, as a value.
-pub(crate) fn value(alloc: Global, number: u64) -> Result<Value, Short<()>>
-    ensures { IfOk result (λ v. v ≡ decimal number) }
-{
-    let mut buffer = Buffer::new();
-    match Value::new(alloc, buffer.format(number).as_bytes()) {
-        Ok(value) => Ok(value),
-        Err(_) => Err(Short { call: () }),
-    }
-}
+use th_model::{BCall, BReply, Edit, Short, Value, WCall, WReply};
 
 // A value that may be there.
-fn back(alloc: Global, number: Option<u64>) -> Result<Option<Value>, Short<()>>
-    ensures { IfOk result (λ v. v ≡ back number) }
+fn back<T: Payload>(alloc: Global, value: &Option<T>) -> Result<Option<Value>, Short<()>>
+    ensures { IfOk result (λ v. v ≡ back T.spelled value.now) }
 {
-    match number {
-        Some(number) => Ok(Some(value(alloc, number)?)),
+    match value {
+        Some(value) => Ok(Some(value.spelled(alloc)?)),
         None => Ok(None),
     }
 }
 
 /// A call of a broadcast channel.
-pub(crate) fn broadcast_call(alloc: Global, call: &BCall<u64>) -> Result<BCall<Value>, Short<()>>
-    ensures { IfOk result (λ c. c ≡ broadcast_call call.now) }
+pub(crate) fn broadcast_call<T: Payload>(
+    alloc: Global,
+    call: &BCall<T>,
+) -> Result<BCall<Value>, Short<()>>
+    ensures { IfOk result (λ c. c ≡ broadcast_call T.spelled call.now) }
 {
     match call {
-        BCall::Send(tx, number) => Ok(BCall::Send(*tx, value(alloc, *number)?)),
+        BCall::Send(tx, value) => Ok(BCall::Send(*tx, value.spelled(alloc)?)),
         BCall::TryRecv(rx) => Ok(BCall::TryRecv(*rx)),
         BCall::Recv(rx) => Ok(BCall::Recv(*rx)),
         BCall::Subscribe(tx) => Ok(BCall::Subscribe(*tx)),
@@ -49,17 +40,17 @@ pub(crate) fn broadcast_call(alloc: Global, call: &BCall<u64>) -> Result<BCall<V
 }
 
 /// A reply of a broadcast channel.
-pub(crate) fn broadcast_reply(
+pub(crate) fn broadcast_reply<T: Payload>(
     alloc: Global,
-    reply: &BReply<u64>,
+    reply: &BReply<T>,
 ) -> Result<BReply<Value>, Short<()>>
-    ensures { IfOk result (λ r. r ≡ broadcast_reply reply.now) }
+    ensures { IfOk result (λ r. r ≡ broadcast_reply T.spelled reply.now) }
 {
     match reply {
         BReply::Sent(n) => Ok(BReply::Sent(*n)),
-        BReply::NoReceivers(number) => Ok(BReply::NoReceivers(value(alloc, *number)?)),
-        BReply::Exhausted(number) => Ok(BReply::Exhausted(value(alloc, *number)?)),
-        BReply::Value(number) => Ok(BReply::Value(value(alloc, *number)?)),
+        BReply::NoReceivers(value) => Ok(BReply::NoReceivers(value.spelled(alloc)?)),
+        BReply::Exhausted(value) => Ok(BReply::Exhausted(value.spelled(alloc)?)),
+        BReply::Value(value) => Ok(BReply::Value(value.spelled(alloc)?)),
         BReply::Empty => Ok(BReply::Empty),
         BReply::Closed => Ok(BReply::Closed),
         BReply::Lagged(n) => Ok(BReply::Lagged(*n)),
@@ -68,28 +59,31 @@ pub(crate) fn broadcast_reply(
         BReply::Count(n) => Ok(BReply::Count(*n)),
         BReply::Done => Ok(BReply::Done),
         BReply::TooMany => Ok(BReply::TooMany),
-        BReply::NoHandle(number) => Ok(BReply::NoHandle(back(alloc, *number)?)),
+        BReply::NoHandle(value) => Ok(BReply::NoHandle(back(alloc, value)?)),
     }
 }
 
 // An edit of a watch channel.
-fn edit(alloc: Global, change: &Edit<u64>) -> Result<Edit<Value>, Short<()>>
-    ensures { IfOk result (λ e. e ≡ edit change.now) }
+fn edit<T: Payload>(alloc: Global, change: &Edit<T>) -> Result<Edit<Value>, Short<()>>
+    ensures { IfOk result (λ e. e ≡ edit T.spelled change.now) }
 {
     match change {
-        Edit::Set(number) => Ok(Edit::Set(value(alloc, *number)?)),
-        Edit::Differ(number) => Ok(Edit::Differ(value(alloc, *number)?)),
-        Edit::Quiet(number) => Ok(Edit::Quiet(value(alloc, *number)?)),
+        Edit::Set(value) => Ok(Edit::Set(value.spelled(alloc)?)),
+        Edit::Differ(value) => Ok(Edit::Differ(value.spelled(alloc)?)),
+        Edit::Quiet(value) => Ok(Edit::Quiet(value.spelled(alloc)?)),
     }
 }
 
 /// A call of a watch channel.
-pub(crate) fn watch_call(alloc: Global, call: &WCall<u64>) -> Result<WCall<Value>, Short<()>>
-    ensures { IfOk result (λ c. c ≡ watch_call call.now) }
+pub(crate) fn watch_call<T: Payload>(
+    alloc: Global,
+    call: &WCall<T>,
+) -> Result<WCall<Value>, Short<()>>
+    ensures { IfOk result (λ c. c ≡ watch_call T.spelled call.now) }
 {
     match call {
-        WCall::Send(tx, number) => Ok(WCall::Send(*tx, value(alloc, *number)?)),
-        WCall::Replace(tx, number) => Ok(WCall::Replace(*tx, value(alloc, *number)?)),
+        WCall::Send(tx, value) => Ok(WCall::Send(*tx, value.spelled(alloc)?)),
+        WCall::Replace(tx, value) => Ok(WCall::Replace(*tx, value.spelled(alloc)?)),
         WCall::EditBy(tx, change) => Ok(WCall::EditBy(*tx, edit(alloc, change)?)),
         WCall::Borrow(rx) => Ok(WCall::Borrow(*rx)),
         WCall::Take(rx) => Ok(WCall::Take(*rx)),
@@ -109,16 +103,19 @@ pub(crate) fn watch_call(alloc: Global, call: &WCall<u64>) -> Result<WCall<Value
 }
 
 /// A reply of a watch channel.
-pub(crate) fn watch_reply(alloc: Global, reply: &WReply<u64>) -> Result<WReply<Value>, Short<()>>
-    ensures { IfOk result (λ r. r ≡ watch_reply reply.now) }
+pub(crate) fn watch_reply<T: Payload>(
+    alloc: Global,
+    reply: &WReply<T>,
+) -> Result<WReply<Value>, Short<()>>
+    ensures { IfOk result (λ r. r ≡ watch_reply T.spelled reply.now) }
 {
     match reply {
         WReply::Done => Ok(WReply::Done),
-        WReply::NoReceivers(number) => Ok(WReply::NoReceivers(value(alloc, *number)?)),
-        WReply::Exhausted(number) => Ok(WReply::Exhausted(value(alloc, *number)?)),
-        WReply::Was(number) => Ok(WReply::Was(value(alloc, *number)?)),
+        WReply::NoReceivers(value) => Ok(WReply::NoReceivers(value.spelled(alloc)?)),
+        WReply::Exhausted(value) => Ok(WReply::Exhausted(value.spelled(alloc)?)),
+        WReply::Was(value) => Ok(WReply::Was(value.spelled(alloc)?)),
         WReply::Modified(published) => Ok(WReply::Modified(*published)),
-        WReply::Shown(number, unseen) => Ok(WReply::Shown(value(alloc, *number)?, *unseen)),
+        WReply::Shown(value, unseen) => Ok(WReply::Shown(value.spelled(alloc)?, *unseen)),
         WReply::Changed(unseen) => Ok(WReply::Changed(*unseen)),
         WReply::Marked => Ok(WReply::Marked),
         WReply::NotYet => Ok(WReply::NotYet),
@@ -128,6 +125,6 @@ pub(crate) fn watch_reply(alloc: Global, reply: &WReply<u64>) -> Result<WReply<V
         WReply::NewTx(tx) => Ok(WReply::NewTx(*tx)),
         WReply::Count(n) => Ok(WReply::Count(*n)),
         WReply::TooMany => Ok(WReply::TooMany),
-        WReply::NoHandle(number) => Ok(WReply::NoHandle(back(alloc, *number)?)),
+        WReply::NoHandle(value) => Ok(WReply::NoHandle(back(alloc, value)?)),
     }
 }

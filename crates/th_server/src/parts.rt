@@ -1,0 +1,246 @@
+//! The parts of histories that a hub has cut: they go to files of a folder, or are let go.
+use std::alloc::Global;
+use std::fs;
+use std::io::{Eprint, ErrorKind};
+use std::rt::Files;
+use std::sync::Wait;
+use std::sync::atomic::{AtomicBool, Ordering};
+use std::time::{Clock, Duration, SystemTime, UNIX_EPOCH};
+use th_lines::{Counted, WriteBuffer};
+use th_model::{Kind, Name};
+use th_program::part_name;
+use th_registry::channel::TopicSegment;
+use th_registry::{Channel, TopicId};
+use th_session::append_trace_lines;
+use th_shared::{Ended, Histories, SharedDesk};
+
+// How many folders are tried, where the first names are taken.
+const TRIES: u64 = 1000;
+
+/// Where the traces of parts are written: a runtime with files. Threads have it by this bound, since one on files has types of its
+/// own and cannot be taken to another thread.
+pub trait Store {
+    /// Writes the trace of a part of this topic to a file of this folder, under the name of such a part, and says whether it is there.
+    /// A part without entries needs no file.
+    fn store(&self, alloc: Global, folder: &str, topic: &Name, part: &TopicSegment) -> bool;
+}
+
+impl Store for HostRuntime {
+    fn store(&self, alloc: Global, folder: &str, topic: &Name, part: &TopicSegment) -> bool {
+        write_part(self, alloc, folder, topic, part)
+    }
+}
+
+/// Where parts go, and what people were told of those that are missing.
+#[derive(Drop)]
+pub(crate) struct Keeper<'a> {
+    // The folder of this start; without one they are let go.
+    folder: Option<&'a str>,
+    has_failed: AtomicBool,
+    has_lost: AtomicBool,
+}
+
+// A folder of its own for this start, below the one that is named: its name is the time, in seconds since 1970.
+fn folder_at<R: Files + Clock>(rt: &R, alloc: Global, dir: &str) -> Option<String> {
+    fs::create_dir_all(rt, dir).ok()?;
+    let since = SystemTime::now(rt).ok()?.duration_since(UNIX_EPOCH).ok()?;
+    for later in 0..TRIES {
+        let seconds = since.as_secs().saturating_add(later);
+        let name = format!(in alloc; "{dir}/{seconds}").ok()?;
+        match fs::create_dir(rt, name.as_str()) {
+            Ok(()) => return Some(name),
+            Err(e) if e.kind() == ErrorKind::AlreadyExists => {}
+            Err(_) => return None,
+        }
+    }
+    None
+}
+
+/// The folder of this start below the one that is named, if one is. `Err` where it could not be made.
+pub(crate) fn folder<R: Files + Clock>(
+    rt: &R,
+    alloc: Global,
+    dir: Option<&str>,
+) -> Result<Option<String>, ()> {
+    match dir {
+        None => Ok(None),
+        Some(dir) => match folder_at(rt, alloc, dir) {
+            Some(folder) => Ok(Some(folder)),
+            None => Err(()),
+        },
+    }
+}
+
+// The number of a part's first event, counted from 1, and how many entries the part has.
+fn span(part: &TopicSegment) -> (u64, u64) {
+    match part {
+        Channel::Broadcast(part) => (part.first().saturating_add(1), part.len()),
+        Channel::Watch(part) => (part.first().saturating_add(1), part.len()),
+    }
+}
+
+// The topic that a part is of: a channel's key is its topic's number, counted from 1.
+fn topic_of(part: &TopicSegment) -> TopicId {
+    let key = match part {
+        Channel::Broadcast(part) => part.key(),
+        Channel::Watch(part) => part.key(),
+    };
+    TopicId(key.saturating_sub(1))
+}
+
+// The next part of a topic of this kind. It waits until there is one, or none is to come.
+fn next_part<R: Wait>(rt: &R, histories: &Histories, kind: Kind) -> Option<TopicSegment> {
+    match kind {
+        Kind::Broadcast => Some(Channel::Broadcast(histories.broadcast.take(rt)?)),
+        Kind::Watch => Some(Channel::Watch(histories.watch.take(rt)?)),
+    }
+}
+
+// Writes the trace of a part to a new file.
+fn write_trace<R: Files>(rt: &R, alloc: Global, path: &str, part: &TopicSegment) -> bool {
+    let Ok(file) = fs::create(rt, path) else {
+        return false;
+    };
+    let mut writer = Counted::new(file);
+    let Ok(mut out) = WriteBuffer::new(alloc) else {
+        return false;
+    };
+    append_trace_lines(part, &mut out, &mut writer).is_ok() && out.flush(&mut writer).is_ok()
+}
+
+// Writes a part to a file of this folder. It has its name once it is whole, and until then a name that ends otherwise.
+fn write_part<R: Files>(
+    rt: &R,
+    alloc: Global,
+    folder: &str,
+    topic: &Name,
+    part: &TopicSegment,
+) -> bool {
+    let (number, entries) = span(part);
+    if entries == 0 {
+        return true;
+    }
+    let Ok(name) = part_name(alloc, topic.as_bytes(), number) else {
+        return false;
+    };
+    let name = name.as_str();
+    let Ok(path) = format!(in alloc; "{folder}/{name}") else {
+        return false;
+    };
+    let Ok(unfinished) = format!(in alloc; "{folder}/{name}.part") else {
+        return false;
+    };
+    if write_trace(rt, alloc, unfinished.as_str(), part)
+        && fs::rename(rt, unfinished.as_str(), path.as_str()).is_ok()
+    {
+        return true;
+    }
+    let _ = fs::remove_file(rt, unfinished.as_str());
+    false
+}
+
+impl<'a> Keeper<'a> {
+    /// Of parts that go to files of this folder, or nowhere.
+    pub(crate) fn new(folder: Option<&'a str>) -> Keeper<'a> {
+        Keeper {
+            folder,
+            has_failed: AtomicBool::new(false),
+            has_lost: AtomicBool::new(false),
+        }
+    }
+
+    // Says once that parts are missing, and why.
+    fn say_failed<R: Eprint>(&self, rt: &R) {
+        if !self.has_failed.swap(true, Ordering::Relaxed) {
+            let folder = self.folder.unwrap_or("");
+            let _ = eprintln!(rt;
+                "topichub: {folder}: a trace could not be written; the server goes on"
+            );
+        }
+    }
+
+    // The same, where they came faster than they were written.
+    fn say_lost<R: Eprint + Wait>(&self, rt: &R, histories: &Histories) {
+        let Some(folder) = self.folder else {
+            return;
+        };
+        if histories.lost(rt) > 0 && !self.has_lost.swap(true, Ordering::Relaxed) {
+            let _ = eprintln!(rt;
+                "topichub: {folder}: traces are left out, since they come faster than they are written"
+            );
+        }
+    }
+
+    // Keeps a part of a topic whose name may be unknown for want of memory.
+    fn keep<R: Eprint + Store>(
+        &self,
+        rt: &R,
+        alloc: Global,
+        topic: Option<Name>,
+        part: &TopicSegment,
+    ) {
+        let Some(folder) = self.folder else {
+            return;
+        };
+        let is_written = match &topic {
+            Some(topic) => rt.store(alloc, folder, topic, part),
+            None => false,
+        };
+        if !is_written {
+            self.say_failed(rt);
+        }
+    }
+
+    /// Keeps the parts of topics of one kind as they come, until none is to come.
+    pub(crate) fn keep_all<R: Wait + Clock + Clone + Eprint + Store>(
+        &self,
+        rt: &R,
+        alloc: Global,
+        desk: &SharedDesk<R>,
+        histories: &Histories,
+        kind: Kind,
+    ) {
+        for _ in rt.forever() {
+            let Some(part) = next_part(rt, histories, kind) else {
+                break;
+            };
+            let name = if self.folder.is_some() {
+                desk.name_of(topic_of(&part))
+            } else {
+                None
+            };
+            self.keep(rt, alloc, name, &part);
+            self.say_lost(rt, histories);
+        }
+        self.say_lost(rt, histories);
+    }
+
+    /// Keeps the last part of each topic, once nobody is served any more.
+    pub(crate) fn keep_last<R: Wait + Clock + Clone + Eprint + Store>(
+        &self,
+        rt: &R,
+        alloc: Global,
+        desk: SharedDesk<R>,
+    ) {
+        if self.folder.is_none() {
+            return;
+        }
+        let Ok((topics, _)) = desk.finish(alloc) else {
+            self.say_failed(rt);
+            return;
+        };
+        for topic in topics {
+            match topic {
+                Ended::Broadcast(name, log, _) => {
+                    let (_, part) = log.finish();
+                    self.keep(rt, alloc, Some(name), &Channel::Broadcast(part));
+                }
+                Ended::Watch(name, log, _) => {
+                    let (_, part) = log.finish();
+                    self.keep(rt, alloc, Some(name), &Channel::Watch(part));
+                }
+                Ended::Held(_, _) => self.say_failed(rt),
+            }
+        }
+    }
+}
