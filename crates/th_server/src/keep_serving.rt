@@ -13,7 +13,7 @@ use std::os::unix::net::{UnixListener, UnixStream};
 use std::rt::Files;
 use std::sync::{Arc, Wait};
 use std::thread;
-use std::thread::{JoinHandle, Scope, Threads, sleep};
+use std::thread::{Scope, Threads, sleep};
 use std::time::{Clock, Duration};
 use th_lines::Counted;
 use th_model::Kind;
@@ -147,22 +147,6 @@ fn end_all<R: Wait + Clock + Net>(rt: &R, path: &str, made: &Socket, connections
     }
 }
 
-// A thread that keeps the parts of topics of this kind, where one can be started.
-fn start_keeper<'s, E, R: Wait + Clock + Clone + Send + Sync + Eprint + Store>(
-    scope: &Scope<'s, E>,
-    rt: &'s R,
-    alloc: Global,
-    shared: &'s SharedDesk<R>,
-    histories: &'s Histories,
-    keeper: &'s Keeper<'s>,
-    kind: Kind,
-) -> Option<JoinHandle<()>> {
-    match scope.spawn(move || keeper.keep_all(rt, alloc, shared, histories, kind)) {
-        Ok(handle) => Some(handle),
-        Err(_) => None,
-    }
-}
-
 // Serves at this socket, which stands at the path, and says when clients can connect: by threads of this scope.
 fn serve_all<
     's,
@@ -186,9 +170,9 @@ fn serve_all<
     let Some(histories) = shared.histories() else {
         return End::Short;
     };
-    let one = start_keeper(scope, rt, alloc, shared, histories, keeper, Kind::Broadcast);
-    let other = start_keeper(scope, rt, alloc, shared, histories, keeper, Kind::Watch);
-    let mut end = if one.is_some() && other.is_some() {
+    let one = scope.spawn(move || keeper.keep_all(rt, alloc, shared, histories, Kind::Broadcast));
+    let other = scope.spawn(move || keeper.keep_all(rt, alloc, shared, histories, Kind::Watch));
+    let mut end = if one.is_ok() && other.is_ok() {
         End::Done
     } else {
         End::Short
@@ -218,10 +202,10 @@ fn serve_all<
         worker.join(rt);
     }
     histories.end(rt);
-    if let Some(one) = one {
+    if let Ok(one) = one {
         one.join(rt);
     }
-    if let Some(other) = other {
+    if let Ok(other) = other {
         other.join(rt);
     }
     end
