@@ -291,8 +291,13 @@ uint32_t topichub_broadcast_cut(topichub_broadcast *channel, topichub_trace *tra
 /* Makes one without a history, as topichub_broadcast_new does. */
 uint32_t topichub_broadcast_new_of_bytes(topichub_broadcast *channel, uint64_t capacity, uint64_t base);
 
+/* Makes one with a history, as topichub_broadcast_new_recorded does. In its trace each value stands as it is. */
+uint32_t topichub_broadcast_new_of_bytes_recorded(topichub_broadcast *channel, uint64_t capacity, uint64_t base,
+                                                  uint64_t limit);
+
 /* Sends `length` bytes to every live receiver. `bytes` is not NULL. Statuses as of topichub_broadcast_send, and
-   TOPICHUB_BAD_VALUE, TOPICHUB_OTHER_VALUES. */
+   TOPICHUB_BAD_VALUE, TOPICHUB_OTHER_VALUES. The bytes are looked at and copied first: so TOPICHUB_BAD_VALUE comes
+   before what the channel says, and TOPICHUB_NO_MEMORY may come in place of it. */
 topichub_reply topichub_broadcast_send_bytes(topichub_broadcast *channel, uint64_t tx, const uint8_t *bytes,
                                              size_t length);
 
@@ -425,8 +430,8 @@ uint32_t topichub_watch_cut(topichub_watch *channel, topichub_trace *trace);
  * TRACES
  *
  * A trace is a text: the state that a channel was in, then each call with its reply (docs/FORMATS.md, "Traces").
- * Anyone can check it by topichub_check, or by the program `topichub check`. A value stands in it as a number in
- * decimal digits: that is how the number 10 becomes the value `10` of a trace.
+ * Anyone can check it by topichub_check, or by the program `topichub check`. A number stands in it by its decimal
+ * digits: that is how the number 10 becomes the value `10` of a trace. Bytes stand in it as they are.
  */
 
 /*

@@ -82,6 +82,15 @@ AnswersSame (Some call) before told after =
     Answers broadcast (tells length) TakesNoMemory before call told after
 AnswersSame None before told after = (told ≡ Err OtherValues) × (after ≡ before)
 
+-- and of one that keeps its history
+abbrev pub BytesHistory : Type 0
+BytesHistory = History (Picture Bytes) (Picture Bytes) (BCall Bytes) (BReply Bytes)
+
+abbrev pub RecordsSame : Option (BCall Bytes) → BytesHistory → Result Reply Refusal → BytesHistory
+    → Type 0
+RecordsSame (Some call) before told after = Records broadcast (tells length) before call told after
+RecordsSame None before told after = (told ≡ Err OtherValues) × (after ≡ before)
+
 -- what comes of a call to what is behind a handle: an answer, where it is a broadcast channel
 abbrev pub Answered : Content → BCall ℕ → Result Reply Refusal → Content → Type 0
 Answered (content.Broadcast before) call told next =
@@ -96,6 +105,10 @@ Answered (content.BroadcastOfBytes before) call told next =
     (after : Picture Bytes)
     × (next ≡ content.BroadcastOfBytes after)
     × AnswersSame (without_value call) before told after
+Answered (content.RecordedBroadcastOfBytes before) call told next =
+    (after : BytesHistory)
+    × (next ≡ content.RecordedBroadcastOfBytes after)
+    × RecordsSame (without_value call) before told after
 Answered other call told next = (told ≡ Err NotOpen) × (next ≡ other)
 
 -- and through the handle

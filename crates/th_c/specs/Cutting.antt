@@ -1,9 +1,13 @@
 -- Histories that are cut, and read as texts.
 use Rattle.std.specs.Prelude.{◌≡◌, ℕ, ◌++◌, List, drop, length, map, min, take, Option, Some, None, IsSome, Result, Ok, Err}
 use Rattle.th_traces.specs.Traces.{broadcast_trace, watch_trace}
+use Rattle.th_log.specs.History.{Piece}
+use Rattle.th_model.specs.BroadcastPicture.{Picture}
+use Rattle.th_model.specs.declared.broadcast.BCall.{BCall}
+use Rattle.th_model.specs.declared.broadcast.BReply.{BReply}
 use Rattle.th_registry.specs.History.{cut, segment}
 use Rattle.th_c.specs.declared.content.Content.{Content}
-use Rattle.th_c.specs.declared.content.Content.TheVariants.{Broadcast, BroadcastHistory, BroadcastOfBytes, RecordedBroadcast, RecordedWatch, Read, Watch, WatchHistory}
+use Rattle.th_c.specs.declared.content.Content.TheVariants.{Broadcast, BroadcastHistory, BroadcastHistoryOfBytes, BroadcastOfBytes, RecordedBroadcast, RecordedBroadcastOfBytes, RecordedWatch, Read, Watch, WatchHistory}
 use Rattle.th_c.specs.declared.outcome.Refusal.{Refusal}
 use Rattle.th_c.specs.declared.outcome.Refusal.TheVariants.{NoMemory, NotOpen, NotRecorded}
 use Rattle.th_c.specs.declared.status.TheConstants.{DONE, IS_OPEN, NOT_OPEN}
@@ -20,6 +24,12 @@ CutsBroadcast (RecordedBroadcast h) (Ok taken) after =
     (taken ≡ BroadcastHistory (segment h h.state)) × (after ≡ RecordedBroadcast (cut h h.state))
 CutsBroadcast (RecordedBroadcast h) (Err NoMemory) after = after ≡ RecordedBroadcast h
 CutsBroadcast (RecordedBroadcast h) (Err why) after = ⊥
+CutsBroadcast (RecordedBroadcastOfBytes h) (Ok taken) after =
+    (taken ≡ BroadcastHistoryOfBytes (segment h h.state))
+    × (after ≡ RecordedBroadcastOfBytes (cut h h.state))
+CutsBroadcast (RecordedBroadcastOfBytes h) (Err NoMemory) after =
+    after ≡ RecordedBroadcastOfBytes h
+CutsBroadcast (RecordedBroadcastOfBytes h) (Err why) after = ⊥
 CutsBroadcast (Broadcast p) told after = (told ≡ Err NotRecorded) × (after ≡ Broadcast p)
 CutsBroadcast (BroadcastOfBytes p) told after =
     (told ≡ Err NotRecorded) × (after ≡ BroadcastOfBytes p)
@@ -50,11 +60,17 @@ Cuts does (Some content) None status channel' trace' =
     × (trace' ≡ made told)
     × does content told next
 
--- what is still to come of a trace, if it is one
+-- the trace of a segment, each value as it is spelled
+abbrev pub broadcast_text : {T : Type 0} → (T → List ℕ)
+    → Piece (Picture T) (BCall T) (BReply T) → List ℕ
+broadcast_text spelled s =
+    broadcast_trace (broadcast_picture spelled s.start) (map (broadcast_entry spelled) s.entries)
+
+-- What is still to come of a trace, if it is one. A number is spelled by its digits, bytes as they
+-- are.
 abbrev pub to_come : Content → Option (List ℕ)
-to_come (BroadcastHistory s) =
-    let entries = map (broadcast_entry decimal) s.entries in
-    Some (broadcast_trace (broadcast_picture decimal s.start) entries)
+to_come (BroadcastHistory s) = Some (broadcast_text decimal s)
+to_come (BroadcastHistoryOfBytes s) = Some (broadcast_text (λ value. value) s)
 to_come (WatchHistory s) =
     Some (watch_trace (watch_picture decimal s.start) (map (watch_entry decimal) s.entries))
 to_come (Read text) = Some text

@@ -6,7 +6,7 @@ use Rattle.th_model.specs.BroadcastPicture as broadcast_picture
 use Rattle.th_model.specs.WatchMachine as watch
 use Rattle.th_model.specs.WatchPicture as watch_picture
 use Rattle.th_c.specs.declared.content.Content.{Content}
-use Rattle.th_c.specs.declared.content.Content.TheVariants.{Broadcast, BroadcastOfBytes, RecordedBroadcast, RecordedWatch, Watch}
+use Rattle.th_c.specs.declared.content.Content.TheVariants.{Broadcast, BroadcastOfBytes, RecordedBroadcast, RecordedBroadcastOfBytes, RecordedWatch, Watch}
 use Rattle.th_c.specs.declared.outcome.Refusal.{Refusal}
 use Rattle.th_c.specs.declared.outcome.Refusal.TheVariants.{NoMemory, BadCapacity, BadLimit, BadVersion}
 use Rattle.th_c.specs.declared.status.TheConstants.{DONE, IS_OPEN}
@@ -50,6 +50,21 @@ OpensRecordedBroadcast capacity base limit (Err BadLimit) = IsLimit limit → �
 OpensRecordedBroadcast capacity base limit (Err NoMemory) =
     IsSome (capacity_of capacity) × IsLimit limit
 OpensRecordedBroadcast capacity base limit (Err why) = ⊥
+
+-- one of bytes
+abbrev pub OpensRecordedBroadcastOfBytes : (capacity base limit : ℕ) → Result Content Refusal
+    → Type 0
+OpensRecordedBroadcastOfBytes capacity base limit (Ok content) =
+    (in_force : ℕ)
+    × (capacity_of capacity ≡ Some in_force)
+    × IsLimit limit
+    × let seen = broadcast_picture.see (broadcast.opened in_force base) in
+    content ≡ RecordedBroadcastOfBytes (opened limit 0 seen seen)
+OpensRecordedBroadcastOfBytes capacity base limit (Err BadCapacity) = capacity_of capacity ≡ None
+OpensRecordedBroadcastOfBytes capacity base limit (Err BadLimit) = IsLimit limit → ⊥
+OpensRecordedBroadcastOfBytes capacity base limit (Err NoMemory) =
+    IsSome (capacity_of capacity) × IsLimit limit
+OpensRecordedBroadcastOfBytes capacity base limit (Err why) = ⊥
 
 -- and a watch channel
 abbrev pub OpensWatch : (value version : ℕ) → Result Content Refusal → Type 0

@@ -1,6 +1,6 @@
 //! A broadcast channel's replies, as C sees them, and its calls through a handle.
 ghost use Rattle.std.specs.Prelude.{◌≡◌};
-ghost use Rattle.th_c.specs.Broadcast.{Answered, AnswersSame, Called, number_of, status_of, without_value};
+ghost use Rattle.th_c.specs.Broadcast.{Answered, AnswersSame, Called, RecordsSame, number_of, status_of, without_value};
 
 use crate::content::{BytesBroadcast, Content, RingBroadcast};
 use crate::handle::Handle;
@@ -13,6 +13,7 @@ use crate::status;
 use crate::tells::{Tells, answered, recorded};
 use std::alloc::Global;
 use th_model::{BCall, BReply, Value};
+use th_registry::recorded::Recorded;
 
 // The status of a reply, and the number that it speaks of.
 #[inline(always)]
@@ -91,6 +92,16 @@ fn answered_same(channel: &mut BytesBroadcast, call: BCall<u64>) -> Told
     }
 }
 
+// The same of one that keeps its history.
+fn recorded_same(channel: &mut Recorded<BytesBroadcast>, call: BCall<u64>) -> Told
+    ensures { RecordsSame (without_value call) channel.old result channel.new }
+{
+    match without_value(call) {
+        Some(call) => recorded(channel, call),
+        None => Err(Refusal::OtherValues),
+    }
+}
+
 // Makes a call of what is behind a handle.
 #[inline(always)]
 fn called(content: &mut Content, call: BCall<u64>) -> Told
@@ -100,6 +111,7 @@ fn called(content: &mut Content, call: BCall<u64>) -> Told
         Content::Broadcast(channel) => answered(channel, call),
         Content::RecordedBroadcast(channel) => recorded(channel, call),
         Content::BroadcastOfBytes(channel) => answered_same(channel, call),
+        Content::RecordedBroadcastOfBytes(channel) => recorded_same(channel, call),
         _ => Err(Refusal::NotOpen),
     }
 }

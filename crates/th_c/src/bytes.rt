@@ -4,11 +4,12 @@ ghost use Rattle.std.specs.Prelude.{◌≡◌, length, nat_lt};
 ghost use Rattle.th_model.specs.Names.{is_value};
 ghost use Rattle.th_model.specs.BroadcastPicture.{answer};
 ghost use Rattle.th_model.specs.declared.broadcast.BCall.TheVariants.{Send, TryRecv, Recv};
-ghost use Rattle.th_c.specs.Bytes.{AnswersOfBytes, Gives, GivesBytes, GivesValue, SendsBytes, SendsValue, shown_in, with_value};
+ghost use Rattle.th_c.specs.Bytes.{Answering, AnswersOfBytes, Gives, GivesBytes, SendsBytes, SendsValue, shown_in, with_value};
 ghost use Rattle.th_c.specs.Handles.{receiver, sender};
-ghost use Rattle.th_c.specs.Making.{Fills, OpensBroadcastOfBytes};
+ghost use Rattle.th_c.specs.Making.{Fills, OpensBroadcastOfBytes, OpensRecordedBroadcastOfBytes};
 ghost use Rattle.th_c.specs.Outcomes.{Through};
 
+use crate::bytes_recorded::{give_recorded, record_value};
 use crate::content::{BytesBroadcast, Content};
 use crate::handle::Handle;
 use crate::outcome::{Refusal, Told, reply};
@@ -21,7 +22,7 @@ use std::alloc::Global;
 use th_model::{BCall, BReply, RxId, TxId, Value, ValueFault};
 
 /// The most bytes that a value has.
-const MOST_BYTES: usize = 1024;
+pub(crate) const MOST_BYTES: usize = 1024;
 
 /// A channel of bytes with sender 1 and no receiver, in a handle that stands for nothing.
 #[unsafe(no_mangle)]
@@ -38,6 +39,27 @@ pub extern "C" fn topichub_broadcast_new_of_bytes(
         return status::IS_OPEN;
     }
     making::fill(channel, making::broadcast_of_bytes(alloc, capacity, base))
+}
+
+/// One that keeps its history, of at most `limit` entries between two cuts.
+#[unsafe(no_mangle)]
+pub extern "C" fn topichub_broadcast_new_of_bytes_recorded(
+    alloc: Global,
+    channel: &mut Handle,
+    capacity: u64,
+    base: u64,
+    limit: u64,
+) -> u32
+    ensures { Fills (λ came. OpensRecordedBroadcastOfBytes capacity base limit came)
+        channel.old.value result channel.new.value }
+{
+    if making::is_open(alloc, channel) {
+        return status::IS_OPEN;
+    }
+    making::fill(
+        channel,
+        making::recorded_broadcast_of_bytes(alloc, capacity, base, limit),
+    )
 }
 
 // Sends bytes, if they are a value.
@@ -57,6 +79,7 @@ fn send_on(alloc: Global, content: &mut Content, tx: TxId, bytes: &[u8]) -> Told
 {
     match content {
         Content::BroadcastOfBytes(channel) => send_value(alloc, channel, tx, bytes),
+        Content::RecordedBroadcastOfBytes(channel) => record_value(alloc, channel, tx, bytes),
         Content::Broadcast(_) => Err(Refusal::OtherValues),
         Content::RecordedBroadcast(_) => Err(Refusal::OtherValues),
         _ => Err(Refusal::NotOpen),
@@ -83,8 +106,8 @@ pub extern "C" fn topichub_broadcast_send_bytes(
     reply(told)
 }
 
-// Puts the value of a reply into a buffer.
-fn put_value(reply: &BReply<Value>, buffer: &mut [u8])
+/// Puts the value of a reply into a buffer.
+pub(crate) fn put_value(reply: &BReply<Value>, buffer: &mut [u8])
     ensures { buffer.new ≡ with_value reply.now buffer.old }
 {
     match reply {
@@ -117,8 +140,7 @@ fn answered_into(channel: &mut BytesBroadcast, call: BCall<Value>, buffer: &mut 
 
 // The same, if the buffer has room for each value.
 fn give_value(channel: &mut BytesBroadcast, call: BCall<Value>, buffer: &mut [u8]) -> Told
-    ensures { GivesValue (nat_lt (length buffer.old) 1024)
-        channel.old call buffer.old result channel.new buffer.new }
+    ensures { Answering channel.old call buffer.old result channel.new buffer.new }
 {
     if buffer.len() < MOST_BYTES {
         return Err(Refusal::SmallBuffer);
@@ -132,6 +154,7 @@ fn give_from(content: &mut Content, call: BCall<Value>, buffer: &mut [u8]) -> To
 {
     match content {
         Content::BroadcastOfBytes(channel) => give_value(channel, call, buffer),
+        Content::RecordedBroadcastOfBytes(channel) => give_recorded(channel, call, buffer),
         Content::Broadcast(_) => Err(Refusal::OtherValues),
         Content::RecordedBroadcast(_) => Err(Refusal::OtherValues),
         _ => Err(Refusal::NotOpen),

@@ -28,12 +28,16 @@ pub enum Content {
     RecordedBroadcast(Recorded<NumberBroadcast>),
     /// A broadcast channel of bytes that keeps no history.
     BroadcastOfBytes(BytesBroadcast),
+    /// One that keeps its history.
+    RecordedBroadcastOfBytes(Recorded<BytesBroadcast>),
     /// A watch channel that keeps no history.
     Watch(NumberWatch),
     /// One that keeps its history.
     RecordedWatch(Recorded<NumberWatch>),
     /// A segment of a broadcast channel's history, whose trace was not read yet.
     BroadcastHistory(Segment<NumberBroadcast>),
+    /// One of a broadcast channel of bytes.
+    BroadcastHistoryOfBytes(Segment<BytesBroadcast>),
     /// One of a watch channel's.
     WatchHistory(Segment<NumberWatch>),
     /// A trace, as far as it was not read yet.

@@ -36,6 +36,16 @@ fn cut_broadcast(alloc: Global, content: &mut Content) -> Result<Box<Content>, R
             *taken = Content::BroadcastHistory(segment);
             Ok(taken)
         }
+        Content::RecordedBroadcastOfBytes(channel) => {
+            let Ok(mut taken) = room(alloc) else {
+                return Err(Refusal::NoMemory);
+            };
+            let Ok(segment) = channel.cut() else {
+                return Err(Refusal::NoMemory);
+            };
+            *taken = Content::BroadcastHistoryOfBytes(segment);
+            Ok(taken)
+        }
         Content::Broadcast(_) => Err(Refusal::NotRecorded),
         Content::BroadcastOfBytes(_) => Err(Refusal::NotRecorded),
         _ => Err(Refusal::NotOpen),
@@ -108,6 +118,7 @@ fn print(alloc: Global, content: &mut Content) -> Result<(), Refusal>
 {
     let text = match content {
         Content::BroadcastHistory(segment) => printing::broadcast_text(alloc, segment),
+        Content::BroadcastHistoryOfBytes(segment) => printing::broadcast_text(alloc, segment),
         Content::WatchHistory(segment) => printing::watch_text(alloc, segment),
         Content::Read(_) => return Ok(()),
         _ => return Err(Refusal::NotOpen),

@@ -9,6 +9,7 @@
 mod broadcast;
 pub mod broadcast_calls;
 pub mod bytes;
+mod bytes_recorded;
 pub mod checking;
 mod content;
 pub mod cutting;

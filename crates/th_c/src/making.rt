@@ -1,6 +1,6 @@
 //! What a handle stands for, made and let go.
 ghost use Rattle.std.specs.Prelude.{◌≡◌, ◌↔◌, IsTrue, is_some, MatchResult, Ok, Err, Some, None};
-ghost use Rattle.th_c.specs.Making.{IsLimit, OpensBroadcast, OpensBroadcastOfBytes, OpensRecordedBroadcast, OpensRecordedWatch, OpensWatch};
+ghost use Rattle.th_c.specs.Making.{IsLimit, OpensBroadcast, OpensBroadcastOfBytes, OpensRecordedBroadcast, OpensRecordedBroadcastOfBytes, OpensRecordedWatch, OpensWatch};
 ghost use Rattle.th_c.specs.Outcomes.{code_of};
 ghost use Rattle.th_c.specs.declared.outcome.Refusal.TheVariants.{NoMemory};
 ghost use Rattle.th_c.specs.declared.status.TheConstants.{DONE};
@@ -103,6 +103,32 @@ pub(crate) fn recorded_broadcast(
     };
     match Recorded::new(alloc, channel, limit, 0) {
         Ok(channel) => boxed(alloc, Content::RecordedBroadcast(channel)),
+        Err(_) => Err(Refusal::NoMemory),
+    }
+}
+
+/// One of bytes.
+pub(crate) fn recorded_broadcast_of_bytes(
+    alloc: Global,
+    capacity: u64,
+    base: u64,
+    limit: u64,
+) -> Result<Box<Content>, Refusal>
+    ensures { MatchResult result
+        (λ b. OpensRecordedBroadcastOfBytes capacity base limit (Ok b.value))
+        (λ why. OpensRecordedBroadcastOfBytes capacity base limit (Err why)) }
+{
+    let Ok(in_force) = Capacity::new(capacity) else {
+        return Err(Refusal::BadCapacity);
+    };
+    if !is_limit(limit) {
+        return Err(Refusal::BadLimit);
+    }
+    let Ok(channel) = BytesBroadcast::starting_at(alloc, in_force, base) else {
+        return Err(Refusal::NoMemory);
+    };
+    match Recorded::new(alloc, channel, limit, 0) {
+        Ok(channel) => boxed(alloc, Content::RecordedBroadcastOfBytes(channel)),
         Err(_) => Err(Refusal::NoMemory),
     }
 }
