@@ -35,7 +35,8 @@
  * VALUES
  *
  * A value is a number of 64 bits. It may be the value itself, or stand for whatever the caller keeps: an index, or a
- * pointer. The channel copies it, compares it where it says so, and does nothing else with it.
+ * pointer. The channel copies it, compares it where it says so, and does nothing else with it. Channels whose values
+ * are bytes have calls of their own (below).
  *
  * Who keeps something for each value learns from each reply how many of them the channel lets go of (let_go, below),
  * oldest first. Values are kept in the order in which they were sent. So a queue is enough: append what is sent when
@@ -424,6 +425,50 @@ topichub_reply topichub_watch_readers(topichub_watch *channel, uint64_t tx);
 /* Takes the history so far, as a trace in *trace, which is none yet; as topichub_broadcast_cut does, with the same
    statuses. */
 uint32_t topichub_watch_cut(topichub_watch *channel, topichub_trace *trace);
+
+
+/*
+ * WATCH CHANNELS OF BYTES
+ *
+ * Their values are as those of broadcast channels of bytes, and so are numbers that speak of a value. All calls above
+ * that neither take nor give a value are for them too. topichub_watch_send, _replace, _set, _differ, _quiet, _borrow
+ * and _take come to TOPICHUB_OTHER_VALUES, as the calls below do of a channel of numbers.
+ *
+ * The bytes that are given are looked at and copied first, then the buffer is looked at, then the channel: so
+ * TOPICHUB_BAD_VALUE comes before TOPICHUB_SMALL_BUFFER, and both before what the channel says, and
+ * TOPICHUB_NO_MEMORY may come in place of it. `bytes` and `buffer` are not NULL.
+ */
+
+/* Makes one without a history, as topichub_watch_new does. Further TOPICHUB_BAD_VALUE. */
+uint32_t topichub_watch_new_of_bytes(topichub_watch *channel, const uint8_t *bytes, size_t length, uint64_t version);
+
+/* Makes one with a history, as topichub_watch_new_recorded does. Further TOPICHUB_BAD_VALUE. In its trace each value
+   stands as it is. */
+uint32_t topichub_watch_new_of_bytes_recorded(topichub_watch *channel, const uint8_t *bytes, size_t length,
+                                              uint64_t version, uint64_t limit);
+
+/* As topichub_watch_send, _set, _differ and _quiet, with `length` bytes as the value. Further TOPICHUB_BAD_VALUE,
+   TOPICHUB_OTHER_VALUES. */
+topichub_reply topichub_watch_send_bytes(topichub_watch *channel, uint64_t tx, const uint8_t *bytes, size_t length);
+topichub_reply topichub_watch_set_bytes(topichub_watch *channel, uint64_t tx, const uint8_t *bytes, size_t length);
+topichub_reply topichub_watch_differ_bytes(topichub_watch *channel, uint64_t tx, const uint8_t *bytes, size_t length);
+topichub_reply topichub_watch_quiet_bytes(topichub_watch *channel, uint64_t tx, const uint8_t *bytes, size_t length);
+
+/*
+ * As topichub_watch_borrow and topichub_watch_take. With TOPICHUB_NEW and TOPICHUB_SAME the value is put into
+ * `buffer`, which has room for `length` bytes, at least TOPICHUB_MOST_BYTES, and the number is how many it has. The
+ * rest of the buffer stays as it is, and all of it with any other status.
+ *
+ * Further TOPICHUB_SMALL_BUFFER, TOPICHUB_OTHER_VALUES.
+ */
+topichub_reply topichub_watch_borrow_bytes(topichub_watch *channel, uint64_t rx, uint8_t *buffer, size_t length);
+topichub_reply topichub_watch_take_bytes(topichub_watch *channel, uint64_t rx, uint8_t *buffer, size_t length);
+
+/* As topichub_watch_replace, with `length` bytes as the value. With TOPICHUB_WAS the value before is put into
+   `buffer`, which has room for `room` bytes, as topichub_watch_borrow_bytes does it. Further TOPICHUB_BAD_VALUE,
+   TOPICHUB_SMALL_BUFFER, TOPICHUB_OTHER_VALUES. `bytes` and `buffer` do not overlap. */
+topichub_reply topichub_watch_replace_bytes(topichub_watch *channel, uint64_t tx, const uint8_t *bytes, size_t length,
+                                            uint8_t *buffer, size_t room);
 
 
 /*

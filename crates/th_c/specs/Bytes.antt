@@ -54,11 +54,15 @@ SendsBytes (content.RecordedBroadcast h) call bytes told next =
     (told ≡ Err OtherValues) × (next ≡ content.RecordedBroadcast h)
 SendsBytes other call bytes told next = (told ≡ Err NotOpen) × (next ≡ other)
 
--- a buffer into which the value of a reply is put, as far as there is room for it
+-- a buffer into which bytes are put, as far as there is room for them; and that of the value of a
+-- reply
+abbrev pub with_bytes : Bytes → List ℕ → List ℕ
+with_bytes bytes buffer =
+    let count = min (length buffer) (length bytes) in
+    take count bytes ++ drop count buffer
+
 abbrev pub with_value : BReply Bytes → List ℕ → List ℕ
-with_value (Value value) buffer =
-    let count = min (length buffer) (length value) in
-    take count value ++ drop count buffer
+with_value (Value value) buffer = with_bytes value buffer
 with_value reply buffer = buffer
 
 -- one into which that of the last reply of a history is put, if there is one

@@ -5,9 +5,12 @@ use Rattle.th_log.specs.History.{Piece}
 use Rattle.th_model.specs.BroadcastPicture.{Picture}
 use Rattle.th_model.specs.declared.broadcast.BCall.{BCall}
 use Rattle.th_model.specs.declared.broadcast.BReply.{BReply}
+use Rattle.th_model.specs.WatchPicture as watch
+use Rattle.th_model.specs.declared.watch.WCall.{WCall}
+use Rattle.th_model.specs.declared.watch.WReply.{WReply}
 use Rattle.th_registry.specs.History.{cut, segment}
 use Rattle.th_c.specs.declared.content.Content.{Content}
-use Rattle.th_c.specs.declared.content.Content.TheVariants.{Broadcast, BroadcastHistory, BroadcastHistoryOfBytes, BroadcastOfBytes, RecordedBroadcast, RecordedBroadcastOfBytes, RecordedWatch, Read, Watch, WatchHistory}
+use Rattle.th_c.specs.declared.content.Content.TheVariants.{Broadcast, BroadcastHistory, BroadcastHistoryOfBytes, BroadcastOfBytes, RecordedBroadcast, RecordedBroadcastOfBytes, RecordedWatch, RecordedWatchOfBytes, Read, Watch, WatchHistory, WatchHistoryOfBytes, WatchOfBytes}
 use Rattle.th_c.specs.declared.outcome.Refusal.{Refusal}
 use Rattle.th_c.specs.declared.outcome.Refusal.TheVariants.{NoMemory, NotOpen, NotRecorded}
 use Rattle.th_c.specs.declared.status.TheConstants.{DONE, IS_OPEN, NOT_OPEN}
@@ -41,7 +44,13 @@ CutsWatch (RecordedWatch h) (Ok taken) after =
     (taken ≡ WatchHistory (segment h h.state)) × (after ≡ RecordedWatch (cut h h.state))
 CutsWatch (RecordedWatch h) (Err NoMemory) after = after ≡ RecordedWatch h
 CutsWatch (RecordedWatch h) (Err why) after = ⊥
+CutsWatch (RecordedWatchOfBytes h) (Ok taken) after =
+    (taken ≡ WatchHistoryOfBytes (segment h h.state))
+    × (after ≡ RecordedWatchOfBytes (cut h h.state))
+CutsWatch (RecordedWatchOfBytes h) (Err NoMemory) after = after ≡ RecordedWatchOfBytes h
+CutsWatch (RecordedWatchOfBytes h) (Err why) after = ⊥
 CutsWatch (Watch p) told after = (told ≡ Err NotRecorded) × (after ≡ Watch p)
+CutsWatch (WatchOfBytes p) told after = (told ≡ Err NotRecorded) × (after ≡ WatchOfBytes p)
 CutsWatch other told after = (told ≡ Err NotOpen) × (after ≡ other)
 
 -- Through the handle of a channel, into that of a trace: where the second stands for something, or
@@ -66,13 +75,18 @@ abbrev pub broadcast_text : {T : Type 0} → (T → List ℕ)
 broadcast_text spelled s =
     broadcast_trace (broadcast_picture spelled s.start) (map (broadcast_entry spelled) s.entries)
 
+abbrev pub watch_text : {T : Type 0} → (T → List ℕ)
+    → Piece (watch.Picture T) (WCall T) (WReply T) → List ℕ
+watch_text spelled s =
+    watch_trace (watch_picture spelled s.start) (map (watch_entry spelled) s.entries)
+
 -- What is still to come of a trace, if it is one. A number is spelled by its digits, bytes as they
 -- are.
 abbrev pub to_come : Content → Option (List ℕ)
 to_come (BroadcastHistory s) = Some (broadcast_text decimal s)
 to_come (BroadcastHistoryOfBytes s) = Some (broadcast_text (λ value. value) s)
-to_come (WatchHistory s) =
-    Some (watch_trace (watch_picture decimal s.start) (map (watch_entry decimal) s.entries))
+to_come (WatchHistory s) = Some (watch_text decimal s)
+to_come (WatchHistoryOfBytes s) = Some (watch_text (λ value. value) s)
 to_come (Read text) = Some text
 to_come other = None
 

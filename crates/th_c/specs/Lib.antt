@@ -6,6 +6,7 @@ pub mod LetGo
 pub mod Broadcast
 pub mod Bytes
 pub mod Watch
+pub mod WatchBytes
 pub mod Checking
 pub mod SpelledValues
 pub mod Cutting

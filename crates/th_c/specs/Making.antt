@@ -1,16 +1,18 @@
 -- What comes of the making of what a handle is to stand for.
-use Rattle.std.specs.Prelude.{◌<◌, ◌≡◌, ℕ, ◌≤◌, Option, Some, None, IsSome, Result, Ok, Err}
+use Rattle.std.specs.Prelude.{◌<◌, ◌≡◌, ℕ, ◌≤◌, true, false, Option, Some, None, IsSome, Result, Ok, Err}
 use Rattle.th_model.specs.Limits.{capacity_of}
+use Rattle.th_model.specs.Names.{is_value}
 use Rattle.th_model.specs.BroadcastMachine as broadcast
 use Rattle.th_model.specs.BroadcastPicture as broadcast_picture
 use Rattle.th_model.specs.WatchMachine as watch
 use Rattle.th_model.specs.WatchPicture as watch_picture
 use Rattle.th_c.specs.declared.content.Content.{Content}
-use Rattle.th_c.specs.declared.content.Content.TheVariants.{Broadcast, BroadcastOfBytes, RecordedBroadcast, RecordedBroadcastOfBytes, RecordedWatch, Watch}
+use Rattle.th_c.specs.declared.content.Content.TheVariants.{Broadcast, BroadcastOfBytes, RecordedBroadcast, RecordedBroadcastOfBytes, RecordedWatch, RecordedWatchOfBytes, Watch, WatchOfBytes}
 use Rattle.th_c.specs.declared.outcome.Refusal.{Refusal}
-use Rattle.th_c.specs.declared.outcome.Refusal.TheVariants.{NoMemory, BadCapacity, BadLimit, BadVersion}
+use Rattle.th_c.specs.declared.outcome.Refusal.TheVariants.{NoMemory, BadCapacity, BadLimit, BadValue, BadVersion}
 use Rattle.th_c.specs.declared.status.TheConstants.{DONE, IS_OPEN}
 use Rattle.th_registry.specs.History.{opened}
+use Rattle.th_traces.specs.Spelled.{Bytes}
 use Rattle.th_c.specs.Outcomes.{code_of}
 
 -- a broadcast channel as the machine opens it; or why there is none
@@ -84,6 +86,32 @@ OpensRecordedWatch value version limit (Err BadVersion) = version ≡ 0
 OpensRecordedWatch value version limit (Err BadLimit) = IsLimit limit → ⊥
 OpensRecordedWatch value version limit (Err NoMemory) = (1 ≤ version) × IsLimit limit
 OpensRecordedWatch value version limit (Err why) = ⊥
+
+-- one of bytes, which have to be a value
+abbrev pub OpensWatchOfBytes : Bytes → (version : ℕ) → Result Content Refusal → Type 0
+OpensWatchOfBytes bytes version (Ok content) =
+    (1 ≤ version)
+    × (is_value bytes ≡ true)
+    × (content ≡ WatchOfBytes (watch_picture.see (watch.opened bytes version)))
+OpensWatchOfBytes bytes version (Err BadVersion) = version ≡ 0
+OpensWatchOfBytes bytes version (Err BadValue) = (1 ≤ version) × (is_value bytes ≡ false)
+OpensWatchOfBytes bytes version (Err NoMemory) = (1 ≤ version) × (is_value bytes ≡ true)
+OpensWatchOfBytes bytes version (Err why) = ⊥
+
+abbrev pub OpensRecordedWatchOfBytes : Bytes → (version limit : ℕ) → Result Content Refusal → Type 0
+OpensRecordedWatchOfBytes bytes version limit (Ok content) =
+    (1 ≤ version)
+    × IsLimit limit
+    × (is_value bytes ≡ true)
+    × let seen = watch_picture.see (watch.opened bytes version) in
+    content ≡ RecordedWatchOfBytes (opened limit 0 seen seen)
+OpensRecordedWatchOfBytes bytes version limit (Err BadVersion) = version ≡ 0
+OpensRecordedWatchOfBytes bytes version limit (Err BadLimit) = IsLimit limit → ⊥
+OpensRecordedWatchOfBytes bytes version limit (Err BadValue) =
+    (1 ≤ version) × IsLimit limit × (is_value bytes ≡ false)
+OpensRecordedWatchOfBytes bytes version limit (Err NoMemory) =
+    (1 ≤ version) × IsLimit limit × (is_value bytes ≡ true)
+OpensRecordedWatchOfBytes bytes version limit (Err why) = ⊥
 
 -- the status of a making, and what there is then
 abbrev pub status_of : Result Content Refusal → ℕ

@@ -1,8 +1,10 @@
 -- Calls of a watch channel, as C makes them.
-use Rattle.std.specs.Prelude.{◌≡◌, ℕ, Bool, nat_eq, ◌==◌, if◌then◌else◌, Option, Some, Result, Err}
+use Rattle.std.specs.Prelude.{◌≡◌, ℕ, Bool, nat_eq, ◌==◌, if◌then◌else◌, length, Option, Some, None, Result, Err}
+use Rattle.std.specs.Cmp.Lexicographic.{pointwise}
 use Rattle.th_model.specs.declared.watch.Edit.TheVariants.{Set, Differ, Quiet}
 use Rattle.th_model.specs.declared.watch.WCall.{WCall}
 use Rattle.th_model.specs.declared.watch.WCall.TheVariants.{Send, Replace, EditBy}
+use Rattle.th_model.specs.declared.watch.WCall.TheVariants as of
 use Rattle.th_model.specs.declared.watch.WReply.{WReply}
 use Rattle.th_model.specs.declared.watch.WReply.TheVariants.{Done, NoReceivers, Exhausted, Was, Modified, Shown, Changed, Marked, NotYet, Closed, Gone, NewRx, NewTx, Count, TooMany, NoHandle}
 use Rattle.th_model.specs.Live.{TakesNone}
@@ -11,10 +13,11 @@ use Rattle.th_log.specs.Machines.{watch}
 use Rattle.th_c.specs.declared.content.Content.{Content}
 use Rattle.th_c.specs.declared.content.Content.TheVariants as content
 use Rattle.th_c.specs.declared.outcome.Refusal.{Refusal}
-use Rattle.th_c.specs.declared.outcome.Refusal.TheVariants.{NotOpen}
+use Rattle.th_c.specs.declared.outcome.Refusal.TheVariants.{NotOpen, OtherValues}
 use Rattle.th_c.specs.declared.reply.Reply.{Reply}
 use Rattle.th_c.specs.declared.status.TheConstants.{DONE, NO_RECEIVERS, EXHAUSTED, WAS, YES, NO, NEW, SAME, MARKED, NOT_YET, CLOSED, NEW_RX, NEW_TX, COUNT, TOO_MANY, NO_HANDLE, NEVER}
 use Rattle.th_registry.specs.History.{History}
+use Rattle.th_traces.specs.Spelled.{Bytes}
 use Rattle.th_c.specs.Outcomes.{Answers, Records, Through}
 
 -- the status of a reply (lib/c/topichub.h)
@@ -68,6 +71,50 @@ tells eq number before call =
       number = number_of number reply;
     }
 
+-- what comes of a call of a channel of bytes, and of one that keeps its history; a reply tells how
+-- many bytes its value has
+abbrev pub same_bytes : Bytes → Bytes → Bool
+same_bytes = pointwise nat_eq
+
+abbrev pub AnswersOfBytes : Picture Bytes → WCall Bytes → Result Reply Refusal → Picture Bytes → Type 0
+AnswersOfBytes before call told after =
+    Answers (watch same_bytes) (tells same_bytes length) TakesNone before call told after
+
+abbrev pub BytesHistory : Type 0
+BytesHistory = History (Picture Bytes) (Picture Bytes) (WCall Bytes) (WReply Bytes)
+
+abbrev pub RecordsOfBytes : BytesHistory → WCall Bytes → Result Reply Refusal → BytesHistory → Type 0
+RecordsOfBytes before call told after =
+    Records (watch same_bytes) (tells same_bytes length) before call told after
+
+-- the same call of a channel of bytes, where no value goes in or comes out
+abbrev pub without_value : WCall ℕ → Option (WCall Bytes)
+without_value (of.HasChanged rx) = Some (of.HasChanged rx)
+without_value (of.TryChanged rx) = Some (of.TryChanged rx)
+without_value (of.Changed rx) = Some (of.Changed rx)
+without_value (of.MarkChanged rx) = Some (of.MarkChanged rx)
+without_value (of.MarkUnchanged rx) = Some (of.MarkUnchanged rx)
+without_value (of.Subscribe tx) = Some (of.Subscribe tx)
+without_value (of.CloneRx rx) = Some (of.CloneRx rx)
+without_value (of.CloneTx tx) = Some (of.CloneTx tx)
+without_value (of.DropTx tx) = Some (of.DropTx tx)
+without_value (of.DropRx rx) = Some (of.DropRx rx)
+without_value (of.IsClosed tx) = Some (of.IsClosed tx)
+without_value (of.Readers tx) = Some (of.Readers tx)
+without_value call = None
+
+-- What comes of it in a channel of bytes: of one that takes or gives a number, that its values are of
+-- the other kind.
+abbrev pub AnswersSame : Option (WCall Bytes) → Picture Bytes → Result Reply Refusal → Picture Bytes
+    → Type 0
+AnswersSame (Some call) before told after = AnswersOfBytes before call told after
+AnswersSame None before told after = (told ≡ Err OtherValues) × (after ≡ before)
+
+abbrev pub RecordsSame : Option (WCall Bytes) → BytesHistory → Result Reply Refusal → BytesHistory
+    → Type 0
+RecordsSame (Some call) before told after = RecordsOfBytes before call told after
+RecordsSame None before told after = (told ≡ Err OtherValues) × (after ≡ before)
+
 -- what comes of a call to what is behind a handle: an answer, where it is a watch channel
 abbrev pub Answered : Content → WCall ℕ → Result Reply Refusal → Content → Type 0
 Answered (content.Watch before) call told next =
@@ -78,6 +125,14 @@ Answered (content.RecordedWatch before) call told next =
     (after : History (Picture ℕ) (Picture ℕ) (WCall ℕ) (WReply ℕ))
     × (next ≡ content.RecordedWatch after)
     × Records (watch nat_eq) (tells nat_eq (λ n. n)) before call told after
+Answered (content.WatchOfBytes before) call told next =
+    (after : Picture Bytes)
+    × (next ≡ content.WatchOfBytes after)
+    × AnswersSame (without_value call) before told after
+Answered (content.RecordedWatchOfBytes before) call told next =
+    (after : BytesHistory)
+    × (next ≡ content.RecordedWatchOfBytes after)
+    × RecordsSame (without_value call) before told after
 Answered other call told next = (told ≡ Err NotOpen) × (next ≡ other)
 
 -- and through the handle

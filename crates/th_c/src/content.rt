@@ -19,6 +19,9 @@ pub(crate) type BytesBroadcast = RingBroadcast<Value>;
 /// A watch channel of a number.
 pub(crate) type NumberWatch = Watch<u64>;
 
+/// One of bytes.
+pub(crate) type BytesWatch = Watch<Value>;
+
 /// What is behind a handle.
 #[derive(Drop)]
 pub enum Content {
@@ -34,12 +37,18 @@ pub enum Content {
     Watch(NumberWatch),
     /// One that keeps its history.
     RecordedWatch(Recorded<NumberWatch>),
+    /// A watch channel of bytes that keeps no history.
+    WatchOfBytes(BytesWatch),
+    /// One that keeps its history.
+    RecordedWatchOfBytes(Recorded<BytesWatch>),
     /// A segment of a broadcast channel's history, whose trace was not read yet.
     BroadcastHistory(Segment<NumberBroadcast>),
     /// One of a broadcast channel of bytes.
     BroadcastHistoryOfBytes(Segment<BytesBroadcast>),
     /// One of a watch channel's.
     WatchHistory(Segment<NumberWatch>),
+    /// One of a watch channel of bytes.
+    WatchHistoryOfBytes(Segment<BytesWatch>),
     /// A trace, as far as it was not read yet.
     Read(Text),
 }

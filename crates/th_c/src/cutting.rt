@@ -1,9 +1,10 @@
 //! Histories that are cut, and read as texts, for C.
 ghost use Rattle.std.specs.Prelude.{◌≡◌, MatchResult, Ok, Err, None};
+ghost use Rattle.th_c.specs.declared.content.Content.TheVariants.{RecordedBroadcast, RecordedBroadcastOfBytes, RecordedWatch, RecordedWatchOfBytes};
 ghost use Rattle.th_c.specs.declared.outcome.Refusal.TheVariants.{NoMemory};
 ghost use Rattle.th_c.specs.Cutting.{Cuts, CutsBroadcast, CutsWatch, Prints, Reads, ReadsOn};
 
-use crate::content::Content;
+use crate::content::{BytesBroadcast, BytesWatch, Content, NumberBroadcast, NumberWatch};
 use crate::handle::Handle;
 use crate::making::{boxed, fill, free, is_open};
 use crate::outcome::{Refusal, code};
@@ -11,6 +12,7 @@ use crate::raw::{put, take};
 use crate::text::Text;
 use crate::{printing, status};
 use std::alloc::Global;
+use th_registry::recorded::Recorded;
 
 // Room for what is cut, got before it is.
 fn room(alloc: Global) -> Result<Box<Content>, Refusal>
@@ -20,32 +22,52 @@ fn room(alloc: Global) -> Result<Box<Content>, Refusal>
 }
 
 // The present segment of a broadcast channel's history.
+fn broadcast_segment(
+    alloc: Global,
+    channel: &mut Recorded<NumberBroadcast>,
+) -> Result<Box<Content>, Refusal>
+    ensures { MatchResult result
+        (λ b. CutsBroadcast (RecordedBroadcast channel.old) (Ok b.value) (RecordedBroadcast channel.new))
+        (λ why. CutsBroadcast (RecordedBroadcast channel.old) (Err why) (RecordedBroadcast channel.new)) }
+{
+    let Ok(mut taken) = room(alloc) else {
+        return Err(Refusal::NoMemory);
+    };
+    let Ok(segment) = channel.cut() else {
+        return Err(Refusal::NoMemory);
+    };
+    *taken = Content::BroadcastHistory(segment);
+    Ok(taken)
+}
+
+// That of one of bytes.
+fn broadcast_segment_of_bytes(
+    alloc: Global,
+    channel: &mut Recorded<BytesBroadcast>,
+) -> Result<Box<Content>, Refusal>
+    ensures { MatchResult result
+        (λ b. CutsBroadcast (RecordedBroadcastOfBytes channel.old) (Ok b.value) (RecordedBroadcastOfBytes channel.new))
+        (λ why. CutsBroadcast (RecordedBroadcastOfBytes channel.old) (Err why) (RecordedBroadcastOfBytes channel.new)) }
+{
+    let Ok(mut taken) = room(alloc) else {
+        return Err(Refusal::NoMemory);
+    };
+    let Ok(segment) = channel.cut() else {
+        return Err(Refusal::NoMemory);
+    };
+    *taken = Content::BroadcastHistoryOfBytes(segment);
+    Ok(taken)
+}
+
+// The present segment of what is behind a handle, where it is a broadcast channel.
 fn cut_broadcast(alloc: Global, content: &mut Content) -> Result<Box<Content>, Refusal>
     ensures { MatchResult result
         (λ b. CutsBroadcast content.old (Ok b.value) content.new)
         (λ why. CutsBroadcast content.old (Err why) content.new) }
 {
     match content {
-        Content::RecordedBroadcast(channel) => {
-            let Ok(mut taken) = room(alloc) else {
-                return Err(Refusal::NoMemory);
-            };
-            let Ok(segment) = channel.cut() else {
-                return Err(Refusal::NoMemory);
-            };
-            *taken = Content::BroadcastHistory(segment);
-            Ok(taken)
-        }
-        Content::RecordedBroadcastOfBytes(channel) => {
-            let Ok(mut taken) = room(alloc) else {
-                return Err(Refusal::NoMemory);
-            };
-            let Ok(segment) = channel.cut() else {
-                return Err(Refusal::NoMemory);
-            };
-            *taken = Content::BroadcastHistoryOfBytes(segment);
-            Ok(taken)
-        }
+        Content::RecordedBroadcast(channel) => broadcast_segment(alloc, channel),
+        Content::RecordedBroadcastOfBytes(channel) => broadcast_segment_of_bytes(alloc, channel),
         Content::Broadcast(_) => Err(Refusal::NotRecorded),
         Content::BroadcastOfBytes(_) => Err(Refusal::NotRecorded),
         _ => Err(Refusal::NotOpen),
@@ -53,23 +75,54 @@ fn cut_broadcast(alloc: Global, content: &mut Content) -> Result<Box<Content>, R
 }
 
 // The present segment of a watch channel's history.
+fn watch_segment(
+    alloc: Global,
+    channel: &mut Recorded<NumberWatch>,
+) -> Result<Box<Content>, Refusal>
+    ensures { MatchResult result
+        (λ b. CutsWatch (RecordedWatch channel.old) (Ok b.value) (RecordedWatch channel.new))
+        (λ why. CutsWatch (RecordedWatch channel.old) (Err why) (RecordedWatch channel.new)) }
+{
+    let Ok(mut taken) = room(alloc) else {
+        return Err(Refusal::NoMemory);
+    };
+    let Ok(segment) = channel.cut() else {
+        return Err(Refusal::NoMemory);
+    };
+    *taken = Content::WatchHistory(segment);
+    Ok(taken)
+}
+
+// That of one of bytes.
+fn watch_segment_of_bytes(
+    alloc: Global,
+    channel: &mut Recorded<BytesWatch>,
+) -> Result<Box<Content>, Refusal>
+    ensures { MatchResult result
+        (λ b. CutsWatch (RecordedWatchOfBytes channel.old) (Ok b.value) (RecordedWatchOfBytes channel.new))
+        (λ why. CutsWatch (RecordedWatchOfBytes channel.old) (Err why) (RecordedWatchOfBytes channel.new)) }
+{
+    let Ok(mut taken) = room(alloc) else {
+        return Err(Refusal::NoMemory);
+    };
+    let Ok(segment) = channel.cut() else {
+        return Err(Refusal::NoMemory);
+    };
+    *taken = Content::WatchHistoryOfBytes(segment);
+    Ok(taken)
+}
+
+// The present segment of what is behind a handle, where it is a watch channel.
 fn cut_watch(alloc: Global, content: &mut Content) -> Result<Box<Content>, Refusal>
     ensures { MatchResult result
         (λ b. CutsWatch content.old (Ok b.value) content.new)
         (λ why. CutsWatch content.old (Err why) content.new) }
 {
     match content {
-        Content::RecordedWatch(channel) => {
-            let Ok(mut taken) = room(alloc) else {
-                return Err(Refusal::NoMemory);
-            };
-            let Ok(segment) = channel.cut() else {
-                return Err(Refusal::NoMemory);
-            };
-            *taken = Content::WatchHistory(segment);
-            Ok(taken)
-        }
+        Content::RecordedWatch(channel) => watch_segment(alloc, channel),
+        Content::RecordedWatchOfBytes(channel) => watch_segment_of_bytes(alloc, channel),
         Content::Watch(_) => Err(Refusal::NotRecorded),
+        Content::WatchOfBytes(_) => Err(Refusal::NotRecorded),
         _ => Err(Refusal::NotOpen),
     }
 }
@@ -120,6 +173,7 @@ fn print(alloc: Global, content: &mut Content) -> Result<(), Refusal>
         Content::BroadcastHistory(segment) => printing::broadcast_text(alloc, segment),
         Content::BroadcastHistoryOfBytes(segment) => printing::broadcast_text(alloc, segment),
         Content::WatchHistory(segment) => printing::watch_text(alloc, segment),
+        Content::WatchHistoryOfBytes(segment) => printing::watch_text(alloc, segment),
         Content::Read(_) => return Ok(()),
         _ => return Err(Refusal::NotOpen),
     };

@@ -29,4 +29,5 @@ mod tells;
 mod text;
 pub mod version;
 mod watch;
+pub mod watch_bytes;
 pub mod watch_calls;

@@ -1,18 +1,18 @@
 //! What a handle stands for, made and let go.
 ghost use Rattle.std.specs.Prelude.{◌≡◌, ◌↔◌, IsTrue, is_some, MatchResult, Ok, Err, Some, None};
-ghost use Rattle.th_c.specs.Making.{IsLimit, OpensBroadcast, OpensBroadcastOfBytes, OpensRecordedBroadcast, OpensRecordedBroadcastOfBytes, OpensRecordedWatch, OpensWatch};
+ghost use Rattle.th_c.specs.Making.{IsLimit, OpensBroadcast, OpensBroadcastOfBytes, OpensRecordedBroadcast, OpensRecordedBroadcastOfBytes, OpensRecordedWatch, OpensRecordedWatchOfBytes, OpensWatch, OpensWatchOfBytes};
 ghost use Rattle.th_c.specs.Outcomes.{code_of};
 ghost use Rattle.th_c.specs.declared.outcome.Refusal.TheVariants.{NoMemory};
 ghost use Rattle.th_c.specs.declared.status.TheConstants.{DONE};
 
-use crate::content::{BytesBroadcast, Content, NumberBroadcast, NumberWatch};
+use crate::content::{BytesBroadcast, BytesWatch, Content, NumberBroadcast, NumberWatch};
 use crate::handle::Handle;
 use crate::outcome::{Refusal, code};
 use crate::raw::{put, take};
 use crate::status;
 use std::alloc::Global;
 use th_log::MOST_ENTRIES;
-use th_model::Capacity;
+use th_model::{Capacity, Value, ValueFault};
 use th_registry::recorded::Recorded;
 
 /// On the heap, where there is memory for it.
@@ -155,6 +155,61 @@ pub(crate) fn recorded_watch(
     };
     match Recorded::new(alloc, channel, limit, 0) {
         Ok(channel) => boxed(alloc, Content::RecordedWatch(channel)),
+        Err(_) => Err(Refusal::NoMemory),
+    }
+}
+
+/// A watch channel of bytes.
+pub(crate) fn watch_of_bytes(
+    alloc: Global,
+    bytes: &[u8],
+    version: u64,
+) -> Result<Box<Content>, Refusal>
+    ensures { MatchResult result
+        (λ b. OpensWatchOfBytes bytes.now version (Ok b.value))
+        (λ why. OpensWatchOfBytes bytes.now version (Err why)) }
+{
+    if version == 0 {
+        return Err(Refusal::BadVersion);
+    }
+    let value = match Value::new(alloc, bytes) {
+        Ok(value) => value,
+        Err(ValueFault::Bad) => return Err(Refusal::BadValue),
+        Err(ValueFault::Short) => return Err(Refusal::NoMemory),
+    };
+    match BytesWatch::starting_at(alloc, value, version) {
+        Ok(channel) => boxed(alloc, Content::WatchOfBytes(channel)),
+        Err(_) => Err(Refusal::NoMemory),
+    }
+}
+
+/// And one that keeps its history.
+pub(crate) fn recorded_watch_of_bytes(
+    alloc: Global,
+    bytes: &[u8],
+    version: u64,
+    limit: u64,
+) -> Result<Box<Content>, Refusal>
+    ensures { MatchResult result
+        (λ b. OpensRecordedWatchOfBytes bytes.now version limit (Ok b.value))
+        (λ why. OpensRecordedWatchOfBytes bytes.now version limit (Err why)) }
+{
+    if version == 0 {
+        return Err(Refusal::BadVersion);
+    }
+    if !is_limit(limit) {
+        return Err(Refusal::BadLimit);
+    }
+    let value = match Value::new(alloc, bytes) {
+        Ok(value) => value,
+        Err(ValueFault::Bad) => return Err(Refusal::BadValue),
+        Err(ValueFault::Short) => return Err(Refusal::NoMemory),
+    };
+    let Ok(channel) = BytesWatch::starting_at(alloc, value, version) else {
+        return Err(Refusal::NoMemory);
+    };
+    match Recorded::new(alloc, channel, limit, 0) {
+        Ok(channel) => boxed(alloc, Content::RecordedWatchOfBytes(channel)),
         Err(_) => Err(Refusal::NoMemory),
     }
 }

@@ -1,9 +1,9 @@
 //! A watch channel's replies, as C sees them, and its calls through a handle.
 ghost use Rattle.std.specs.Prelude.{◌≡◌, if◌then◌else◌};
-ghost use Rattle.th_c.specs.Watch.{Answered, Called, number_of, puts_at, status_of};
+ghost use Rattle.th_c.specs.Watch.{Answered, AnswersSame, Called, RecordsSame, number_of, puts_at, status_of, without_value};
 ghost use Rattle.th_c.specs.declared.status.TheConstants.{NO, YES};
 
-use crate::content::Content;
+use crate::content::{BytesWatch, Content};
 use crate::handle::Handle;
 use crate::outcome::{Refusal, Told, reply};
 use crate::payload::Payload;
@@ -12,7 +12,8 @@ use crate::reply::Reply;
 use crate::status;
 use crate::tells::{Tells, answered, recorded};
 use std::alloc::Global;
-use th_model::{Edit, WCall, WReply};
+use th_model::{Edit, Value, WCall, WReply};
+use th_registry::recorded::Recorded;
 use th_watch::Watch;
 
 // The status that answers a question.
@@ -91,6 +92,47 @@ impl<T: Payload> Tells for Watch<T> {
     }
 }
 
+// The same call of a channel of bytes, where no value goes in or comes out.
+fn without_value(call: WCall<u64>) -> Option<WCall<Value>>
+    ensures { result ≡ without_value call }
+{
+    match call {
+        WCall::HasChanged(rx) => Some(WCall::HasChanged(rx)),
+        WCall::TryChanged(rx) => Some(WCall::TryChanged(rx)),
+        WCall::Changed(rx) => Some(WCall::Changed(rx)),
+        WCall::MarkChanged(rx) => Some(WCall::MarkChanged(rx)),
+        WCall::MarkUnchanged(rx) => Some(WCall::MarkUnchanged(rx)),
+        WCall::Subscribe(tx) => Some(WCall::Subscribe(tx)),
+        WCall::CloneRx(rx) => Some(WCall::CloneRx(rx)),
+        WCall::CloneTx(tx) => Some(WCall::CloneTx(tx)),
+        WCall::DropTx(tx) => Some(WCall::DropTx(tx)),
+        WCall::DropRx(rx) => Some(WCall::DropRx(rx)),
+        WCall::IsClosed(tx) => Some(WCall::IsClosed(tx)),
+        WCall::Readers(tx) => Some(WCall::Readers(tx)),
+        _ => None,
+    }
+}
+
+// Makes a call of a channel of bytes, where no value goes in or comes out.
+fn answered_same(channel: &mut BytesWatch, call: WCall<u64>) -> Told
+    ensures { AnswersSame (without_value call) channel.old result channel.new }
+{
+    match without_value(call) {
+        Some(call) => answered(channel, call),
+        None => Err(Refusal::OtherValues),
+    }
+}
+
+// The same of one that keeps its history.
+fn recorded_same(channel: &mut Recorded<BytesWatch>, call: WCall<u64>) -> Told
+    ensures { RecordsSame (without_value call) channel.old result channel.new }
+{
+    match without_value(call) {
+        Some(call) => recorded(channel, call),
+        None => Err(Refusal::OtherValues),
+    }
+}
+
 // Makes a call of what is behind a handle.
 #[inline(always)]
 fn called(content: &mut Content, call: WCall<u64>) -> Told
@@ -99,6 +141,8 @@ fn called(content: &mut Content, call: WCall<u64>) -> Told
     match content {
         Content::Watch(channel) => answered(channel, call),
         Content::RecordedWatch(channel) => recorded(channel, call),
+        Content::WatchOfBytes(channel) => answered_same(channel, call),
+        Content::RecordedWatchOfBytes(channel) => recorded_same(channel, call),
         _ => Err(Refusal::NotOpen),
     }
 }

@@ -1,5 +1,7 @@
 /* Each request for memory of a run is refused in turn. Then one call comes to TOPICHUB_NO_MEMORY and has changed nothing: it is made again,
  * and the run goes on as with ample memory. Linked with --wrap=malloc and --wrap=realloc. */
+#include <string.h>
+
 #include "tests.h"
 
 void *__real_malloc(size_t size);
@@ -143,6 +145,61 @@ static void recorded(void) {
     topichub_watch_free(&light);
 }
 
+/* A history of bytes: here the value itself takes memory, with a send and with a receive. */
+static void bytes(void) {
+    topichub_broadcast news = TOPICHUB_BROADCAST_NONE;
+    topichub_trace trace = TOPICHUB_TRACE_NONE;
+    topichub_reply told;
+    uint32_t status;
+    uint8_t value[TOPICHUB_MOST_BYTES], buffer[TOPICHUB_MOST_BYTES], text[2 * TOPICHUB_MOST_BYTES + 200];
+    uint64_t length, line;
+    memset(value, 'v', sizeof value);
+    MADE_AGAIN(status, topichub_broadcast_new_of_bytes_recorded(&news, 2, 0, 100));
+    EXPECT(status == TOPICHUB_DONE);
+    AGAIN(told, topichub_broadcast_subscribe(&news, 1));
+    EXPECT(told.status == TOPICHUB_NEW_RX);
+    AGAIN(told, topichub_broadcast_send_bytes(&news, 1, value, sizeof value));
+    EXPECT(told.status == TOPICHUB_SENT);
+    AGAIN(told, topichub_broadcast_recv_bytes(&news, 2, buffer, sizeof buffer));
+    EXPECT(told.status == TOPICHUB_VALUE && told.number == sizeof value && memcmp(buffer, value, sizeof value) == 0);
+    MADE_AGAIN(status, topichub_broadcast_cut(&news, &trace));
+    EXPECT(status == TOPICHUB_DONE);
+    MADE_AGAIN(status, topichub_trace_read(&trace, text, sizeof text, &length));
+    EXPECT(status == TOPICHUB_DONE);
+    MADE_AGAIN(status, topichub_check(text, length, &line));
+    EXPECT(status == TOPICHUB_LEGAL && line == 3);
+    topichub_trace_free(&trace);
+    topichub_broadcast_free(&news);
+}
+
+static void watch_bytes(void) {
+    topichub_watch light = TOPICHUB_WATCH_NONE;
+    topichub_trace trace = TOPICHUB_TRACE_NONE;
+    topichub_reply told;
+    uint32_t status;
+    uint8_t value[TOPICHUB_MOST_BYTES], buffer[TOPICHUB_MOST_BYTES], text[3 * TOPICHUB_MOST_BYTES + 200];
+    uint64_t length, line;
+    memset(value, 'v', sizeof value);
+    MADE_AGAIN(status, topichub_watch_new_of_bytes_recorded(&light, (const uint8_t *)"off", 3, 1, 100));
+    EXPECT(status == TOPICHUB_DONE);
+    AGAIN(told, topichub_watch_subscribe(&light, 1));
+    EXPECT(told.status == TOPICHUB_NEW_RX);
+    AGAIN(told, topichub_watch_replace_bytes(&light, 1, value, sizeof value, buffer, sizeof buffer));
+    EXPECT(told.status == TOPICHUB_WAS && told.number == 3 && memcmp(buffer, "off", 3) == 0);
+    AGAIN(told, topichub_watch_take_bytes(&light, 2, buffer, sizeof buffer));
+    EXPECT(told.status == TOPICHUB_NEW && told.number == sizeof value && memcmp(buffer, value, sizeof value) == 0);
+    AGAIN(told, topichub_watch_set_bytes(&light, 1, value, 1));
+    EXPECT(told.status == TOPICHUB_YES && told.let_go == 1);
+    MADE_AGAIN(status, topichub_watch_cut(&light, &trace));
+    EXPECT(status == TOPICHUB_DONE);
+    MADE_AGAIN(status, topichub_trace_read(&trace, text, sizeof text, &length));
+    EXPECT(status == TOPICHUB_DONE);
+    MADE_AGAIN(status, topichub_check(text, length, &line));
+    EXPECT(status == TOPICHUB_LEGAL && line == 4);
+    topichub_trace_free(&trace);
+    topichub_watch_free(&light);
+}
+
 /* Runs it with each request refused in turn, until it makes fewer. */
 static void refuse_each(void (*run)(void), const char *name) {
     long number = 0, calls = 0;
@@ -163,5 +220,7 @@ int main(void) {
     refuse_each(broadcast, "broadcast");
     refuse_each(watch, "watch");
     refuse_each(recorded, "recorded");
+    refuse_each(bytes, "bytes");
+    refuse_each(watch_bytes, "watch_bytes");
     return ended("refused");
 }
