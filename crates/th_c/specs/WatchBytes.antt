@@ -6,7 +6,6 @@ use Rattle.th_model.specs.declared.watch.WCall.{WCall}
 use Rattle.th_model.specs.declared.watch.WCall.TheVariants as call
 use Rattle.th_model.specs.declared.watch.WReply.{WReply}
 use Rattle.th_model.specs.declared.watch.WReply.TheVariants.{Was, Shown}
-use Rattle.th_model.specs.Names.{is_value}
 use Rattle.th_model.specs.WatchPicture.{Picture, answer}
 use Rattle.th_traces.specs.Spelled.{Bytes}
 use Rattle.th_c.specs.declared.content.Content.{Content}
