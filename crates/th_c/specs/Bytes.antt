@@ -21,7 +21,8 @@ AnswersOfBytes before call told after =
     Answers broadcast (tells length) TakesNoMemory before call told after
 
 -- and of one that keeps its history
-abbrev pub RecordsOfBytes : BytesHistory → BCall Bytes → Result Reply Refusal → BytesHistory → Type 0
+abbrev pub RecordsOfBytes : BytesHistory → BCall Bytes → Result Reply Refusal → BytesHistory
+    → Type 0
 RecordsOfBytes before call told after = Records broadcast (tells length) before call told after
 
 -- what comes of a call with these bytes, which are a value or are not
@@ -30,8 +31,8 @@ abbrev pub SendsValue : Bool → Picture Bytes → BCall Bytes → Result Reply 
 SendsValue true before call told after = AnswersOfBytes before call told after
 SendsValue false before call told after = (told ≡ Err BadValue) × (after ≡ before)
 
--- And of one that keeps its history. The value is made before the history is asked for room, so want
--- of memory may be told in place of what else would be.
+-- And of one that keeps its history. The value is made before the history is asked for room, so
+-- want of memory may be told in place of what else would be.
 abbrev pub RecordsValue : Bool → BytesHistory → BCall Bytes → Result Reply Refusal → BytesHistory
     → Type 0
 RecordsValue true before call (Err NoMemory) after = after ≡ before

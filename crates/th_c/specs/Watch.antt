@@ -76,14 +76,16 @@ tells eq number before call =
 abbrev pub same_bytes : Bytes → Bytes → Bool
 same_bytes = pointwise nat_eq
 
-abbrev pub AnswersOfBytes : Picture Bytes → WCall Bytes → Result Reply Refusal → Picture Bytes → Type 0
+abbrev pub AnswersOfBytes : Picture Bytes → WCall Bytes → Result Reply Refusal → Picture Bytes
+    → Type 0
 AnswersOfBytes before call told after =
     Answers (watch same_bytes) (tells same_bytes length) TakesNone before call told after
 
 abbrev pub BytesHistory : Type 0
 BytesHistory = History (Picture Bytes) (Picture Bytes) (WCall Bytes) (WReply Bytes)
 
-abbrev pub RecordsOfBytes : BytesHistory → WCall Bytes → Result Reply Refusal → BytesHistory → Type 0
+abbrev pub RecordsOfBytes : BytesHistory → WCall Bytes → Result Reply Refusal → BytesHistory
+    → Type 0
 RecordsOfBytes before call told after =
     Records (watch same_bytes) (tells same_bytes length) before call told after
 
@@ -103,8 +105,8 @@ without_value (of.IsClosed tx) = Some (of.IsClosed tx)
 without_value (of.Readers tx) = Some (of.Readers tx)
 without_value call = None
 
--- What comes of it in a channel of bytes: of one that takes or gives a number, that its values are of
--- the other kind.
+-- What comes of it in a channel of bytes: of one that takes or gives a number, that its values are
+-- of the other kind.
 abbrev pub AnswersSame : Option (WCall Bytes) → Picture Bytes → Result Reply Refusal → Picture Bytes
     → Type 0
 AnswersSame (Some call) before told after = AnswersOfBytes before call told after

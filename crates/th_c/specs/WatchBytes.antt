@@ -42,8 +42,8 @@ AnsweredBytes (content.RecordedWatch h) call told next =
     (told ≡ Err OtherValues) × (next ≡ content.RecordedWatch h)
 AnsweredBytes other call told next = (told ≡ Err NotOpen) × (next ≡ other)
 
--- What comes of a call with bytes, which are a value or are not. The value is made before the channel
--- is looked at, so want of memory may be told in place of what else would be.
+-- What comes of a call with bytes, which are a value or are not. The value is made before the
+-- channel is looked at, so want of memory may be told in place of what else would be.
 abbrev pub PutsBytes : Bool → Content → WCall Bytes → Result Reply Refusal → Content → Type 0
 PutsBytes true before call (Err NoMemory) next = next ≡ before
 PutsBytes true before call told next = AnsweredBytes before call told next

@@ -27,8 +27,10 @@ fn broadcast_segment(
     channel: &mut Recorded<NumberBroadcast>,
 ) -> Result<Box<Content>, Refusal>
     ensures { MatchResult result
-        (λ b. CutsBroadcast (RecordedBroadcast channel.old) (Ok b.value) (RecordedBroadcast channel.new))
-        (λ why. CutsBroadcast (RecordedBroadcast channel.old) (Err why) (RecordedBroadcast channel.new)) }
+        (λ b. CutsBroadcast (RecordedBroadcast channel.old) (Ok b.value)
+        (RecordedBroadcast channel.new))
+        (λ why. CutsBroadcast (RecordedBroadcast channel.old) (Err why)
+        (RecordedBroadcast channel.new)) }
 {
     let Ok(mut taken) = room(alloc) else {
         return Err(Refusal::NoMemory);
@@ -46,8 +48,10 @@ fn broadcast_segment_of_bytes(
     channel: &mut Recorded<BytesBroadcast>,
 ) -> Result<Box<Content>, Refusal>
     ensures { MatchResult result
-        (λ b. CutsBroadcast (RecordedBroadcastOfBytes channel.old) (Ok b.value) (RecordedBroadcastOfBytes channel.new))
-        (λ why. CutsBroadcast (RecordedBroadcastOfBytes channel.old) (Err why) (RecordedBroadcastOfBytes channel.new)) }
+        (λ b. CutsBroadcast (RecordedBroadcastOfBytes channel.old) (Ok b.value)
+        (RecordedBroadcastOfBytes channel.new))
+        (λ why. CutsBroadcast (RecordedBroadcastOfBytes channel.old) (Err why)
+        (RecordedBroadcastOfBytes channel.new)) }
 {
     let Ok(mut taken) = room(alloc) else {
         return Err(Refusal::NoMemory);
@@ -80,8 +84,10 @@ fn watch_segment(
     channel: &mut Recorded<NumberWatch>,
 ) -> Result<Box<Content>, Refusal>
     ensures { MatchResult result
-        (λ b. CutsWatch (RecordedWatch channel.old) (Ok b.value) (RecordedWatch channel.new))
-        (λ why. CutsWatch (RecordedWatch channel.old) (Err why) (RecordedWatch channel.new)) }
+        (λ b. CutsWatch (RecordedWatch channel.old) (Ok b.value)
+        (RecordedWatch channel.new))
+        (λ why. CutsWatch (RecordedWatch channel.old) (Err why)
+        (RecordedWatch channel.new)) }
 {
     let Ok(mut taken) = room(alloc) else {
         return Err(Refusal::NoMemory);
@@ -99,8 +105,10 @@ fn watch_segment_of_bytes(
     channel: &mut Recorded<BytesWatch>,
 ) -> Result<Box<Content>, Refusal>
     ensures { MatchResult result
-        (λ b. CutsWatch (RecordedWatchOfBytes channel.old) (Ok b.value) (RecordedWatchOfBytes channel.new))
-        (λ why. CutsWatch (RecordedWatchOfBytes channel.old) (Err why) (RecordedWatchOfBytes channel.new)) }
+        (λ b. CutsWatch (RecordedWatchOfBytes channel.old) (Ok b.value)
+        (RecordedWatchOfBytes channel.new))
+        (λ why. CutsWatch (RecordedWatchOfBytes channel.old) (Err why)
+        (RecordedWatchOfBytes channel.new)) }
 {
     let Ok(mut taken) = room(alloc) else {
         return Err(Refusal::NoMemory);
