@@ -117,6 +117,18 @@ abbrev pub RecordsSame : Option (WCall Bytes) → BytesHistory → Result Reply 
 RecordsSame (Some call) before told after = RecordsOfBytes before call told after
 RecordsSame None before told after = (told ≡ Err OtherValues) × (after ≡ before)
 
+-- what comes of a call to what is behind a handle and no channel of numbers
+abbrev pub AnsweredOther : Content → WCall ℕ → Result Reply Refusal → Content → Type 0
+AnsweredOther (content.WatchOfBytes before) call told next =
+    (after : Picture Bytes)
+    × (next ≡ content.WatchOfBytes after)
+    × AnswersSame (without_value call) before told after
+AnsweredOther (content.RecordedWatchOfBytes before) call told next =
+    (after : BytesHistory)
+    × (next ≡ content.RecordedWatchOfBytes after)
+    × RecordsSame (without_value call) before told after
+AnsweredOther other call told next = (told ≡ Err NotOpen) × (next ≡ other)
+
 -- what comes of a call to what is behind a handle: an answer, where it is a watch channel
 abbrev pub Answered : Content → WCall ℕ → Result Reply Refusal → Content → Type 0
 Answered (content.Watch before) call told next =
@@ -127,15 +139,7 @@ Answered (content.RecordedWatch before) call told next =
     (after : History (Picture ℕ) (Picture ℕ) (WCall ℕ) (WReply ℕ))
     × (next ≡ content.RecordedWatch after)
     × Records (watch nat_eq) (tells nat_eq (λ n. n)) before call told after
-Answered (content.WatchOfBytes before) call told next =
-    (after : Picture Bytes)
-    × (next ≡ content.WatchOfBytes after)
-    × AnswersSame (without_value call) before told after
-Answered (content.RecordedWatchOfBytes before) call told next =
-    (after : BytesHistory)
-    × (next ≡ content.RecordedWatchOfBytes after)
-    × RecordsSame (without_value call) before told after
-Answered other call told next = (told ≡ Err NotOpen) × (next ≡ other)
+Answered other call told next = AnsweredOther other call told next
 
 -- and through the handle
 abbrev pub Called : Option Content → WCall ℕ → Reply → Option Content → Type 0

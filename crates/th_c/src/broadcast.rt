@@ -1,6 +1,6 @@
 //! A broadcast channel's replies, as C sees them, and its calls through a handle.
 ghost use Rattle.std.specs.Prelude.{◌≡◌};
-ghost use Rattle.th_c.specs.Broadcast.{Answered, AnswersSame, Called, RecordsSame, number_of, status_of, without_value};
+ghost use Rattle.th_c.specs.Broadcast.{Answered, AnsweredOther, AnswersSame, Called, RecordsSame, number_of, status_of, without_value};
 
 use crate::content::{BytesBroadcast, Content, RingBroadcast};
 use crate::handle::Handle;
@@ -102,6 +102,19 @@ fn recorded_same(channel: &mut Recorded<BytesBroadcast>, call: BCall<u64>) -> To
     }
 }
 
+// Makes a call of what is behind a handle and no channel of numbers. It stands apart, so that those
+// are told by two comparisons.
+#[inline(never)]
+fn called_other(content: &mut Content, call: BCall<u64>) -> Told
+    ensures { AnsweredOther content.old call result content.new }
+{
+    match content {
+        Content::BroadcastOfBytes(channel) => answered_same(channel, call),
+        Content::RecordedBroadcastOfBytes(channel) => recorded_same(channel, call),
+        _ => Err(Refusal::NotOpen),
+    }
+}
+
 // Makes a call of what is behind a handle.
 #[inline(always)]
 fn called(content: &mut Content, call: BCall<u64>) -> Told
@@ -110,9 +123,7 @@ fn called(content: &mut Content, call: BCall<u64>) -> Told
     match content {
         Content::Broadcast(channel) => answered(channel, call),
         Content::RecordedBroadcast(channel) => recorded(channel, call),
-        Content::BroadcastOfBytes(channel) => answered_same(channel, call),
-        Content::RecordedBroadcastOfBytes(channel) => recorded_same(channel, call),
-        _ => Err(Refusal::NotOpen),
+        _ => called_other(content, call),
     }
 }
 

@@ -1,6 +1,6 @@
 //! A watch channel's replies, as C sees them, and its calls through a handle.
 ghost use Rattle.std.specs.Prelude.{◌≡◌, if◌then◌else◌};
-ghost use Rattle.th_c.specs.Watch.{Answered, AnswersSame, Called, RecordsSame, number_of, puts_at, status_of, without_value};
+ghost use Rattle.th_c.specs.Watch.{Answered, AnsweredOther, AnswersSame, Called, RecordsSame, number_of, puts_at, status_of, without_value};
 ghost use Rattle.th_c.specs.declared.status.TheConstants.{NO, YES};
 
 use crate::content::{BytesWatch, Content};
@@ -133,6 +133,19 @@ fn recorded_same(channel: &mut Recorded<BytesWatch>, call: WCall<u64>) -> Told
     }
 }
 
+// Makes a call of what is behind a handle and no channel of numbers. It stands apart, so that those
+// are told by two comparisons.
+#[inline(never)]
+fn called_other(content: &mut Content, call: WCall<u64>) -> Told
+    ensures { AnsweredOther content.old call result content.new }
+{
+    match content {
+        Content::WatchOfBytes(channel) => answered_same(channel, call),
+        Content::RecordedWatchOfBytes(channel) => recorded_same(channel, call),
+        _ => Err(Refusal::NotOpen),
+    }
+}
+
 // Makes a call of what is behind a handle.
 #[inline(always)]
 fn called(content: &mut Content, call: WCall<u64>) -> Told
@@ -141,9 +154,7 @@ fn called(content: &mut Content, call: WCall<u64>) -> Told
     match content {
         Content::Watch(channel) => answered(channel, call),
         Content::RecordedWatch(channel) => recorded(channel, call),
-        Content::WatchOfBytes(channel) => answered_same(channel, call),
-        Content::RecordedWatchOfBytes(channel) => recorded_same(channel, call),
-        _ => Err(Refusal::NotOpen),
+        _ => called_other(content, call),
     }
 }
 
