@@ -92,15 +92,15 @@ RecordsSame (Some call) before told after = Records broadcast (tells length) bef
 RecordsSame None before told after = (told ≡ Err OtherValues) × (after ≡ before)
 
 -- what comes of a call to what is behind a handle and no channel of numbers
-abbrev pub AnsweredOther : Content → BCall ℕ → Result Reply Refusal → Content → Type 0
+abbrev pub AnsweredOther : Content → Option (BCall Bytes) → Result Reply Refusal → Content → Type 0
 AnsweredOther (content.BroadcastOfBytes before) call told next =
     (after : Picture Bytes)
     × (next ≡ content.BroadcastOfBytes after)
-    × AnswersSame (without_value call) before told after
+    × AnswersSame call before told after
 AnsweredOther (content.RecordedBroadcastOfBytes before) call told next =
     (after : BytesHistory)
     × (next ≡ content.RecordedBroadcastOfBytes after)
-    × RecordsSame (without_value call) before told after
+    × RecordsSame call before told after
 AnsweredOther other call told next = (told ≡ Err NotOpen) × (next ≡ other)
 
 -- what comes of a call to what is behind a handle: an answer, where it is a broadcast channel
@@ -113,7 +113,7 @@ Answered (content.RecordedBroadcast before) call told next =
     (after : History (Picture ℕ) (Picture ℕ) (BCall ℕ) (BReply ℕ))
     × (next ≡ content.RecordedBroadcast after)
     × Records broadcast (tells (λ n. n)) before call told after
-Answered other call told next = AnsweredOther other call told next
+Answered other call told next = AnsweredOther other (without_value call) told next
 
 -- and through the handle
 abbrev pub Called : Option Content → BCall ℕ → Reply → Option Content → Type 0

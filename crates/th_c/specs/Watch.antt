@@ -118,15 +118,15 @@ RecordsSame (Some call) before told after = RecordsOfBytes before call told afte
 RecordsSame None before told after = (told ≡ Err OtherValues) × (after ≡ before)
 
 -- what comes of a call to what is behind a handle and no channel of numbers
-abbrev pub AnsweredOther : Content → WCall ℕ → Result Reply Refusal → Content → Type 0
+abbrev pub AnsweredOther : Content → Option (WCall Bytes) → Result Reply Refusal → Content → Type 0
 AnsweredOther (content.WatchOfBytes before) call told next =
     (after : Picture Bytes)
     × (next ≡ content.WatchOfBytes after)
-    × AnswersSame (without_value call) before told after
+    × AnswersSame call before told after
 AnsweredOther (content.RecordedWatchOfBytes before) call told next =
     (after : BytesHistory)
     × (next ≡ content.RecordedWatchOfBytes after)
-    × RecordsSame (without_value call) before told after
+    × RecordsSame call before told after
 AnsweredOther other call told next = (told ≡ Err NotOpen) × (next ≡ other)
 
 -- what comes of a call to what is behind a handle: an answer, where it is a watch channel
@@ -139,7 +139,7 @@ Answered (content.RecordedWatch before) call told next =
     (after : History (Picture ℕ) (Picture ℕ) (WCall ℕ) (WReply ℕ))
     × (next ≡ content.RecordedWatch after)
     × Records (watch nat_eq) (tells nat_eq (λ n. n)) before call told after
-Answered other call told next = AnsweredOther other call told next
+Answered other call told next = AnsweredOther other (without_value call) told next
 
 -- and through the handle
 abbrev pub Called : Option Content → WCall ℕ → Reply → Option Content → Type 0

@@ -65,6 +65,7 @@ impl<T: Payload> Tells for RingBroadcast<T> {
 }
 
 // The same call of a channel of bytes, where no value goes in or comes out.
+#[inline(always)]
 fn without_value(call: BCall<u64>) -> Option<BCall<Value>>
     ensures { result ≡ without_value call }
 {
@@ -83,20 +84,20 @@ fn without_value(call: BCall<u64>) -> Option<BCall<Value>>
 }
 
 // Makes a call of a channel of bytes, where no value goes in or comes out.
-fn answered_same(channel: &mut BytesBroadcast, call: BCall<u64>) -> Told
-    ensures { AnswersSame (without_value call) channel.old result channel.new }
+fn answered_same(channel: &mut BytesBroadcast, call: Option<BCall<Value>>) -> Told
+    ensures { AnswersSame call channel.old result channel.new }
 {
-    match without_value(call) {
+    match call {
         Some(call) => answered(channel, call),
         None => Err(Refusal::OtherValues),
     }
 }
 
 // The same of one that keeps its history.
-fn recorded_same(channel: &mut Recorded<BytesBroadcast>, call: BCall<u64>) -> Told
-    ensures { RecordsSame (without_value call) channel.old result channel.new }
+fn recorded_same(channel: &mut Recorded<BytesBroadcast>, call: Option<BCall<Value>>) -> Told
+    ensures { RecordsSame call channel.old result channel.new }
 {
-    match without_value(call) {
+    match call {
         Some(call) => recorded(channel, call),
         None => Err(Refusal::OtherValues),
     }
@@ -105,7 +106,7 @@ fn recorded_same(channel: &mut Recorded<BytesBroadcast>, call: BCall<u64>) -> To
 // Makes a call of what is behind a handle and no channel of numbers. It stands apart, so that those
 // are told by two comparisons.
 #[inline(never)]
-fn called_other(content: &mut Content, call: BCall<u64>) -> Told
+fn called_other(content: &mut Content, call: Option<BCall<Value>>) -> Told
     ensures { AnsweredOther content.old call result content.new }
 {
     match content {
@@ -123,7 +124,7 @@ fn called(content: &mut Content, call: BCall<u64>) -> Told
     match content {
         Content::Broadcast(channel) => answered(channel, call),
         Content::RecordedBroadcast(channel) => recorded(channel, call),
-        _ => called_other(content, call),
+        _ => called_other(content, without_value(call)),
     }
 }
 

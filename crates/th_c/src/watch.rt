@@ -93,6 +93,7 @@ impl<T: Payload> Tells for Watch<T> {
 }
 
 // The same call of a channel of bytes, where no value goes in or comes out.
+#[inline(always)]
 fn without_value(call: WCall<u64>) -> Option<WCall<Value>>
     ensures { result ≡ without_value call }
 {
@@ -114,20 +115,20 @@ fn without_value(call: WCall<u64>) -> Option<WCall<Value>>
 }
 
 // Makes a call of a channel of bytes, where no value goes in or comes out.
-fn answered_same(channel: &mut BytesWatch, call: WCall<u64>) -> Told
-    ensures { AnswersSame (without_value call) channel.old result channel.new }
+fn answered_same(channel: &mut BytesWatch, call: Option<WCall<Value>>) -> Told
+    ensures { AnswersSame call channel.old result channel.new }
 {
-    match without_value(call) {
+    match call {
         Some(call) => answered(channel, call),
         None => Err(Refusal::OtherValues),
     }
 }
 
 // The same of one that keeps its history.
-fn recorded_same(channel: &mut Recorded<BytesWatch>, call: WCall<u64>) -> Told
-    ensures { RecordsSame (without_value call) channel.old result channel.new }
+fn recorded_same(channel: &mut Recorded<BytesWatch>, call: Option<WCall<Value>>) -> Told
+    ensures { RecordsSame call channel.old result channel.new }
 {
-    match without_value(call) {
+    match call {
         Some(call) => recorded(channel, call),
         None => Err(Refusal::OtherValues),
     }
@@ -136,7 +137,7 @@ fn recorded_same(channel: &mut Recorded<BytesWatch>, call: WCall<u64>) -> Told
 // Makes a call of what is behind a handle and no channel of numbers. It stands apart, so that those
 // are told by two comparisons.
 #[inline(never)]
-fn called_other(content: &mut Content, call: WCall<u64>) -> Told
+fn called_other(content: &mut Content, call: Option<WCall<Value>>) -> Told
     ensures { AnsweredOther content.old call result content.new }
 {
     match content {
@@ -154,7 +155,7 @@ fn called(content: &mut Content, call: WCall<u64>) -> Told
     match content {
         Content::Watch(channel) => answered(channel, call),
         Content::RecordedWatch(channel) => recorded(channel, call),
-        _ => called_other(content, call),
+        _ => called_other(content, without_value(call)),
     }
 }
 
