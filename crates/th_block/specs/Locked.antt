@@ -1,7 +1,7 @@
 -- What a handle's event does under the lock, and why it is refused there.
 use Rattle.std.specs.Prelude.{◌≡◌, ◌≢◌, ◌⊎◌, ℕ, ◌+◌, ◌≤◌, ◌<◌, Bool, false, Option, None, Some, List, [], ◌∷◌, ◌++◌, length, take, slice_get, MatchOption}
 use Rattle.std.specs.List.{AllByRecursion}
-use Rattle.th_seats.specs.Tally.{Tally}
+use Rattle.th_seats.specs.Tally.{Part, Tally}
 use Rattle.th_glance.specs.declared.glance.Glance.{Glance}
 use Rattle.th_glance.specs.Lists.{glance_of, last_of, IsCounted}
 use Rattle.th_glance.specs.Seats.{Known as Sighted}
@@ -13,12 +13,13 @@ use Rattle.th_log.specs.declared.receipt.Refused.TheVariants.{Foreign, Short, Lo
 use Rattle.th_block.specs.Handles.{Known, Tells, seen_of, unused}
 use Rattle.th_block.specs.declared.seat.Seat.{Seat}
 
--- what lies under a lock: the log, how many have looked in vain since they were last woken, and
--- whether the log is cut by the calls that find it long or full
+-- what lies under a lock: the log, how many have looked in vain since they were last woken,
+-- whether the log is cut by the calls that find it long or full, and the shares that came back
 pub record Guarded (S C R : Type 0) : Type 0 where
   pub log : Log S C R
   pub waiting : ℕ
   pub rolls : Bool
+  pub gone : Option Part
 
 -- Somebody is to be woken after this event: some have looked in vain, and what a call of another
 -- handle waited for is there now (docs/HISTORIES.md, "Who waits").

@@ -1,9 +1,11 @@
 //! What a channel's lock keeps.
-ghost use Rattle.std.specs.Prelude.{◌≡◌, ◌⊎◌, ◌↔◌, ◌||◌, ◌+◌, ◌-◌, ◌^◌, ◌<◌, if◌then◌else◌, min, not, true, false, IfOk, IfErr, IfSome, IsNone, IsOk, IsSome, IsTrue, OnOk, OnErr, MatchOption, MatchResult};
+ghost use Rattle.std.specs.Prelude.{◌≡◌, ◌⊎◌, ◌↔◌, ◌||◌, ◌+◌, ◌-◌, ◌^◌, ◌<◌, ◌≤◌, if◌then◌else◌, min, not, true, false, IfOk, IfErr, IfSome, IsNone, IsOk, None, IsSome, IsTrue, OnOk, OnErr, MatchOption, MatchResult};
 ghost use Rattle.th_log.specs.History.{IsLegal, live_after, next_of};
 ghost use Rattle.th_log.specs.Outcome.{IsFull, IsSame, added, ticked, with_share};
 ghost use Rattle.th_block.specs.Handles.{IsBack, unused};
+ghost use Rattle.th_block.specs.Few.{IsWornOut};
 ghost use Rattle.th_block.specs.Locked.{Entered, Fits, GoesOn, HasNoPlace, IsDue, RefusesEvent, Spends};
+ghost use Rattle.th_block.specs.Returned.{TakesBack};
 
 use crate::account::Account;
 use crate::cuts::{Cut, Cuts};
@@ -28,6 +30,8 @@ pub(crate) struct Held<O: Object> {
     waiting: u64,
     // When the log is cut by a call, and where the part goes. Where there is none, it is never.
     rolling: Option<Rolling<O>>,
+    // The shares of handles that are gone, as one.
+    gone: Option<Share>,
 }
 
 /// From so many entries on a call cuts the log, and the part goes into this queue.
@@ -48,18 +52,25 @@ impl<O: Object> Model for Held<O> {
       log = h.posted.log;
       waiting = h.waiting;
       rolls = is_some h.rolling;
+      gone = h.gone;
     } };
 }
 
 impl<O: Kind> Held<O> {
     /// A log for which nobody waits yet, and which no call cuts.
     pub(crate) fn new(posted: Posted<O>) -> Held<O>
-        ensures { result ≡ record { log = posted.log; waiting = 0; rolls = false } }
+        ensures { result ≡ record {
+          log = posted.log;
+          waiting = 0;
+          rolls = false;
+          gone = None;
+        } }
     {
         Held {
             posted,
             waiting: 0,
             rolling: None,
+            gone: None,
         }
     }
 
@@ -223,7 +234,7 @@ impl<O: Kind> Held<O> {
     }
 
     /// One event of a handle as `event` makes it, on a log that was cut before where that is due. Where calls cut the log it is
-    /// never full but where a new part would be too.
+    /// never full before the channel has had nearly 2^63 events: a channel has few handles (`laws::few_handles`).
     #[inline(always)]
     pub(crate) fn enter(
         &mut self,
@@ -243,7 +254,8 @@ impl<O: Kind> Held<O> {
         ensures fits { OnOk result (Fits account.old self.old.log.tally) }
         ensures full { IfErr result (λ e. e ≡ Refused.LogFull call → self.old.rolls ≡ true
             → self.old.log.limit ≡ 1000000
-            → HasNoPlace self.old.log 1 (live_after O.machine self.old.log.piece.last call)) }
+            → live_after O.machine self.old.log.piece.last call ≤ 131070
+            → IsWornOut self.old.log) }
         ensures waiting { self.new.waiting ≡ self.old.waiting }
     {
         if self.rolling.is_some() {
@@ -300,6 +312,45 @@ impl<O: Kind> Held<O> {
         ensures waiting { self.new.waiting ≡ self.old.waiting }
     {
         self.posted.split()
+    }
+
+    /// Keeps the share of a handle that is gone with those that came back before, as one. It comes back where it is not of this
+    /// channel, as far as its numbers tell.
+    pub(crate) fn take_back(&mut self, share: Share) -> Result<(), Share>
+        ensures takes { TakesBack self.old.log.tally self.old.gone share result
+            self.new.log.tally self.new.gone }
+        ensures piece { self.new.log.piece ≡ self.old.log.piece }
+        ensures waiting { self.new.waiting ≡ self.old.waiting }
+        ensures rolls { self.new.rolls ≡ self.old.rolls }
+    {
+        let Some(gone) = self.gone.take() else {
+            let log = self.posted.log();
+            if share.key() != log.key() || share.count() > log.total() {
+                return Err(share);
+            }
+            self.gone = Some(share);
+            return Ok(());
+        };
+        match self.posted.rejoin(gone, share) {
+            Ok(joined) => {
+                self.gone = Some(joined);
+                Ok(())
+            }
+            Err((gone, share)) => {
+                self.gone = Some(gone);
+                Err(share)
+            }
+        }
+    }
+
+    /// Hands out the shares that came back, as one, if there are any.
+    pub(crate) fn returned(&mut self) -> Option<Share>
+        ensures returned { result ≡ self.old.gone }
+        ensures gone { self.new.gone ≡ None }
+        ensures log { self.new.log ≡ self.old.log }
+        ensures waiting { self.new.waiting ≡ self.old.waiting }
+    {
+        self.gone.take()
     }
 
     /// How many events the channel has.

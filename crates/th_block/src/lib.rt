@@ -85,6 +85,7 @@ pub mod broadcast_handles;
 pub mod cuts;
 pub mod handle;
 mod held;
+pub mod laws;
 mod posted;
 mod queued;
 mod ready;

@@ -4,6 +4,7 @@ ghost use Rattle.th_glance.specs.Lists.{glance_of};
 ghost use Rattle.th_log.specs.History.{live_after, next_of};
 ghost use Rattle.th_log.specs.Outcome.{IsFull, IsOwn, IsSame, Meets, Refuses, added, counted, ticked, with_share};
 ghost use Rattle.th_block.specs.Locked.{Stores, TellsClosed};
+ghost use Rattle.th_block.specs.Returned.{Rejoins};
 
 use std::alloc::Global;
 use std::marker::Model;
@@ -124,6 +125,17 @@ impl<O: Kind> Posted<O> {
         ensures pen { self.new.pen ≡ self.old.pen }
     {
         self.log.split()
+    }
+
+    /// Two shares of this channel as one, as `Logged::rejoin` does. It is no event, so nothing is stored.
+    pub(crate) fn rejoin(&mut self, one: Share, other: Share) -> Result<Share, (Share, Share)>
+        ensures rejoins { Rejoins self.old.log.tally one other result self.new.log.tally }
+        ensures piece { self.new.log.piece ≡ self.old.log.piece }
+        ensures limit { self.new.log.limit ≡ self.old.log.limit }
+        ensures pen { self.new.pen ≡ self.old.pen }
+        ensures same { OnErr result (self.new ≡ self.old) }
+    {
+        self.log.rejoin(one, other)
     }
 
     /// Hands out the entries so far, and begins the next segment. It is no event, so nothing is stored. What the word has

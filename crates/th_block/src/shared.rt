@@ -1,5 +1,5 @@
 //! A channel that is owned in common by its handles.
-ghost use Rattle.std.specs.Prelude.{◌≡◌, IfOk, IfSome};
+ghost use Rattle.std.specs.Prelude.{◌≡◌, IfErr, IfOk, IfSome};
 ghost use Rattle.th_log.specs.History.{IsLegal};
 
 use crate::cuts::{Cuts, hand_over};
@@ -9,6 +9,7 @@ use std::alloc::{AllocError, Global};
 use std::sync::{Arc, Condvar, Mutex, Wait};
 use th_log::{Kind, Logged, Object, Segment};
 use th_model::Short;
+use th_seats::Share;
 
 /// The lock, and where callers wait.
 #[derive(Drop)]
@@ -107,6 +108,25 @@ impl<O: Kind> Shared<O> {
         let wakes = held.wakes();
         drop(held);
         self.room.wake(wakes);
+    }
+
+    /// Gives the channel the share of a handle that is gone. It keeps all that it was given as one, under its lock, until
+    /// [`Shared::returned`] hands that out: so the handles of those who come and go leave nothing that grows. It takes no memory.
+    ///
+    /// # Errors
+    ///
+    /// The share is not this channel's, as far as its numbers tell, and comes back.
+    pub fn take_back<R: Wait>(&self, rt: &R, share: Share) -> Result<(), Share>
+        ensures { IfErr result (λ back. back ≡ share) }
+    {
+        let mut held = self.room.held.lock(rt);
+        held.take_back(share)
+    }
+
+    /// Hands out the shares that the channel was given, as one; none where it has none. `finish` lets them go.
+    pub fn returned<R: Wait>(&self, rt: &R) -> Option<Share> {
+        let mut held = self.room.held.lock(rt);
+        held.returned()
     }
 
     /// The log, for the last owner; any other one comes back. It takes neither memory nor the lock.

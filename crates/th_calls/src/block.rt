@@ -5,7 +5,7 @@ use std::sync::{Arc, Wait};
 use std::time::{Clock, Duration};
 use th_block::{
     BReceiver, BSender, Cuts, Receives, Resub, RingBroadcast, Sends, Shared, Side, WReader,
-    WSender, broadcast, broadcast_at, watch,
+    WSender, broadcast, broadcast_at, laws, watch,
 };
 use th_glance::Glance;
 use th_log::{Logged, MakeFault, Receipt, Refused, Segment};
@@ -271,6 +271,18 @@ pub fn roll_at(
     cuts: &Arc<Cuts<Light>>,
 ) -> Result<(), Short<()>> {
     shared.roll_at(rt, 100, cuts)
+}
+
+pub fn take_back(
+    rt: &impl Wait,
+    shared: &Shared<Light>,
+    share: Share,
+) -> (Result<(), Share>, Option<Share>) {
+    (shared.take_back(rt, share), shared.returned(rt))
+}
+
+pub fn law() {
+    laws::few_handles::<u64>();
 }
 
 pub fn finish(shared: Shared<Light>) -> Result<Logged<Light>, Shared<Light>> {

@@ -49,7 +49,9 @@ fn keep<O: Object>(logged: &mut Logged<O>)
 {
     let _ = logged.reserve(7);
     let _ = logged.cut();
-    let _ = logged.split();
+    let one = logged.split();
+    let other = logged.split();
+    let _ = logged.rejoin(one, other);
 }
 
 fn end<O: Object>(one: Logged<O>, other: Logged<O>, shares: Vec<Share>) {

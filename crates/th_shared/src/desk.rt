@@ -80,8 +80,8 @@ impl<R: Wait + Clone> SharedDesk<R> {
     }
 
     /// The same of topics that cut their histories by themselves, so that none of them is ever full. The parts go to the queues of
-    /// these histories, and so does each that a session was answered as a trace. The desks keep no shares of the handles that
-    /// are spent through them.
+    /// these histories, and so does each that a session was answered as a trace. The desks keep no shares: that of a handle that
+    /// is spent goes back to its topic, which keeps all of them as one.
     ///
     /// # Errors
     ///
@@ -162,7 +162,7 @@ impl<R: Wait + Clone> SharedDesk<R> {
     }
 
     /// What is left of each topic, in order of opening, for the last owner; and the shares of the handles that were
-    /// spent through this desk.
+    /// spent through this desk, if it keeps them.
     ///
     /// # Errors
     ///
@@ -187,7 +187,7 @@ impl<R: Wait + Clone> SharedDesk<R> {
             Ok(shared) => {
                 let SharedTopics { topics, .. } = shared;
                 for (name, topic) in topics.into_inner() {
-                    let _ = list.push(end_of(name, topic));
+                    let _ = list.push(end_of(&rt, name, topic));
                 }
                 Ok((list, shares.into_vec()))
             }
@@ -409,7 +409,7 @@ impl<R: Wait + Clock + Clone> Desk for SharedDesk<R> {
         match said {
             Ok((made, share)) => {
                 if let Some(share) = share {
-                    shares.replace(topic, share);
+                    shares.replace(rt, topic, share, &made.handle);
                 }
                 Ok(made)
             }
@@ -428,9 +428,10 @@ impl<R: Wait + Clock + Clone> Desk for SharedDesk<R> {
         ensures same { IfErr result (λ unspent. unspent.handle ≡ sender) }
     {
         let SharedDesk { rt, shares, .. } = self;
+        let home = shares.home(&sender);
         match told::end_sender(rt, topic, sender) {
             Ok(share) => {
-                shares.keep(topic, share);
+                shares.keep(rt, topic, share, home);
                 Ok(())
             }
             Err(unspent) => Err(unspent),
@@ -449,13 +450,16 @@ impl<R: Wait + Clock + Clone> Desk for SharedDesk<R> {
     {
         let SharedDesk { rt, shares, .. } = self;
         match receiver {
-            TopicReceiver::Live(receiver) => match told::end_receiver(rt, topic, receiver) {
-                Ok(share) => {
-                    shares.keep(topic, share);
-                    Ok(())
+            TopicReceiver::Live(receiver) => {
+                let home = shares.home(&receiver);
+                match told::end_receiver(rt, topic, receiver) {
+                    Ok(share) => {
+                        shares.keep(rt, topic, share, home);
+                        Ok(())
+                    }
+                    Err(unspent) => Err(unspent),
                 }
-                Err(unspent) => Err(unspent),
-            },
+            }
             TopicReceiver::Spent(number) => Err(Unspent {
                 handle: TopicReceiver::Spent(number),
                 why: NoEvent::NotLive,

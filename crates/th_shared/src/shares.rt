@@ -1,16 +1,29 @@
 //! The shares of a desk's handles.
+use crate::handles::{AheadHandle, TopicOwner, TopicReceiver};
+use crate::told::owner_of;
 use std::alloc::Global;
-use th_registry::{Made, NoEvent, TopicId};
+use std::sync::Wait;
+use th_block::Handle;
+use th_registry::channel::HubWatch;
+use th_registry::{Channel, Made, NoEvent, TopicId};
 use th_seats::Share;
 
-/// The shares of the handles that were spent through a desk. There is room for those that are live. A desk that keeps none has
-/// none.
+/// The shares of the handles that were spent through a desk. There is room for those that are live. A desk that keeps none gives
+/// each back to its channel.
 #[derive(Drop)]
 pub(crate) struct Shares {
     spent: Vec<(TopicId, Share)>,
     keeps: bool,
     // How many handles were made through the desk, and not spent through it.
     live: usize,
+}
+
+// Gives a share back to its channel. One that is not its own is let go.
+fn give_back<R: Wait>(rt: &R, home: &TopicOwner, share: Share) {
+    let _ = match home {
+        Channel::Broadcast(owner) => owner.take_back(rt, share),
+        Channel::Watch(owner) => owner.take_back(rt, share),
+    };
 }
 
 impl Shares {
@@ -52,16 +65,53 @@ impl Shares {
         }
     }
 
-    /// Keeps the share of a handle that is spent. There is room for it.
-    pub(crate) fn keep(&mut self, topic: TopicId, share: Share) {
-        self.live = self.live.saturating_sub(1);
-        self.replace(topic, share);
+    /// Where the share of this handle is to go once it is spent, if the desk does not keep it: an owner of its channel.
+    pub(crate) fn home<S>(
+        &self,
+        handle: &Channel<AheadHandle<S>, Handle<HubWatch, S>>,
+    ) -> Option<TopicOwner> {
+        if self.keeps {
+            return None;
+        }
+        owner_of(handle).ok()
     }
 
-    /// The same where another was made in its place.
-    pub(crate) fn replace(&mut self, topic: TopicId, share: Share) {
-        if self.keeps {
-            let _ = self.spent.push((topic, share));
+    /// Keeps the share of a handle that is spent, or gives it back. There is room for it.
+    pub(crate) fn keep<R: Wait>(
+        &mut self,
+        rt: &R,
+        topic: TopicId,
+        share: Share,
+        home: Option<TopicOwner>,
+    ) {
+        self.live = self.live.saturating_sub(1);
+        self.put(rt, topic, share, home);
+    }
+
+    /// The same of a receiver in whose place this one was made.
+    pub(crate) fn replace<R: Wait>(
+        &mut self,
+        rt: &R,
+        topic: TopicId,
+        share: Share,
+        new: &Option<TopicReceiver>,
+    ) {
+        let home = match new {
+            Some(TopicReceiver::Live(new)) => self.home(new),
+            _ => None,
+        };
+        self.put(rt, topic, share, home);
+    }
+
+    // Puts a share where it belongs.
+    fn put<R: Wait>(&mut self, rt: &R, topic: TopicId, share: Share, home: Option<TopicOwner>) {
+        match home {
+            Some(home) => give_back(rt, &home, share),
+            None => {
+                if self.keeps {
+                    let _ = self.spent.push((topic, share));
+                }
+            }
         }
     }
 

@@ -17,9 +17,9 @@ use crate::shares::Shares;
 use crate::untold::Room;
 use crate::{event, new_handle};
 use std::sync::Wait;
-use th_block::Receives;
+use th_block::{Handle, Receives};
 use th_model::{Question, ReceiverVerb, SenderVerb, Short, Start, Value};
-use th_registry::channel::TopicReceipt;
+use th_registry::channel::{HubWatch, TopicReceipt};
 use th_registry::{Channel, Made, NoEvent, TopicId, Unspent};
 use th_seats::Share;
 
@@ -233,8 +233,10 @@ pub(crate) fn end_receiver<R: Wait>(
     }
 }
 
-/// An owner of a sender's channel.
-pub(crate) fn owner_of(handle: &TopicSender) -> Result<TopicOwner, Short<()>> {
+/// An owner of a handle's channel.
+pub(crate) fn owner_of<S>(
+    handle: &Channel<AheadHandle<S>, Handle<HubWatch, S>>,
+) -> Result<TopicOwner, Short<()>> {
     Ok(match handle {
         Channel::Broadcast(handle) => Channel::Broadcast(handle.shared()?),
         Channel::Watch(handle) => Channel::Watch(handle.shared()?),
