@@ -71,7 +71,7 @@ class Publishing:
 
 
 class Receiving:
-    """A receiver. Of the publishers that were there before it, it may be told from any number on."""
+    """A receiver. Of the publishers that came before its SUB was answered, it may be told from any number on."""
 
     def __init__(self, topic, generation):
         self.topic, self.before, self.last, self.owed = topic, generation, {}, 0
@@ -162,6 +162,7 @@ class Connection:
         elif self.is_new:
             self.is_new = False
             need(lines == [b"OK"] * self.due, lines)
+            self.does.before = self.crowd.generation  # whoever publishes may have come while this one's SUB waited
         else:
             self.does.told(lines, self.crowd.totals)
         self.crowd.totals["replies"] += len(lines)
