@@ -1,5 +1,6 @@
 -- What is said of an event, by what the call of a handle came to.
 use Rattle.std.proofs.Common.{◌≡◌, ℕ, ◌≤◌, ◌<◌, true, false, is_some, List, [], Option, Some, None, Result, Ok, Err, IfOk, refl, sym, ap, subst, ◌∙◌, inl, inr, arith}
+use Rattle.std.proofs.lemmas.Bool.{false≢true}
 use Rattle.th_block.specs.Handles.{Holder, Known, seen_of}
 use Rattle.th_log.specs.Outcome.{Told}
 use Rattle.th_model.specs.declared.kind.Kind.TheVariants as Kinds
@@ -16,10 +17,10 @@ use Rattle.th_registry.specs.declared.channel.Channel.TheVariants.{Broadcast, Wa
 use Rattle.th_registry.specs.declared.outcome.NoEvent.{NoEvent}
 use Rattle.th_registry.specs.declared.outcome.NoEvent.TheVariants.{NoTopic, WrongKind, NoSender, NotLive, Blocked, LogFull, Short}
 use Rattle.th_registry.specs.Calls.{Bytes, tx}
-use Rattle.th_registry.specs.Events.{By, DropsRx, DropsTx, Ended, Event, Hub, broadcast_call, broadcast_outcome, ended_or, is_broadcast_done, is_by_hub, is_end, is_watch_done, sender_of, watch_call, watch_outcome}
+use Rattle.th_registry.specs.Events.{By, DropsRx, DropsTx, Ended, Event, EventResult, Hub, broadcast_call, broadcast_outcome, ended_or, is_broadcast_done, is_by_hub, is_end, is_watch_done, sender_of, watch_call, watch_outcome}
 use Rattle.th_registry.specs.Typed.{ended}
 use Rattle.th_registry.specs.Hub.{Noted, On}
-use Rattle.th_registry.specs.Receipts.{BroadcastReceipt, WatchReceipt}
+use Rattle.th_registry.specs.Receipts.{BroadcastReceipt, ChannelReceipt, WatchReceipt}
 use Rattle.th_seats.specs.Tally.{Part}
 use Rattle.th_shared.specs.Ahead.{Ahead, told_before, told_in}
 use Rattle.th_shared.specs.declared.handles.TopicReceiver.{TopicReceiver}
@@ -27,7 +28,7 @@ use Rattle.th_shared.specs.declared.handles.TopicReceiver.TheVariants.{Live, Spe
 use Rattle.th_shared.specs.Doing.{Declines, DeclinesHub, Does, EndsHub, Enters, EntersAnew, EntersHub, HasEnded, HearsOf, IsTold, MovesAnew, ReceiverMoves, TellsKind, noted_of}
 use Rattle.th_shared.specs.Numbers.{TopicHandle, told_of}
 use Rattle.th_shared.specs.Reasons.{through_hub}
-use Rattle.th_shared.specs.Saying.{IsOf, MayRefuse, MaySay, first}
+use Rattle.th_shared.specs.Saying.{AtHub, IsOf, MayRefuse, MaySay, Notes, Says, first}
 
 -- what was told of a handle that was told of all
 below-told : (h : Ahead) (place : ℕ) → h.untold ≡ [] → place < seen_of h.handle.known → place < told_in h
@@ -274,3 +275,27 @@ module _ (n : ℕ) where
   hub-ends-watch (Some k) None None (Err why) h = no-end why h.0
   hub-ends-watch (Some k) (Some l) share (Err why) h = no-end why h.0
   hub-ends-watch None new share (Err why) h = no-end why h.0
+
+-- the end of a handle is never refused because a log is full
+abbrev is-full : EventResult → Type 0
+is-full (Err LogFull) = Unit {0}
+is-full said = ⊥
+
+module _ (n : ℕ) (e : Event) (ends : is_end e ≡ true) where
+  ends-with-room : (said : EventResult) (receipt : Option ChannelReceipt) → Notes n e said receipt → is-full said → ⊥
+  ends-with-room (Ok outcome) receipt notes full = full
+  ends-with-room (Err NoTopic) receipt notes full = full
+  ends-with-room (Err WrongKind) receipt notes full = full
+  ends-with-room (Err NoSender) receipt notes full = full
+  ends-with-room (Err NotLive) receipt notes full = full
+  ends-with-room (Err Blocked) receipt notes full = full
+  ends-with-room (Err LogFull) receipt notes full = false≢true (sym notes.1 ∙ ends)
+  ends-with-room (Err Short) receipt notes full = full
+
+  pub says-ended : (old new : AtHub) (said : Result (Unit {0}) NoEvent) → new ≡ old → MaySay (On n e) (ended said) →
+      Says old (On n e) (ended said) new
+  says-ended old new said same may = record {
+    hub = same;
+    may = may;
+    full = λ _ is. ends-with-room (ended said).0 (ended said).1 may (subst is-full (sym is) tt);
+  }

@@ -1,7 +1,9 @@
 -- What a desk may say that threads share. What other threads do in between cannot be seen at it, so nothing is said of
 -- the topics before and after; but each event is one on the topic that was named, and has its receipt (docs/HISTORIES.md).
-use Rattle.std.specs.Prelude.{◌≡◌, ℕ, ◌+◌, ◌⊎◌, true, false, Option, Some, None, IsSome, Result, Ok, Err, MatchOption}
+use Rattle.std.specs.Prelude.{◌≡◌, ◌≢◌, ℕ, ◌+◌, ◌⊎◌, Bool, true, false, Option, Some, None, IsSome, Result, Ok, Err, MatchOption, refl}
+use Rattle.std.specs.Coded.{Coded, code_by, coded×, coded_bool}
 use Rattle.std.specs.Option.{option_map}
+use denote.RawPtr.{Ptr, coded_ptr}
 use Rattle.th_block.specs.Handles.{Holder}
 use Rattle.th_model.specs.declared.making.Making.{Making}
 use Rattle.th_registry.specs.declared.channel.Channel.TheVariants.{Broadcast, Watch}
@@ -84,6 +86,25 @@ MaySay (Open name making) opened = IsOpened (told_of making) opened
 MaySay (On n e) noted = Notes n e noted.0 noted.1
 MaySay (Cut n) segment = IsCut n segment
 
--- at any moment, whatever is seen of the desk
-abbrev pub Says : {D : Type 0} → D → (q : Query) → Said q → D → Type 0
-Says old q said new = MaySay q said
+-- what contracts see of a desk: which hub it is of, by where that one's seal lies, and whether its topics
+-- cut their histories by themselves
+pub record AtHub : Type 0 where
+  pub seal : Ptr
+  pub rolls : Bool
+
+abbrev pub coded_at_hub : Coded AtHub
+coded_at_hub =
+    code_by (Ptr × Bool) (coded× coded_ptr coded_bool) (λ d. (d.seal, d.rolls))
+    (λ p. record { seal = p.0; rolls = p.1 }) (λ _. refl)
+
+-- no event is refused because its topic's log is full
+abbrev pub IsNeverFull : (q : Query) → Said q → Type 0
+IsNeverFull (On n e) noted = noted.0 ≢ Err LogFull
+IsNeverFull q said = Unit {0}
+
+-- What a desk says at any moment: it stays at its hub, and where topics cut their histories by themselves
+-- none is ever full (docs/HISTORIES.md, "Histories that go on").
+pub record Says (old : AtHub) (q : Query) (said : Said q) (new : AtHub) : Type 0 where
+  pub hub : new ≡ old
+  pub may : MaySay q said
+  pub full : old.rolls ≡ true → IsNeverFull q said

@@ -1,14 +1,13 @@
 //! The desk that threads share.
 
-ghost use Rattle.std.specs.Prelude.{◌≡◌, IfOk};
+ghost use Rattle.std.specs.Prelude.{◌≡◌, false, is_some, true, IfOk};
 ghost use Rattle.std.specs.Arc.{arc_value};
 
-use crate::cut::cut;
 use crate::deferred_wake::{DeferredWake, defer, is_deferred, wake};
 use crate::ended::{Ended, end_of};
 use crate::handles::{TopicReceiver, TopicSender};
 use crate::histories::{Histories, divide, name_of};
-use crate::registry::{another_owner, ask, bind, end, find, open, subscribe};
+use crate::registry::{ask, bind, end, find, open, subscribe};
 use crate::shared_topics::SharedTopics;
 use crate::shares::Shares;
 use crate::told;
@@ -59,14 +58,18 @@ pub struct SharedDesk<R: Wait + Clone> {
 
 impl<R: Wait + Clone> Model for SharedDesk<R> {
     ghost use Rattle.std.specs.Arc.{arc_value};
-    ghost use denote.RawPtr.{Ptr, coded_ptr};
+    ghost use Rattle.std.specs.Prelude.{is_some};
+    ghost use Rattle.th_shared.specs.Saying.{AtHub, coded_at_hub};
 
-    // What other threads do is not seen at it, so contracts see no more of it than which hub it is of: where its seal lies.
-    ghost Value = { Ptr };
+    // What other threads do is not seen at it, so contracts see no more of it than its hub.
+    ghost Value = { AtHub };
 
-    ghost coded = { coded_ptr };
+    ghost coded = { coded_at_hub };
 
-    ghost view = { λ d. (arc_value d.hub).seal.ptr };
+    ghost view = { λ d. record {
+      seal = (arc_value d.hub).seal.ptr;
+      rolls = is_some (arc_value d.hub).histories;
+    } };
 }
 
 impl<R: Wait + Clone> SharedDesk<R> {
@@ -75,18 +78,23 @@ impl<R: Wait + Clone> SharedDesk<R> {
     /// # Errors
     ///
     /// There was no memory.
-    pub fn new(rt: R, alloc: Global) -> Result<SharedDesk<R>, Short<()>> {
+    pub fn new(rt: R, alloc: Global) -> Result<SharedDesk<R>, Short<()>>
+        ensures { IfOk result (λ desk. desk.rolls ≡ false) }
+    {
         SharedDesk::opening(rt, alloc, None)
     }
 
-    /// The same of topics that cut their histories by themselves, so that none of them is ever full. The parts go to the queues of
-    /// these histories, and so does each that a session was answered as a trace. The desks keep no shares: that of a handle that
-    /// is spent goes back to its topic, which keeps all of them as one.
+    /// The same of topics that cut their histories by themselves, so that none of them is ever told to be full: past 2^63 - 131,071
+    /// events, where no cut helps, an event is `Short`. The parts go to the queues of these histories, and so does each that a
+    /// session was answered as a trace. The desks keep no shares: that of a handle that is spent goes back to its topic, which
+    /// keeps all of them as one.
     ///
     /// # Errors
     ///
     /// There was no memory.
-    pub fn rolling(rt: R, alloc: Global, histories: Histories) -> Result<SharedDesk<R>, Short<()>> {
+    pub fn rolling(rt: R, alloc: Global, histories: Histories) -> Result<SharedDesk<R>, Short<()>>
+        ensures { IfOk result (λ desk. desk.rolls ≡ true) }
+    {
         SharedDesk::opening(rt, alloc, Some(histories))
     }
 
@@ -95,7 +103,9 @@ impl<R: Wait + Clone> SharedDesk<R> {
         rt: R,
         alloc: Global,
         histories: Option<Histories>,
-    ) -> Result<SharedDesk<R>, Short<()>> {
+    ) -> Result<SharedDesk<R>, Short<()>>
+        ensures { IfOk result (λ desk. desk.rolls ≡ is_some histories) }
+    {
         match Arc::new(alloc, SharedTopics::new(alloc, histories)?) {
             Ok(hub) => Ok(SharedDesk::owning(rt, alloc, hub)),
             Err(_) => Err(Short { call: () }),
@@ -104,7 +114,10 @@ impl<R: Wait + Clone> SharedDesk<R> {
 
     // An owner of this hub's topics.
     fn owning(rt: R, alloc: Global, hub: Arc<SharedTopics>) -> SharedDesk<R>
-        ensures { result ≡ (arc_value hub).seal.ptr }
+        ensures { result ≡ record {
+          seal = (arc_value hub).seal.ptr;
+          rolls = is_some (arc_value hub).histories;
+        } }
     {
         let shares = Shares::new(alloc, hub.histories.is_none());
         SharedDesk {
@@ -135,7 +148,9 @@ impl<R: Wait + Clone> SharedDesk<R> {
     }
 
     /// The histories of its topics, where they cut them by themselves.
-    pub fn histories(&self) -> Option<&Histories> {
+    pub fn histories(&self) -> Option<&Histories>
+        ensures { is_some result ≡ self.now.rolls }
+    {
         self.hub.histories.as_ref()
     }
 
@@ -275,7 +290,8 @@ impl<R: Wait + Clock + Clone> Desk for SharedDesk<R> {
         } = self;
         let mut topics = hub.topics.lock(rt);
         cache.add(&*topics, topic);
-        let made = bind(rt, &mut *topics, topic, shares);
+        let mut made = bind(rt, &mut *topics, topic, shares);
+        hub.tell(&mut made);
         shares.count(&made);
         made
     }
@@ -299,7 +315,7 @@ impl<R: Wait + Clock + Clone> Desk for SharedDesk<R> {
             cache,
             ..
         } = self;
-        let made = match sender {
+        let mut made = match sender {
             Some(sender) => told::subscribe(rt, topic, start, sender, shares),
             None => {
                 let mut topics = hub.topics.lock(rt);
@@ -307,6 +323,7 @@ impl<R: Wait + Clock + Clone> Desk for SharedDesk<R> {
                 subscribe(rt, &mut *topics, topic, start, shares)
             }
         };
+        hub.tell(&mut made);
         shares.count(&made);
         made
     }
@@ -326,6 +343,7 @@ impl<R: Wait + Clock + Clone> Desk for SharedDesk<R> {
     {
         let SharedDesk {
             rt,
+            hub,
             deferred,
             spare,
             ..
@@ -334,7 +352,8 @@ impl<R: Wait + Clock + Clone> Desk for SharedDesk<R> {
         if let Some(receipt) = told::sent(topic, sender, &verb, spare) {
             return Ok(receipt);
         }
-        let said = told::send(rt, topic, sender, verb);
+        let mut said = told::send(rt, topic, sender, verb);
+        hub.tell(&mut said);
         deferred_after(rt, deferred, topic, sender, &said);
         said
     }
@@ -352,13 +371,15 @@ impl<R: Wait + Clock + Clone> Desk for SharedDesk<R> {
             OwnDoes topic.0 (Asks by question) sender.old sender.new (replied result) }
     {
         let SharedDesk { rt, hub, .. } = self;
-        match sender {
+        let mut said = match sender {
             Some(sender) => told::ask(rt, topic, sender, question),
             None => {
                 let mut topics = hub.topics.lock(rt);
                 ask(rt, &mut *topics, topic, question)
             }
-        }
+        };
+        hub.tell(&mut said);
+        said
     }
 
     #[inline(always)]
@@ -376,6 +397,7 @@ impl<R: Wait + Clock + Clone> Desk for SharedDesk<R> {
     {
         let SharedDesk {
             rt,
+            hub,
             deferred,
             spare,
             ..
@@ -384,10 +406,12 @@ impl<R: Wait + Clock + Clone> Desk for SharedDesk<R> {
             ReceiverVerb::Recv | ReceiverVerb::Changed => wake(rt, deferred),
             _ => {}
         }
-        match receiver {
+        let mut said = match receiver {
             TopicReceiver::Live(receiver) => told::receive(rt, topic, receiver, verb, spare),
             TopicReceiver::Spent(_) => Err(NoEvent::NotLive),
-        }
+        };
+        hub.tell(&mut said);
+        said
     }
 
     fn resubscribe(
@@ -400,12 +424,18 @@ impl<R: Wait + Clock + Clone> Desk for SharedDesk<R> {
         ensures receiver { rx_of receiver.new ≡ rx_of receiver.old }
         ensures does { ReceiverLeaves receiver.old receiver.new (made_rx rx_of result).1 }
     {
-        let SharedDesk { rt, shares, .. } = self;
-        let (after, said) = match replace(receiver, TopicReceiver::Spent(0)) {
+        let SharedDesk {
+            rt,
+            hub,
+            shares,
+            ..
+        } = self;
+        let (after, mut said) = match replace(receiver, TopicReceiver::Spent(0)) {
             TopicReceiver::Live(old) => told::resubscribe(rt, topic, old, shares),
             TopicReceiver::Spent(number) => (TopicReceiver::Spent(number), Err(NoEvent::NotLive)),
         };
         *receiver = after;
+        hub.tell(&mut said);
         match said {
             Ok((made, share)) => {
                 if let Some(share) = share {
@@ -468,21 +498,12 @@ impl<R: Wait + Clock + Clone> Desk for SharedDesk<R> {
     }
 
     fn end(&mut self, topic: TopicId) -> Result<(), NoEvent> {
-        let SharedDesk { rt, hub, .. } = self;
-        let mut topics = hub.topics.lock(rt);
-        end(rt, &mut *topics, topic)
+        let mut topics = self.hub.topics.lock(&self.rt);
+        end(&self.rt, &mut *topics, topic)
     }
 
     fn cut(&mut self, topic: TopicId) -> Result<TopicSegment, NoEvent> {
-        let SharedDesk { rt, hub, .. } = self;
-        let owner = {
-            let topics = hub.topics.lock(rt);
-            another_owner(&*topics, topic)
-        };
-        match owner {
-            Ok(owner) => cut(rt, &owner, topic),
-            Err(why) => Err(why),
-        }
+        self.hub.cut(&self.rt, topic)
     }
 
     fn give_back(&mut self, _topic: TopicId, segment: TopicSegment) {
