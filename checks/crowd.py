@@ -32,6 +32,8 @@ STAY = (0.5, 5)  # seconds that a client stays
 SENT, HEARD = 64, 32  # lines in a write
 CHECKED = 5  # seconds from one check of the files to the next
 VALUE = re.compile(rb"(\d+)\.(\d+);x*")
+# What the server says of a session whose client was killed, in the midst of its lines or while it waited.
+ENDED = re.compile(r"topichub: session \d+: (read fault|write fault|gone)")
 
 
 class Wrong(Exception):
@@ -364,7 +366,7 @@ def served(folder, words, clients, seconds, kills, seed, traces=None, tells=None
         printed, _ = server.communicate(timeout=4 * PATIENCE)
         need(server.returncode == 0 and printed.startswith("done "), f"the server ended with {server.returncode}, {printed!r}")
         errors.seek(0)
-        wrong = [line for line in errors.read().splitlines() if not re.fullmatch(r"topichub: session \d+: (read|write) fault", line)]
+        wrong = [line for line in errors.read().splitlines() if not ENDED.fullmatch(line)]
         need(not wrong, f"the server said {wrong[:1]}")
         need(not os.path.exists(path), "the socket is left behind")
     finally:
