@@ -6,6 +6,8 @@ import signal
 import subprocess
 import sys
 
+import apart
+import kit
 from program import ROOT
 
 OPTIMIZED = ("--edition", "2024", "-C", "opt-level=3", "-C", "codegen-units=1", "-C", "panic=abort")
@@ -26,6 +28,7 @@ name = "{name}"
 path = "{source}"
 """
 CRATE = os.path.join(ROOT, "lib", "rust")
+ARCHIVE = os.path.join(ROOT, "crates", "th_c", "out", "libth_c.a")
 
 
 def need_tool(tool, what):
@@ -42,11 +45,30 @@ def compiled(name, folder, flags=OPTIMIZED):
     return program
 
 
+def archive():
+    """Proves th_c and builds its archive, over the crates below it as `rt ci` has just built them here; of these it proves none again, as
+    `rt lib` would. The end of what was said where it did not succeed, else nothing."""
+    rt = kit.toolchain()
+    lacking = [it for it in apart.below("th_c")[:-1] if not os.path.isdir(os.path.join(ROOT, "crates", it, "out", "rlib", it + ".rlib"))]
+    if not rt or lacking:
+        return f"there is no library {lacking[0]} here" if lacking else "this release of the toolchain (rt version) has no such step; kit 13b has"
+    rt.rtlib.guarded()
+    folder = os.path.join(ROOT, "crates", "th_c")
+    os.makedirs(os.path.join(folder, "out"), exist_ok=True)
+    crate = next(it for it in rt.rtlib.crates_below(folder) if it.name == "th_c")
+    with open(os.path.join(folder, "out", "archive.log"), "w+", encoding="utf-8", errors="replace") as crate.out:
+        held = rt.rtlib.lock([crate])
+        status = crate.build_static(["--jobs", str(os.cpu_count() or 1)])
+        del held
+        crate.out.seek(0)
+        return crate.out.read()[-2000:] if status else ""
+
+
 def library(folder):
     """A folder with libtopichub.a and libtopichub.so: what TOPICHUB_LIB_DIR names, or one in this folder, where lib/c makes them of
     the archive of th_c. None where that archive is not built."""
     named = os.environ.get("TOPICHUB_LIB_DIR")
-    if named or not os.path.exists(os.path.join(ROOT, "crates", "th_c", "out", "libth_c.a")):
+    if named or not os.path.exists(ARCHIVE):
         return named
     made = os.path.join(folder, "libtopichub")
     subprocess.run(["make", "--quiet", "-C", os.path.join(ROOT, "lib", "c"), "BUILD=" + made], check=True, stdout=sys.stderr)

@@ -395,7 +395,7 @@ def load(clients, seconds, seed):
         whole = served(folder, stands, clients, seconds, True, seed, os.path.join(folder, "traces"), resident_at)
         yield (f"{whole['replies']} replies as they may be ({whole['values']} values, {whole['lags']} lags), {whole['killed']} clients "
                f"killed; {whole['entries']} entries legal and joined; {rate(whole, seconds):.0f} values a second")
-        part = max(5, seconds / 10)
+        part = min(30, max(5, seconds / 10))
         without = served(folder, stands, clients, part, True, seed)
         yield f"without --traces {rate(without, part):.0f} values a second"
         told = [f"{rate(served(folder, how, few, part, False, seed, traces), part):.0f} {name}" for how, traces, name in (

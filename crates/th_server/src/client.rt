@@ -1,4 +1,5 @@
 //! Whether a client is still there.
+ghost use Rattle.std.specs.Prelude.{false};
 use crate::connections::Connections;
 use std::io::Write;
 use std::os::unix::net::UnixStream;
@@ -12,6 +13,8 @@ pub(crate) struct Client<'a> {
 }
 
 impl<'a> Gate for Client<'a> {
+    ghost holds_back = { λ _ _ _. false };
+
     fn may(&self, _session: u64, _line: u64) -> bool {
         true
     }
