@@ -1,5 +1,6 @@
 //! Whether a client is still there.
 ghost use Rattle.std.specs.Prelude.{false};
+
 use crate::connections::Connections;
 use std::io::Write;
 use std::os::unix::net::UnixStream;
