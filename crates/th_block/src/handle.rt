@@ -1,5 +1,6 @@
 //! A caller's handle at a shared channel. One body serves senders and receivers of both channels.
 ghost use Rattle.std.specs.Prelude.{◌≡◌, ◌≤◌, ◌↔◌, [], length, true, false, IfErr, IfOk, IfSome, IsTrue, MatchOption, MatchResult, OnOk, None, Some};
+ghost use Rattle.std.specs.Sync.Mutex.{mutex_guard_value};
 ghost use Rattle.th_glance.specs.Lists.{last_of};
 ghost use Rattle.th_log.specs.History.{IsLimit};
 ghost use Rattle.th_log.specs.Outcome.{IsAnswered, counted};
@@ -14,11 +15,11 @@ use crate::held::Held;
 use crate::posted::Posted;
 use crate::ready::{all_ready, see_all};
 use crate::seat::Seat;
-use crate::shared::Shared;
+use crate::shared::{Room, Shared};
 use crate::side::{Receives, Sends, Side};
 use std::alloc::Global;
 use std::marker::{Model, PhantomData};
-use std::sync::Wait;
+use std::sync::{MutexGuard, Wait};
 use std::time::{Clock, Duration};
 use th_glance::{Eye, Glance};
 use th_log::{Kind, Logged, MOST_ENTRIES, MakeFault, Object, Receipt, Refused, made};
@@ -198,12 +199,13 @@ impl<O: Kind, S> Handle<O, S> {
         self.account.learn(count)
     }
 
-    // One event. It waits until the call is ready.
+    // One event, once its call is ready. Then all who wait for what it changed are woken, if they are to be.
     #[inline(always)]
-    pub(crate) fn call<R: Wait>(
+    fn call_once<R: Wait>(
         &mut self,
         rt: &R,
         call: O::Call,
+        wakes: bool,
     ) -> Result<Receipt<O>, Refused<O::Call>>
         requires { O.lawful }
         ensures calls { Calls self.old self.new call result }
@@ -215,7 +217,6 @@ impl<O: Kind, S> Handle<O, S> {
             ..
         } = self;
         let room = &*shared.room;
-        let mut cut = None;
         let locked = room.held.lock(rt);
         // A call that has its answer does not look at the condition: most have.
         let mut held = if locked.is_ready(&call) {
@@ -223,11 +224,13 @@ impl<O: Kind, S> Handle<O, S> {
         } else {
             room.news.wait_while(rt, locked, |held| held.waits(&call))
         };
-        let answer = held.enter(account, call, &mut cut);
-        let wakes = held.wakes_after(&answer);
-        drop(held);
-        room.wake(wakes);
-        hand_over(rt, &mut cut);
+        let answer = if held.is_rolling() {
+            rolled_event(rt, room, held, account, call, wakes)
+        } else {
+            let answer = held.event(account, call);
+            room.unlock_after(held, &answer, wakes);
+            answer
+        };
         match answer {
             Ok(receipt) => {
                 // What every receipt says.
@@ -237,6 +240,20 @@ impl<O: Kind, S> Handle<O, S> {
             }
             Err(refused) => Err(refused),
         }
+    }
+
+    // One event. It waits until the call is ready.
+    #[inline(always)]
+    pub(crate) fn call<R: Wait>(
+        &mut self,
+        rt: &R,
+        call: O::Call,
+    ) -> Result<Receipt<O>, Refused<O::Call>>
+        requires { O.lawful }
+        ensures calls { Calls self.old self.new call result }
+        ensures answered { IfOk result (IsAnswered O.machine O.is_sound) }
+    {
+        self.call_once(rt, call, true)
     }
 
     /// Whether a call would wait now, for news or for nothing any more. It makes no event, and takes the lock for a moment:
@@ -368,29 +385,7 @@ impl<O: Kind, S: Side<O>> Handle<O, S> {
         requires own { S.caller call ≡ Some self.old.number }
         ensures { Calls self.old self.new call result }
     {
-        let Handle {
-            shared,
-            account,
-            ..
-        } = self;
-        let room = &*shared.room;
-        let mut cut = None;
-        let locked = room.held.lock(rt);
-        let mut held = if locked.is_ready(&call) {
-            locked
-        } else {
-            room.news.wait_while(rt, locked, |held| held.waits(&call))
-        };
-        let answer = held.enter(account, call, &mut cut);
-        drop(held);
-        hand_over(rt, &mut cut);
-        match answer {
-            Ok(receipt) => {
-                account.catch_up(rt, receipt.place());
-                Ok(receipt)
-            }
-            Err(refused) => Err(refused),
-        }
+        self.call_once(rt, call, false)
     }
 
     /// Events of this very handle by one call, one behind the other, as long as it has its answer: at most `most`, and at
@@ -496,6 +491,27 @@ impl<O: Kind> Handle<O, Sends> {
     }
 }
 
+// The same, on a log that its calls cut where that is due. The part is handed over once the lock is free.
+fn rolled_event<O: Kind, R: Wait>(
+    rt: &R,
+    room: &Room<O>,
+    mut held: MutexGuard<'_, Held<O>>,
+    account: &mut Account,
+    call: O::Call,
+    wakes: bool,
+) -> Result<Receipt<O>, Refused<O::Call>>
+    requires lawful { O.lawful }
+    requires ready { O.machine.ready (mutex_guard_value held).log.piece.last call ≡ true }
+    ensures { MatchResult result (Entered account.old account.new call)
+        (IsBack account.old account.new call) }
+{
+    let mut cut = None;
+    let answer = held.enter(account, call, &mut cut);
+    room.unlock_after(held, &answer, wakes);
+    hand_over(rt, &mut cut);
+    answer
+}
+
 // The last event of a handle, under the lock.
 fn last_call<O: Kind, R: Wait>(
     rt: &R,
@@ -515,8 +531,6 @@ fn last_call<O: Kind, R: Wait>(
     let locked = room.held.lock(rt);
     let mut held = room.news.wait_while(rt, locked, |held| held.waits(&call));
     let answer = held.last_event(account, call);
-    let wakes = held.wakes_after(&answer);
-    drop(held);
-    room.wake(wakes);
+    room.unlock_after(held, &answer, true);
     answer
 }

@@ -81,6 +81,14 @@ impl<O: Kind> Held<O> {
         self.rolling = Some(rolling);
     }
 
+    /// Whether calls cut the log.
+    #[inline(always)]
+    pub(crate) fn is_rolling(&self) -> bool
+        ensures { result ≡ self.now.rolls }
+    {
+        self.rolling.is_some()
+    }
+
     /// Cuts the log, where calls do so, if it is as long as it is to grow, or has no room for so many events more, after which so
     /// many handles are live. So a part with no room for them is left only where a new one has none. Nothing has changed where
     /// there was no memory. What was cut is lent a place by the caller: handed back by value it would be moved through memory
@@ -183,7 +191,8 @@ impl<O: Kind> Held<O> {
         let Ok(receipt) = answer else {
             return false;
         };
-        self.is_awaited(receipt) && self.wakes()
+        // Mostly nobody waits.
+        self.waiting > 0 && self.is_awaited(receipt) && self.wakes()
     }
 
     /// One event of a handle, and its store; the handle's eye looks later. `Foreign` where the handle is of another
@@ -227,7 +236,7 @@ impl<O: Kind> Held<O> {
         ensures last { self.new.log.piece.last ≡ self.old.log.piece.last }
         ensures waiting { self.new.waiting ≡ self.old.waiting }
     {
-        if self.rolling.is_some() {
+        if self.is_rolling() {
             let live = self.posted.log().object().live();
             let _ = self.make_room(count as u64, live, cut);
         }
@@ -258,7 +267,7 @@ impl<O: Kind> Held<O> {
             → IsWornOut self.old.log) }
         ensures waiting { self.new.waiting ≡ self.old.waiting }
     {
-        if self.rolling.is_some() {
+        if self.is_rolling() {
             let live = self.posted.log().object().live_after(&call);
             if self.make_room(1, live, cut).is_err() {
                 return Err(Refused::Short(call));

@@ -6,8 +6,8 @@ use crate::cuts::{Cuts, hand_over};
 use crate::held::{Held, Rolling};
 use crate::posted::Posted;
 use std::alloc::{AllocError, Global};
-use std::sync::{Arc, Condvar, Mutex, Wait};
-use th_log::{Kind, Logged, Object, Segment};
+use std::sync::{Arc, Condvar, Mutex, MutexGuard, Wait};
+use th_log::{Kind, Logged, Object, Receipt, Refused, Segment};
 use th_model::Short;
 use th_seats::Share;
 
@@ -26,6 +26,21 @@ impl<O: Object> Room<O> {
         if wakes {
             self.news.notify_all();
         }
+    }
+}
+
+impl<O: Kind> Room<O> {
+    /// Lets the lock go. All who wait are woken then, if they are to be and there is news for them.
+    #[inline(always)]
+    pub(crate) fn unlock_after(
+        &self,
+        mut held: MutexGuard<'_, Held<O>>,
+        answer: &Result<Receipt<O>, Refused<O::Call>>,
+        wakes: bool,
+    ) {
+        let wakes = wakes && held.wakes_after(answer);
+        drop(held);
+        self.wake(wakes);
     }
 }
 
