@@ -1,14 +1,10 @@
 //! Calls of th_shared. Only `main` has a runtime that may wait, so they take one by its bounds.
 use std::alloc::Global;
-use std::os::unix::net::UnixListener;
 use std::sync::Wait;
-use std::thread::Threads;
-use std::time::Clock;
 use th_model::{Name, Short};
 use th_registry::TopicId;
 use th_seats::Share;
-use th_session::{Keeping, OpenGate};
-use th_shared::{Ended, Histories, Observer, ServeFault, Served, SharedDesk, Unheard, serve_on};
+use th_shared::{Ended, Histories, SharedDesk};
 
 pub fn make<R: Wait + Clone>(rt: R, alloc: Global) -> Result<SharedDesk<R>, Short<()>> {
     SharedDesk::new(rt, alloc)
@@ -48,24 +44,4 @@ pub fn finish<R: Wait + Clone>(
     alloc: Global,
 ) -> Result<(Vec<Ended>, Vec<(TopicId, Share)>), SharedDesk<R>> {
     desk.finish(alloc)
-}
-
-pub fn serve<R: Threads + Wait + Clock + Clone + Send + Sync>(
-    rt: &R,
-    alloc: Global,
-    listener: &UnixListener,
-) -> Result<Served<R>, ServeFault<R>> {
-    serve_on(
-        rt,
-        alloc,
-        listener,
-        64,
-        &OpenGate,
-        &Unheard,
-        Keeping::Nothing,
-    )
-}
-
-pub fn hear(observer: &Unheard) {
-    observer.ended(1, None);
 }

@@ -19,7 +19,8 @@ use th_lines::Counted;
 use th_model::Kind;
 use th_program::{End, Standing};
 use th_session::{Bounds, Keeping, SessionFault, run_session};
-use th_shared::{Histories, Observer, SharedDesk};
+use th_shared::{Histories, SharedDesk};
+use th_sockets::Observer;
 
 // How long a worker waits after a connection that could not be accepted, in milliseconds: descriptors may come back.
 const PAUSE: u64 = 100;

@@ -16,7 +16,7 @@ use std::thread::Threads;
 use std::time::Clock;
 use th_program::End;
 use th_session::{Keeping, OpenGate, SessionFault};
-use th_shared::{Observer, ServeFault, serve_on};
+use th_sockets::{Observer, ServeFault, serve_on};
 
 /// Says as an error which session was stopped, and by what.
 #[derive(Drop)]

@@ -1,5 +1,4 @@
-//! The hub for many threads: each topic has its own lock, each thread its own desk, and each connection of a Unix socket a
-//! thread.
+//! The hub for many threads: each topic has its own lock, and each thread its own desk.
 //!
 //! ```text
 //! let mut desk = SharedDesk::new(rt, alloc)?;                        // no topic yet
@@ -12,14 +11,7 @@
 //! bobs.by_receiver(TopicId(0), &mut bob, ReceiverVerb::Recv)?;       // the value: it waits where there is none yet
 //! ```
 //!
-//! A session is served at it as at any other desk. `serve_on` does so over a socket:
-//!
-//! ```text
-//! let listener = UnixListener::bind(&rt, "hub.sock")?;
-//! // Until two sessions have ended.
-//! let served = serve_on(&rt, alloc, &listener, 2, &OpenGate, &Unheard, Keeping::All)?;
-//! let (topics, _) = served.desk.finish(alloc)?;                      // what is left of each topic: its log
-//! ```
+//! A session is served at it as at any other desk. th_sockets does so over a socket.
 #![tactic(auto)]
 
 mod ahead_handle;
@@ -32,10 +24,8 @@ mod event;
 pub mod handles;
 pub mod histories;
 mod new_handle;
-pub mod observer;
 mod registry;
 mod said;
-pub mod serve;
 mod shared_topics;
 mod shares;
 mod told;
@@ -47,5 +37,3 @@ pub use desk::SharedDesk;
 pub use ended::Ended;
 pub use handles::{AheadHandle, TopicReceiver, TopicSender};
 pub use histories::Histories;
-pub use observer::{Observer, Unheard};
-pub use serve::{Attended, ServeFault, Served, serve_on};

@@ -1,6 +1,6 @@
 use Rattle.std.proofs.Common.{◌≡◌, ◌≤◌}
 use Rattle.std.specs.Prelude.{vec_capacity, vec_len}
-use Rattle.th_shared.proofs.serve.start_all.Given as goal
+use Rattle.th_sockets.proofs.serve.start_all.Given as goal
 
 abbrev pub invariant-loop-before : goal.invariant-loop-before
 invariant-loop-before g l = record {

@@ -1,5 +1,5 @@
 use Rattle.std.proofs.Common.{arith}
-use Rattle.th_shared.proofs.serve.join_all.Goals as goal
+use Rattle.th_sockets.proofs.serve.join_all.Goals as goal
 
 pub returns : goal.returns
 returns g c =

@@ -1,7 +1,6 @@
 //! A thread for each connection.
 ghost use Rattle.std.specs.Prelude.{◌≡◌, ◌≤◌, IfOk, None, vec_capacity, vec_len};
 
-use crate::desk::SharedDesk;
 use crate::observer::Observer;
 use std::alloc::Global;
 use std::os::unix::net::{UnixListener, UnixStream};
@@ -14,6 +13,7 @@ use th_registry::TopicId;
 use th_registry::channel::{TopicReceipt, TopicSegment};
 use th_seats::Share;
 use th_session::{Bounds, Gate, Keeping, SessionFault, run_session};
+use th_shared::SharedDesk;
 
 /// A session that has ended. It holds no handle.
 #[derive(Drop)]

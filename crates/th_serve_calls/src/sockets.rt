@@ -1,0 +1,28 @@
+//! Calls of th_sockets.
+use std::alloc::Global;
+use std::os::unix::net::UnixListener;
+use std::sync::Wait;
+use std::thread::Threads;
+use std::time::Clock;
+use th_session::{Keeping, OpenGate};
+use th_sockets::{Observer, ServeFault, Served, Unheard, serve_on};
+
+pub fn serve<R: Threads + Wait + Clock + Clone + Send + Sync>(
+    rt: &R,
+    alloc: Global,
+    listener: &UnixListener,
+) -> Result<Served<R>, ServeFault<R>> {
+    serve_on(
+        rt,
+        alloc,
+        listener,
+        64,
+        &OpenGate,
+        &Unheard,
+        Keeping::Nothing,
+    )
+}
+
+pub fn hear(observer: &Unheard) {
+    observer.ended(1, None);
+}
