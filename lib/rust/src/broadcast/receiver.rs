@@ -11,10 +11,11 @@ use std::sync::atomic::Ordering;
 use std::sync::Arc;
 use std::task::{Context, Poll};
 
-/// How long a task looks for a value before it waits: less than a wake-up takes.
+/// How long a task looks for a value before it waits: less than a wake-up takes. Where there are more
+/// threads than processors, the sender can go on meanwhile.
 const WAITING: Patience = Patience {
     spins: 4,
-    yields: 0,
+    yields: 1,
 };
 /// The same for a thread.
 const BLOCKING: Patience = Patience {
@@ -85,6 +86,9 @@ impl<T: Clone> Receiver<T> {
     /// Where this receiver was too slow, it answers [`RecvError::Lagged`] with the number of values
     /// that were missed; where no sender is left and all that was kept has been received,
     /// [`RecvError::Closed`].
+    ///
+    /// Before the task waits it looks for a value for less than a microsecond, and yields its thread
+    /// once to other threads, since to wait and to be woken takes longer.
     ///
     /// # Cancel safety
     ///
