@@ -224,6 +224,7 @@ impl<O: Kind, S> Handle<O, S> {
         } else {
             room.news.wait_while(rt, locked, |held| held.waits(&call))
         };
+        // Few logs are cut by their calls, and a place for the part would cost each call.
         let answer = if held.is_rolling() {
             rolled_event(rt, room, held, account, call, wakes)
         } else {
@@ -491,7 +492,8 @@ impl<O: Kind> Handle<O, Sends> {
     }
 }
 
-// The same, on a log that its calls cut where that is due. The part is handed over once the lock is free.
+// One event on a locked log that its calls cut where that is due; the event's call is ready. The part is handed over once the
+// lock is free.
 fn rolled_event<O: Kind, R: Wait>(
     rt: &R,
     room: &Room<O>,
