@@ -14,8 +14,9 @@ use crate::cuts::{Cut, hand_over};
 use crate::held::Held;
 use crate::posted::Posted;
 use crate::ready::{all_ready, see_all};
+use crate::room::Room;
 use crate::seat::Seat;
-use crate::shared::{Room, Shared};
+use crate::shared::Shared;
 use crate::side::{Receives, Sends, Side};
 use std::alloc::Global;
 use std::marker::{Model, PhantomData};
@@ -30,8 +31,9 @@ use th_seats::Share;
 ///
 /// Each call takes the lock once, and holds it for its one event: what the channel's own call costs, a copy of the call
 /// for the log and one for the receipt, the store of the channel's word, and a look at whether anyone is to be woken.
-/// After that the handle's eye looks at the word until it sees the event, which its first look finds. Only calls that say
-/// so wait for more than the lock. Memory is asked for before the event; where it is refused, the call comes back as
+/// After that the handle's eye looks at the word until it sees the event, which its first look finds. Who finds the lock taken
+/// tries again for some microseconds before it sleeps, and so does who finds no answer yet. Only calls that say so wait for more
+/// than the lock. Memory is asked for before the event; where it is refused, the call comes back as
 /// `Refused::Short`. `glance` and `learn` take no lock and wait for nothing.
 ///
 /// It is not cloned: a second handle is a call of the channel, and has its own number. One that is let go and not spent
@@ -217,13 +219,7 @@ impl<O: Kind, S> Handle<O, S> {
             ..
         } = self;
         let room = &*shared.room;
-        let locked = room.held.lock(rt);
-        // A call that has its answer does not look at the condition: most have.
-        let mut held = if locked.is_ready(&call) {
-            locked
-        } else {
-            room.news.wait_while(rt, locked, |held| held.waits(&call))
-        };
+        let mut held = room.lock_when_ready(rt, &call);
         // Few logs are cut by their calls, and a place for the part would cost each call.
         let answer = if held.is_rolling() {
             rolled_event(rt, room, held, account, call, wakes)
@@ -260,22 +256,14 @@ impl<O: Kind, S> Handle<O, S> {
     /// Whether a call would wait now, for news or for nothing any more. It makes no event, and takes the lock for a moment:
     /// what it says may be past when it is read, so that no clause says what it means.
     pub fn would_wait<R: Wait>(&self, rt: &R, call: &O::Call) -> bool {
-        let held = self.shared.room.held.lock(rt);
+        let held = self.shared.room.lock(rt);
         !held.is_ready(call)
     }
 
     /// Waits until a call would not wait, but no longer than so: whether it would not. It makes no event. What it says may be
     /// past when it is read, but for a call that waits for what only this handle takes; so no clause says what it means.
     pub fn wait_for<R: Wait + Clock>(&self, rt: &R, call: &O::Call, longest: Duration) -> bool {
-        let room = &*self.shared.room;
-        let locked = room.held.lock(rt);
-        if locked.is_ready(call) {
-            return true;
-        }
-        let (held, _) = room
-            .news
-            .wait_timeout_while(rt, locked, longest, |held| held.waits(call));
-        held.is_ready(call)
+        self.shared.room.wait_for(rt, call, longest)
     }
 
     // One event that may be the last of a loop, by a call that waits.
@@ -340,8 +328,7 @@ impl<O: Kind, S> Handle<O, S> {
         };
         let room = &*shared.room;
         let mut cut = None;
-        let locked = room.held.lock(rt);
-        let mut held = room.news.wait_while(rt, locked, |held| held.waits(&call));
+        let mut held = room.lock_when_ready(rt, &call);
         let answer = seated_event(&mut *held, account, call, &mut cut);
         drop(held);
         hand_over(rt, &mut cut);
@@ -412,7 +399,7 @@ impl<O: Kind, S: Side<O>> Handle<O, S> {
             ..
         } = self;
         let mut cut = None;
-        let mut held = shared.room.held.lock(rt);
+        let mut held = shared.room.lock(rt);
         held.spare(most, &mut cut);
         let total = all_ready(&mut *held, account, call, most, receipts);
         drop(held);
@@ -530,8 +517,7 @@ fn last_call<O: Kind, R: Wait>(
     ensures foreign { IfErr result (λ e. e ≡ Refused.Foreign call) }
 {
     let room = &*shared.room;
-    let locked = room.held.lock(rt);
-    let mut held = room.news.wait_while(rt, locked, |held| held.waits(&call));
+    let mut held = room.lock_when_ready(rt, &call);
     let answer = held.last_event(account, call);
     room.unlock_after(held, &answer, true);
     answer

@@ -91,6 +91,7 @@ mod queued;
 mod ready;
 mod replace;
 pub mod replaced;
+mod room;
 mod seat;
 pub mod shared;
 pub mod side;

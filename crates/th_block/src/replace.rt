@@ -94,8 +94,7 @@ impl<O: Kind> Shared<O> {
         };
         let room = &*self.room;
         let mut cut = None;
-        let locked = room.held.lock(rt);
-        let mut held = room.news.wait_while(rt, locked, |held| held.waits(&make));
+        let mut held = room.lock_when_ready(rt, &make);
         let answer = make_and_last(&mut *held, &mut account, RxId(number), make, &mut cut);
         drop(held);
         hand_over(rt, &mut cut);

@@ -5,44 +5,12 @@ ghost use Rattle.th_log.specs.History.{IsLegal};
 use crate::cuts::{Cuts, hand_over};
 use crate::held::{Held, Rolling};
 use crate::posted::Posted;
+use crate::room::Room;
 use std::alloc::{AllocError, Global};
-use std::sync::{Arc, Condvar, Mutex, MutexGuard, Wait};
-use th_log::{Kind, Logged, Object, Receipt, Refused, Segment};
+use std::sync::{Arc, Wait};
+use th_log::{Kind, Logged, Object, Segment};
 use th_model::Short;
 use th_seats::Share;
-
-/// The lock, and where callers wait.
-#[derive(Drop)]
-pub(crate) struct Room<O: Object> {
-    pub(crate) held: Mutex<Held<O>>,
-    // Those who wait sleep here, of both sides of a channel. They are woken all at once, after the lock is let go: a
-    // sleeper that is woken wants the lock at once.
-    pub(crate) news: Condvar,
-}
-
-impl<O: Object> Room<O> {
-    /// Wakes all who wait, if there is a need.
-    pub(crate) fn wake(&self, wakes: bool) {
-        if wakes {
-            self.news.notify_all();
-        }
-    }
-}
-
-impl<O: Kind> Room<O> {
-    /// Lets the lock go. All who wait are woken then, if they are to be and there is news for them.
-    #[inline(always)]
-    pub(crate) fn unlock_after(
-        &self,
-        mut held: MutexGuard<'_, Held<O>>,
-        answer: &Result<Receipt<O>, Refused<O::Call>>,
-        wakes: bool,
-    ) {
-        let wakes = wakes && held.wakes_after(answer);
-        drop(held);
-        self.wake(wakes);
-    }
-}
 
 /// An owner of a channel, without a number. Each handle is one too.
 #[derive(Drop)]
@@ -53,12 +21,8 @@ pub struct Shared<O: Object> {
 impl<O: Kind> Shared<O> {
     // The first owner of a channel.
     pub(crate) fn new(alloc: Global, posted: Posted<O>) -> Result<Shared<O>, AllocError> {
-        let room = Room {
-            held: Mutex::new(Held::new(posted)),
-            news: Condvar::new(),
-        };
         Ok(Shared {
-            room: Arc::new(alloc, room)?,
+            room: Arc::new(alloc, Room::new(Held::new(posted)))?,
         })
     }
 
@@ -77,7 +41,7 @@ impl<O: Kind> Shared<O> {
         requires { O.lawful }
         ensures { IfOk result (λ s. IsLegal O.machine O.is_sound s) }
     {
-        let mut held = self.room.held.lock(rt);
+        let mut held = self.room.lock(rt);
         held.cut()
     }
 
@@ -88,7 +52,7 @@ impl<O: Kind> Shared<O> {
         ensures key { IfSome result (λ said. IfOk said (λ s. s.key ≡ key)) }
         ensures legal { IfSome result (λ said. IfOk said (λ s. IsLegal O.machine O.is_sound s)) }
     {
-        let mut held = self.room.held.lock(rt);
+        let mut held = self.room.lock(rt);
         held.cut_of(key)
     }
 
@@ -109,7 +73,7 @@ impl<O: Kind> Shared<O> {
             return Err(Short { call: () });
         };
         let mut cut = None;
-        let mut held = self.room.held.lock(rt);
+        let mut held = self.room.lock(rt);
         held.roll(Rolling { most, cuts });
         held.spare(0, &mut cut);
         drop(held);
@@ -119,7 +83,7 @@ impl<O: Kind> Shared<O> {
 
     /// Wakes who waits, after calls that left it to their caller. It takes the lock for a moment.
     pub fn wake<R: Wait>(&self, rt: &R) {
-        let mut held = self.room.held.lock(rt);
+        let mut held = self.room.lock(rt);
         let wakes = held.wakes();
         drop(held);
         self.room.wake(wakes);
@@ -134,23 +98,20 @@ impl<O: Kind> Shared<O> {
     pub fn take_back<R: Wait>(&self, rt: &R, share: Share) -> Result<(), Share>
         ensures { IfErr result (λ back. back ≡ share) }
     {
-        let mut held = self.room.held.lock(rt);
+        let mut held = self.room.lock(rt);
         held.take_back(share)
     }
 
     /// Hands out the shares that the channel was given, as one; none where it has none. `finish` lets them go.
     pub fn returned<R: Wait>(&self, rt: &R) -> Option<Share> {
-        let mut held = self.room.held.lock(rt);
+        let mut held = self.room.lock(rt);
         held.returned()
     }
 
     /// The log, for the last owner; any other one comes back. It takes neither memory nor the lock.
     pub fn finish(self) -> Result<Logged<O>, Shared<O>> {
         match Arc::try_unwrap(self.room) {
-            Ok(room) => {
-                let Room { held, news: _ } = room;
-                Ok(held.into_inner().into_log())
-            }
+            Ok(room) => Ok(room.into_held().into_log()),
             Err(room) => Err(Shared { room }),
         }
     }

@@ -34,7 +34,7 @@ impl<O: Kind, S> Handle<O, S> {
         } = self;
         let room = &*shared.room;
         let mut cut = None;
-        let mut held = room.held.lock(rt);
+        let mut held = room.lock(rt);
         let log = &mut *held;
         log.spare(queue.len(), &mut cut);
         let (awaited, end) = each_ready::<O, Q>(log, account, *number, queue, receipts);
@@ -70,12 +70,7 @@ impl<O: Kind, S> Handle<O, S> {
         } = self;
         let room = &*shared.room;
         let mut cut = None;
-        let locked = room.held.lock(rt);
-        let mut held = if locked.is_ready(&call) {
-            locked
-        } else {
-            room.news.wait_while(rt, locked, |held| held.waits(&call))
-        };
+        let mut held = room.lock_when_ready(rt, &call);
         let log = &mut *held;
         log.spare(limit, &mut cut);
         let answer = many_ready(log, account, call, limit, receipts);

@@ -1,0 +1,131 @@
+//! What the handles of a channel own in common: the lock, and where callers wait.
+ghost use Rattle.std.specs.Prelude.{◌≡◌, true};
+ghost use Rattle.std.specs.Sync.Mutex.{mutex_guard_value};
+
+use crate::held::Held;
+use crossbeam_utils::Backoff;
+use std::sync::{Condvar, Mutex, MutexGuard, Wait};
+use std::time::{Clock, Duration};
+use th_log::{Kind, Object, Receipt, Refused};
+
+// How often a caller that finds the lock taken tries again before it sleeps: some microseconds, and then it yields to other
+// threads. To sleep and to be woken takes longer, and a lock that a sleeper is to have stands idle until it has woken.
+const TRIES: u32 = 11;
+// The same of one that finds no answer yet.
+const LOOKS: u32 = 9;
+
+/// The lock, and where callers wait.
+#[derive(Drop)]
+pub(crate) struct Room<O: Object> {
+    held: Mutex<Held<O>>,
+    // Those who wait sleep here, of both sides of a channel. They are woken all at once, after the lock is let go: a
+    // sleeper that is woken wants the lock at once.
+    news: Condvar,
+}
+
+impl<O: Object> Room<O> {
+    /// Where nobody waits yet.
+    pub(crate) fn new(held: Held<O>) -> Room<O> {
+        Room {
+            held: Mutex::new(held),
+            news: Condvar::new(),
+        }
+    }
+
+    /// What the lock keeps, once nobody wants it any more.
+    pub(crate) fn into_held(self) -> Held<O> {
+        let Room { held, news: _ } = self;
+        held.into_inner()
+    }
+
+    /// Takes the lock. A caller sleeps only after a while.
+    #[inline(never)]
+    pub(crate) fn lock<R: Wait>(&self, rt: &R) -> MutexGuard<'_, Held<O>> {
+        if let Some(held) = self.held.try_lock() {
+            return held;
+        }
+        let backoff = Backoff::new();
+        for _ in 0..TRIES {
+            backoff.snooze();
+            if let Some(held) = self.held.try_lock() {
+                return held;
+            }
+        }
+        self.held.lock(rt)
+    }
+
+    /// Wakes all who wait, if there is a need.
+    pub(crate) fn wake(&self, wakes: bool) {
+        if wakes {
+            self.news.notify_all();
+        }
+    }
+}
+
+impl<O: Kind> Room<O> {
+    /// Takes the lock once this call has its answer. It waits until then.
+    #[inline(always)]
+    pub(crate) fn lock_when_ready<R: Wait>(&self, rt: &R, call: &O::Call) -> MutexGuard<'_, Held<O>>
+        ensures { O.machine.ready (mutex_guard_value result).log.piece.last call.now ≡ true }
+    {
+        let held = self.lock(rt);
+        // Most calls have their answers.
+        if held.is_ready(call) {
+            return held;
+        }
+        self.wait_until_ready(rt, held, call)
+    }
+
+    // The same for a call that has none yet. The lock is taken and let go some times, until a while has passed.
+    #[inline(never)]
+    fn wait_until_ready<'a, R: Wait>(
+        &'a self,
+        rt: &R,
+        held: MutexGuard<'a, Held<O>>,
+        call: &O::Call,
+    ) -> MutexGuard<'a, Held<O>>
+        ensures { O.machine.ready (mutex_guard_value result).log.piece.last call.now ≡ true }
+    {
+        let mut held = held;
+        let backoff = Backoff::new();
+        for _ in 0..LOOKS {
+            drop(held);
+            backoff.snooze();
+            held = self.lock(rt);
+            if held.is_ready(call) {
+                return held;
+            }
+        }
+        self.news.wait_while(rt, held, |held| held.waits(call))
+    }
+
+    /// Waits until this call would not wait, but no longer than so: whether it would not.
+    pub(crate) fn wait_for<R: Wait + Clock>(
+        &self,
+        rt: &R,
+        call: &O::Call,
+        longest: Duration,
+    ) -> bool {
+        let held = self.lock(rt);
+        if held.is_ready(call) {
+            return true;
+        }
+        let (held, _) = self
+            .news
+            .wait_timeout_while(rt, held, longest, |held| held.waits(call));
+        held.is_ready(call)
+    }
+
+    /// Lets the lock go. All who wait are woken then, if they are to be and there is news for them.
+    #[inline(always)]
+    pub(crate) fn unlock_after(
+        &self,
+        mut held: MutexGuard<'_, Held<O>>,
+        answer: &Result<Receipt<O>, Refused<O::Call>>,
+        wakes: bool,
+    ) {
+        let wakes = wakes && held.wakes_after(answer);
+        drop(held);
+        self.wake(wakes);
+    }
+}
