@@ -3,16 +3,17 @@ ghost use Rattle.std.specs.Prelude.{◌≡◌, true};
 ghost use Rattle.std.specs.Sync.Mutex.{mutex_guard_value};
 
 use crate::held::Held;
-use crossbeam_utils::Backoff;
 use std::sync::{Condvar, Mutex, MutexGuard, Wait};
+use std::thread;
 use std::time::{Clock, Duration};
 use th_log::{Kind, Object, Receipt, Refused};
 
-// How often a caller that finds the lock taken tries again before it sleeps: some microseconds, and then it yields to other
-// threads. To sleep and to be woken takes longer, and a lock that a sleeper is to have stands idle until it has woken.
-const TRIES: u32 = 11;
+// How often a caller that finds the lock taken tries again before it sleeps. Before each try it yields its thread, so that others
+// go on. All of them take some microseconds: to sleep and to be woken takes longer, and a lock that a sleeper is to have stands
+// idle until it has woken.
+const TRIES: u32 = 20;
 // The same of one that finds no answer yet.
-const LOOKS: u32 = 9;
+const LOOKS: u32 = 4;
 
 /// The lock, and where callers wait.
 #[derive(Drop)]
@@ -44,9 +45,8 @@ impl<O: Object> Room<O> {
         if let Some(held) = self.held.try_lock() {
             return held;
         }
-        let backoff = Backoff::new();
         for _ in 0..TRIES {
-            backoff.snooze();
+            thread::yield_now();
             if let Some(held) = self.held.try_lock() {
                 return held;
             }
@@ -87,10 +87,9 @@ impl<O: Kind> Room<O> {
         ensures { O.machine.ready (mutex_guard_value result).log.piece.last call.now ≡ true }
     {
         let mut held = held;
-        let backoff = Backoff::new();
         for _ in 0..LOOKS {
             drop(held);
-            backoff.snooze();
+            thread::yield_now();
             held = self.lock(rt);
             if held.is_ready(call) {
                 return held;
