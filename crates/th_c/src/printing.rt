@@ -23,7 +23,8 @@ fn print_broadcast_entries<T: Payload>(
     entries: &[(BCall<T>, BReply<T>)],
     out: &mut Vec<u8>,
 ) -> Result<(), Short<()>>
-    ensures { let told = fields broadcast_words.grammar (map (broadcast_entry T.spelled) entries.now) in
+    ensures { let told = fields broadcast_words.grammar
+        (map (broadcast_entry T.spelled) entries.now) in
         OnOk result (out.new.items ≡ out.old.items ++ text (entry_lines told)) }
 {
     for (call, reply) in entries {
