@@ -21,9 +21,9 @@ use Rattle.th_model.proofs.WindowLemmas.{slice_get-some}
 use Rattle.th_model.proofs.BroadcastSoundness.{low-le, sound-joined, sound-placed, sound-pushed}
 use Rattle.th_model.proofs.HandleLemmas.{few_of_room, more_of_room, next_is_free}
 use Rattle.th_c.specs.Broadcast.{sent_by}
-use Rattle.th_c.specs.LetGo.{gone, gone_at, noted, one_if_none}
+use Rattle.th_c.specs.LetGo.{gone, gone_at, noted, noted_receive, one_if_none}
 use Rattle.th_c.specs.declared.let_go.Note.{Note}
-use Rattle.th_c.specs.declared.let_go.Note.TheVariants.{Nothing, Full, Place, Kept}
+use Rattle.th_c.specs.declared.let_go.Note.TheVariants.{Nothing, Full, Alone, Place, Kept}
 
 -- ---- the least place
 -- with a receiver, it is the same where the tail moves on
@@ -56,6 +56,17 @@ least_joined n (p ∷ ps) rx j h = elim (nat_cmp rx p.0) as
       | Equal ↦ λ e. absurd (none-some p.1 (sym (rw (sym e) at h)))
       | Greater ↦ λ e. (let there : place_of ps rx ≡ None = rw (sym e) at h in omega (arith, least_joined n ps rx j there))
     ] refl
+
+-- an only receiver that moves takes it along
+least_alone : (n : ℕ) (ps : Places) (rx i j : ℕ) → length ps ≡ 1 → place_of ps rx ≡ Some i → min j n ≤ least_place n (with_place ps rx j)
+least_alone n [] rx i j one h = absurd (none-some i h)
+least_alone n (p ∷ []) rx i j one h = elim (nat_cmp rx p.0) as
+    (λ r. r ≡ nat_cmp rx p.0 → min j n ≤ least_place n (match_ordering r ((rx, j) ∷ p ∷ []) ((p.0, j) ∷ []) (p ∷ with_place [] rx j))) [
+      | Less ↦ λ e. absurd (none-some i (rw (sym e) at h))
+      | Equal ↦ λ e. omega arith
+      | Greater ↦ λ e. absurd (none-some i (rw (sym e) at h))
+    ] refl
+least_alone n (p ∷ q ∷ ps) rx i j one h = omega (arith, one)
 
 -- ---- the least kept position
 -- a value is sent: the oldest one goes where the window is full
@@ -212,9 +223,60 @@ module _ {T : Type 0} (p : Picture T) (s : IsSound p) where
               ] refl)
         ] refl
 
+    -- ---- by an only receiver: what it reads is gone
+    read-alone : length p.window.places ≡ 1 → first_of p.window ≤ i → i < p.window.tail → gone_at (placed p.window rx (i + 1)) i ≡ 1
+    unfolding placed trimmed low_of
+    read-alone one inside before =
+        let was = low_of-at p.window.tail p.window.capacity p.window.places rx i here in
+        let q = sound-placed p s rx (i + 1) there (omega arith) (omega arith) in
+        let least = least_alone p.window.tail p.window.places rx i (i + 1) one here in
+        let low : ℕ = low_of p.window.tail p.window.capacity (with_place p.window.places rx (i + 1)) in
+        elim (nat_lt i low) as (λ b. nat_lt i low ≡ b → gone_at (placed p.window rx (i + 1)) i ≡ cond b 1 0
+        → gone_at (placed p.window rx (i + 1)) i ≡ 1) [
+          | true ↦ λ e k. k
+          | false ↦ λ e k. (let f = ltb-false i low e in omega (arith, f, least, before))
+        ] refl (one-if-gone (placed p.window rx (i + 1)) q.window i before)
+
+    abbrev AsPlaced : BReply T × Picture T → Type 0
+    AsPlaced a = gone Alone a.0 a.1 ≡ gone (Place (Some i)) a.0 a.1
+
+    alone-as-placed : length p.window.places ≡ 1 → AsPlaced (receive p rx i)
+    alone-as-placed one =
+        let behind : Bool = nat_lt i (first_of p.window) in
+        let le : i ≤ p.window.tail = all-at (λ q. q ≤ p.window.tail) p.window.places rx i s.window.places here in
+        let lag : BReply T × Picture T =
+        (Lagged (first_of p.window - i), with_window p (placed p.window rx (first_of p.window))) in
+        let get : BReply T × Picture T =
+        (value_reply (slice_get p.window.kept (i - p.window.low)), with_window p (placed p.window rx (i + 1))) in
+        elim (i == p.window.tail) as (λ b. (i == p.window.tail) ≡ b → AsPlaced (cond b (end_reply p.senders, p) (cond behind lag get))) [
+          | true ↦ λ e. elim (length p.senders == 0) as (λ b. AsPlaced (cond b Closed Empty, p)) [ true ↦ refl | false ↦ refl ]
+          | false ↦ λ e. (let apart : i ≡ p.window.tail → ⊥ = grind (arith, nat_tests) in
+              elim behind as (λ b. behind ≡ b → AsPlaced (cond b lag get)) [
+                | true ↦ λ h. refl
+                | false ↦ λ h. (let inside = ltb-false i (first_of p.window) h in
+                    let low = low_of-at p.window.tail p.window.capacity p.window.places rx i here in
+                    let stands = slice_get-some p.window.kept (i - p.window.low) (omega (arith, apart, le, inside, low, s.window.low, s.window.kept)) in
+                    rw stands.1 (sym (read-alone one inside (omega (arith, apart, le)))))
+              ] refl)
+        ] refl
+
+  receiving-alone : length p.window.places ≡ 1 → (rx : ℕ) (o : Option ℕ) → place_of p.window.places rx ≡ o
+      → Finds p Alone (at_place p o (receive p rx))
+  receiving-alone one rx None here = omega arith
+  receiving-alone one rx (Some i) here = alone-as-placed rx i here one ∙ receiving rx i here
+
   receiving-at : (rx : ℕ) (o : Option ℕ) → place_of p.window.places rx ≡ o → Finds p (Place o) (at_place p o (receive p rx))
   receiving-at rx None here = omega arith
   receiving-at rx (Some i) here = receiving rx i here
+
+  receiving-noted : (rx : ℕ) → Finds p (noted_receive p rx) (at_place p (place_of p.window.places rx) (receive p rx))
+  receiving-noted rx =
+      let o : Option ℕ = place_of p.window.places rx in
+      elim (length p.window.places == 1) as
+      (λ b. (length p.window.places == 1) ≡ b → Finds p (cond b Alone (Place o)) (at_place p o (receive p rx))) [
+        | true ↦ λ e. (let one : length p.window.places ≡ 1 = grind (arith, nat_tests) in receiving-alone one rx o refl)
+        | false ↦ λ e. receiving-at rx o refl
+      ] refl
 
   -- ---- the others
   by-sender : (tx : TxId) (back : Option T) (note : Note) (given : BReply T × Picture T) → gone note (NoHandle back) p ≡ 0
@@ -257,8 +319,8 @@ module _ {T : Type 0} (p : Picture T) (s : IsSound p) where
 
   found : (call : BCall T) → Finds p (noted p call) (answer p call)
   found (Send tx v) = by-sender tx (Some v) (Full full) (send p v) refl (sending v)
-  found (TryRecv rx) = receiving-at rx.0 (place_of p.window.places rx.0) refl
-  found (Recv rx) = receiving-at rx.0 (place_of p.window.places rx.0) refl
+  found (TryRecv rx) = receiving-noted rx.0
+  found (Recv rx) = receiving-noted rx.0
   found (Subscribe tx) =
       by-sender tx None Nothing (subscribe_at p p.window.tail) refl (subscribing p.window.tail (low-le p s) (omega arith))
   found (SubscribeOldest tx) =

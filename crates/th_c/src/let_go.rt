@@ -1,13 +1,13 @@
 //! How many values a broadcast channel lets go of by a call.
 //!
-//! For a send and a receive one position is looked at. Only where a receiver leaves is the least
-//! kept position found, before the call and after it.
+//! For a send, and for a receive where there are several receivers, one position is looked at. Only
+//! where a receiver leaves is the least kept position found, before the call and after it.
 ghost use Rattle.std.specs.Prelude.{◌≡◌, ◌==◌, length};
-ghost use Rattle.th_c.specs.LetGo.{gone, gone_at, noted};
+ghost use Rattle.th_c.specs.LetGo.{gone, gone_at, noted, noted_receive};
 
 use crate::content::RingBroadcast;
 use crate::payload::Payload;
-use th_model::{BCall, BReply};
+use th_model::{BCall, BReply, RxId};
 
 /// What has to be known of a broadcast channel before a call, to say afterwards how many values it
 /// let go of.
@@ -17,6 +17,8 @@ pub enum Note {
     Nothing,
     /// Whether the window is full, so that a value that is sent takes the place of the oldest one.
     Full(bool),
+    /// The receiver is the only one, so that what it reads is let go.
+    Alone,
     /// The receiver's place, whose value it may be the last to read.
     Place(Option<u64>),
     /// How many values are kept.
@@ -56,6 +58,18 @@ fn is_full<T: Payload>(channel: &RingBroadcast<T>) -> bool
     gone_at(channel, tail - capacity) == 0
 }
 
+// What has to be known before a receive. Where there is but one receiver, its place is not looked for.
+#[inline(always)]
+fn noted_receive<T: Payload>(channel: &RingBroadcast<T>, rx: RxId) -> Note
+    ensures { result ≡ noted_receive channel.now rx.0 }
+{
+    if channel.receiver_count() == 1 {
+        Note::Alone
+    } else {
+        Note::Place(channel.place(rx))
+    }
+}
+
 /// What has to be known before a call.
 #[inline(always)]
 pub(crate) fn noted<T: Payload>(channel: &RingBroadcast<T>, call: &BCall<T>) -> Note
@@ -63,8 +77,8 @@ pub(crate) fn noted<T: Payload>(channel: &RingBroadcast<T>, call: &BCall<T>) -> 
 {
     match call {
         BCall::Send(_, _) => Note::Full(is_full(channel)),
-        BCall::TryRecv(rx) => Note::Place(channel.place(*rx)),
-        BCall::Recv(rx) => Note::Place(channel.place(*rx)),
+        BCall::TryRecv(rx) => noted_receive(channel, *rx),
+        BCall::Recv(rx) => noted_receive(channel, *rx),
         BCall::DropRx(_) => Note::Kept(kept(channel)),
         _ => Note::Nothing,
     }
@@ -78,6 +92,7 @@ pub(crate) fn let_go<T: Payload>(channel: &RingBroadcast<T>, note: Note, reply: 
 {
     match (note, reply) {
         (Note::Full(full), BReply::Sent(_)) => { if full { 1 } else { 0 } }
+        (Note::Alone, BReply::Value(_)) => 1,
         (Note::Place(Some(place)), BReply::Value(_)) => gone_at(channel, place),
         (Note::Kept(count), _) => count.saturating_sub(kept(channel)),
         _ => 0,
