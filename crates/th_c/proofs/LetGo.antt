@@ -174,8 +174,13 @@ module _ {T : Type 0} (p : Picture T) (s : IsSound p) where
     there : IsSome (place_of p.window.places rx)
     there = rw here refl
 
-    skipping : i < first_of p.window
-        → Finds p (Place (Some i)) (Lagged (first_of p.window - i), with_window p (placed p.window rx (first_of p.window)))
+    abbrev lagged : BReply T × Picture T
+    lagged = (Lagged (first_of p.window - i), with_window p (placed p.window rx (first_of p.window)))
+
+    abbrev received : BReply T × Picture T
+    received = (value_reply (slice_get p.window.kept (i - p.window.low)), with_window p (placed p.window rx (i + 1)))
+
+    skipping : i < first_of p.window → Finds p (Place (Some i)) lagged
     unfolding placed trimmed
     skipping behind =
         let low = low_of-at p.window.tail p.window.capacity p.window.places rx i here in
@@ -188,16 +193,20 @@ module _ {T : Type 0} (p : Picture T) (s : IsSound p) where
           s.window.kept,
         )
 
-    reading : first_of p.window ≤ i → i < p.window.tail
-        → Finds p (Place (Some i)) (value_reply (slice_get p.window.kept (i - p.window.low)), with_window p (placed p.window rx (i + 1)))
+    -- what is read is there
+    stands : first_of p.window ≤ i → i < p.window.tail → (v : T) × (slice_get p.window.kept (i - p.window.low) ≡ Some v)
+    stands inside before =
+        let low = low_of-at p.window.tail p.window.capacity p.window.places rx i here in
+        slice_get-some p.window.kept (i - p.window.low) (omega (arith, s.window.low, s.window.kept))
+
+    reading : first_of p.window ≤ i → i < p.window.tail → Finds p (Place (Some i)) received
     unfolding placed trimmed
     reading inside before =
         let low = low_of-at p.window.tail p.window.capacity p.window.places rx i here in
         let q = sound-placed p s rx (i + 1) there (omega arith) (omega arith) in
-        let stands = slice_get-some p.window.kept (i - p.window.low) (omega (arith, s.window.low, s.window.kept)) in
         let lost = one-if-gone (placed p.window rx (i + 1)) q.window i before in
         let moved = low-read p.window.tail p.window.capacity i p.window.places rx here inside before in
-        rw stands.1 (omega (arith, lost, moved, q.window.kept, s.window.low, s.window.kept))
+        rw (stands inside before).1 (omega (arith, lost, moved, q.window.kept, s.window.low, s.window.kept))
 
     ending : Finds p (Place (Some i)) (end_reply p.senders, p)
     ending = elim (length p.senders == 0) as (λ b. Finds p (Place (Some i)) (cond b Closed Empty, p)) [
@@ -205,23 +214,25 @@ module _ {T : Type 0} (p : Picture T) (s : IsSound p) where
       | false ↦ omega arith
     ]
 
-    receiving : Finds p (Place (Some i)) (receive p rx i)
-    receiving =
+    in-each-case : (Holds : BReply T × Picture T → Type 0) → Holds (end_reply p.senders, p)
+        → (i < first_of p.window → Holds lagged)
+        → (first_of p.window ≤ i → i < p.window.tail → Holds received)
+        → Holds (receive p rx i)
+    in-each-case Holds ended missed found =
         let behind : Bool = nat_lt i (first_of p.window) in
         let le : i ≤ p.window.tail = all-at (λ q. q ≤ p.window.tail) p.window.places rx i s.window.places here in
-        let lag : BReply T × Picture T =
-        (Lagged (first_of p.window - i), with_window p (placed p.window rx (first_of p.window))) in
-        let get : BReply T × Picture T =
-        (value_reply (slice_get p.window.kept (i - p.window.low)), with_window p (placed p.window rx (i + 1))) in
         elim (i == p.window.tail) as (λ b. (i == p.window.tail) ≡ b
-        → Finds p (Place (Some i)) (cond b (end_reply p.senders, p) (cond behind lag get))) [
-          | true ↦ λ e. ending
+        → Holds (cond b (end_reply p.senders, p) (cond behind lagged received))) [
+          | true ↦ λ e. ended
           | false ↦ λ e. (let apart : i ≡ p.window.tail → ⊥ = grind (arith, nat_tests) in
-              elim behind as (λ b. behind ≡ b → Finds p (Place (Some i)) (cond b lag get)) [
-                | true ↦ λ h. skipping (ltb-true i (first_of p.window) h)
-                | false ↦ λ h. reading (ltb-false i (first_of p.window) h) (omega (arith, apart, le))
+              elim behind as (λ b. behind ≡ b → Holds (cond b lagged received)) [
+                | true ↦ λ h. missed (ltb-true i (first_of p.window) h)
+                | false ↦ λ h. found (ltb-false i (first_of p.window) h) (omega (arith, apart, le))
               ] refl)
         ] refl
+
+    receiving : Finds p (Place (Some i)) (receive p rx i)
+    receiving = in-each-case (Finds p (Place (Some i))) ending skipping reading
 
     -- ---- by an only receiver: what it reads is gone
     read-alone : length p.window.places ≡ 1 → first_of p.window ≤ i → i < p.window.tail → gone_at (placed p.window rx (i + 1)) i ≡ 1
@@ -240,25 +251,13 @@ module _ {T : Type 0} (p : Picture T) (s : IsSound p) where
     abbrev AsPlaced : BReply T × Picture T → Type 0
     AsPlaced a = gone Alone a.0 a.1 ≡ gone (Place (Some i)) a.0 a.1
 
+    ending-alone : AsPlaced (end_reply p.senders, p)
+    ending-alone = elim (length p.senders == 0) as (λ b. AsPlaced (cond b Closed Empty, p)) [ true ↦ refl | false ↦ refl ]
+
     alone-as-placed : length p.window.places ≡ 1 → AsPlaced (receive p rx i)
     alone-as-placed one =
-        let behind : Bool = nat_lt i (first_of p.window) in
-        let le : i ≤ p.window.tail = all-at (λ q. q ≤ p.window.tail) p.window.places rx i s.window.places here in
-        let lag : BReply T × Picture T =
-        (Lagged (first_of p.window - i), with_window p (placed p.window rx (first_of p.window))) in
-        let get : BReply T × Picture T =
-        (value_reply (slice_get p.window.kept (i - p.window.low)), with_window p (placed p.window rx (i + 1))) in
-        elim (i == p.window.tail) as (λ b. (i == p.window.tail) ≡ b → AsPlaced (cond b (end_reply p.senders, p) (cond behind lag get))) [
-          | true ↦ λ e. elim (length p.senders == 0) as (λ b. AsPlaced (cond b Closed Empty, p)) [ true ↦ refl | false ↦ refl ]
-          | false ↦ λ e. (let apart : i ≡ p.window.tail → ⊥ = grind (arith, nat_tests) in
-              elim behind as (λ b. behind ≡ b → AsPlaced (cond b lag get)) [
-                | true ↦ λ h. refl
-                | false ↦ λ h. (let inside = ltb-false i (first_of p.window) h in
-                    let low = low_of-at p.window.tail p.window.capacity p.window.places rx i here in
-                    let stands = slice_get-some p.window.kept (i - p.window.low) (omega (arith, apart, le, inside, low, s.window.low, s.window.kept)) in
-                    rw stands.1 (sym (read-alone one inside (omega (arith, apart, le)))))
-              ] refl)
-        ] refl
+        in-each-case AsPlaced ending-alone (λ behind. refl)
+        (λ inside before. rw (stands inside before).1 (sym (read-alone one inside before)))
 
   receiving-alone : length p.window.places ≡ 1 → (rx : ℕ) (o : Option ℕ) → place_of p.window.places rx ≡ o
       → Finds p Alone (at_place p o (receive p rx))
