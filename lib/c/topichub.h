@@ -76,6 +76,14 @@ extern "C" {
 /* The version of the library that is linked, as TOPICHUB_VERSION_NUMBER is that of the header. */
 uint32_t topichub_version(void);
 
+/* How the library that is linked was built: one of TOPICHUB_BUILD_.. Since 0.1.0. */
+uint32_t topichub_build(void);
+
+#define TOPICHUB_BUILD_GIVEN 0     /* Of an archive that was given by hand: nothing is known of its proof. */
+#define TOPICHUB_BUILD_PROVED 1    /* Of an archive that the toolchain proved: `make`. */
+#define TOPICHUB_BUILD_CHECKED 2   /* Of the same sources with run-time checks, and not proved: `make fast`. */
+#define TOPICHUB_BUILD_UNCHECKED 3 /* Of the same sources with neither, to be measured: `make unchecked`. */
+
 
 /*
  * STATUSES
