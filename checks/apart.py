@@ -19,6 +19,7 @@ TESTS = os.path.join(ROOT, "tests")
 PREFIX = "bench_"  # of the crate that a program becomes
 ENDING = ".in"
 EDITS = ("must-fail", "more-edits")
+PARTS = ("src", "specs", "proofs")  # of a crate, which the prover reads
 
 
 def lines():
@@ -68,6 +69,12 @@ def folder_of(crate):
     """The folder of a crate, or of a program that becomes one."""
     at = os.path.join(PROGRAMS, crate.removeprefix(PREFIX))
     return at if crate.startswith(PREFIX) and os.path.isdir(at) else os.path.join(CRATES, crate)
+
+
+def files_of(crate, parts=PARTS):
+    """The paths of all files below these parts of a crate's folder."""
+    folder = folder_of(crate)
+    return sorted(os.path.join(at, file) for part in parts for at, _, files in os.walk(os.path.join(folder, part)) for file in files)
 
 
 def copy_folder(source, to):
