@@ -3,6 +3,7 @@ import importlib.machinery
 import importlib.util
 import os
 import shutil
+import subprocess
 import sys
 
 sys.dont_write_bytecode = True
@@ -21,6 +22,18 @@ def toolchain():
     except Exception:  # another release may be no Python at all
         return None
     return made if all(hasattr(made, it) for it in USED) and hasattr(made.rtlib.Crate, "build_rlib") else None
+
+
+def version():
+    """The line of `rt version`, or None where no `rt` on the PATH tells one."""
+    found = shutil.which("rt")
+    how = {"stdin": subprocess.DEVNULL, "stdout": subprocess.PIPE, "stderr": subprocess.DEVNULL, "text": True, "errors": "replace"}
+    try:
+        asked = subprocess.run([found, "version"], timeout=10, **how) if found else None
+    except (OSError, subprocess.TimeoutExpired):
+        return None
+    lines = asked.stdout.split("\n") if asked and not asked.returncode else []
+    return lines[0].strip() or None if lines else None
 
 
 def is_refusal(rt, verdict):
