@@ -6,6 +6,7 @@ import contextlib
 import glob
 import os
 import re
+import select
 import socket
 import stat
 import subprocess
@@ -19,6 +20,7 @@ PATIENCE = 20
 LONGEST = 60  # seconds that a server may take
 GROUP = 64  # lines that are carried out together at most
 MANY = 1_000_000  # entries that a trace has at most
+TIMEVAL = 16  # bytes that a limit of time of a socket has, all of them 0 where there is none
 PART = re.compile(r"([a-z0-9_-]{1,32})\.([0-9]{20})\.trace")
 # How many lines are sent before their replies are read.
 AHEAD = 4_096
@@ -427,6 +429,11 @@ def no_folder(folder):
         yield "nor can it be made where a file stands", ended(server)[0] == 1 and not os.path.lexists(path)
 
 
+def are_waiting(listener):
+    """Whether a connection is there that nobody has accepted."""
+    return bool(select.select([listener], [], [], 0)[0])
+
+
 def handed_over(folder):
     path = os.path.join(folder, "handed")
     with socket.socket(socket.AF_UNIX) as listener:
@@ -440,6 +447,11 @@ def handed_over(folder):
                 told = server.first, client.ask(b"LIST"), ended(server)
             yield start, told == ("listening\n", b"OK 0\n", (0, "listening\ndone 1\n", ""))
             yield "it is left at the end, and no lock is made", (os.path.lexists(path), os.path.lexists(path + ".lock")) == (True, False)
+            limits = [listener.getsockopt(socket.SOL_SOCKET, option, TIMEVAL) for option in (socket.SO_RCVTIMEO, socket.SO_SNDTIMEO)]
+            yield "nobody waits there, and it is as it was", (are_waiting(listener), limits) == (False, [bytes(TIMEVAL)] * 2)
+        with contextlib.closing(Client(path, PATIENCE)) as early, standing(path, *handed, **how) as server:
+            told = early.ask(b"LIST"), ended(server)
+        yield "who connects between two starts is served by the next", told == (b"OK 0\n", (0, "listening\ndone 1\n", ""))
         with open(os.devnull) as other, standing(path, "--socket-fd", str(other.fileno()), "--verbose", pass_fds=(other.fileno(),)) as server:
             ends = ended(server)
         yield "a descriptor that is no socket is refused", ends == (

@@ -11,8 +11,6 @@ pub(crate) struct Connections {
     streams: Mutex<Vec<Option<Arc<UnixStream>>>>,
     // Sessions that have begun.
     begun: AtomicU64,
-    // Workers that wait for a connection.
-    accepting: AtomicU64,
     // No further session begins, and who waits does so no longer.
     ending: AtomicBool,
 }
@@ -27,7 +25,6 @@ impl Connections {
         Ok(Connections {
             streams: Mutex::new(streams),
             begun: AtomicU64::new(0),
-            accepting: AtomicU64::new(0),
             ending: AtomicBool::new(false),
         })
     }
@@ -69,20 +66,6 @@ impl Connections {
                 let _ = stream.shutdown(how);
             }
         }
-    }
-
-    /// One worker more waits for a connection, or one less.
-    pub(crate) fn accepts(&self, waits: bool) {
-        if waits {
-            let _ = self.accepting.fetch_add(1, Ordering::SeqCst);
-        } else {
-            let _ = self.accepting.fetch_sub(1, Ordering::SeqCst);
-        }
-    }
-
-    /// Whether a worker waits for a connection.
-    pub(crate) fn is_accepting(&self) -> bool {
-        self.accepting.load(Ordering::SeqCst) > 0
     }
 
     /// No further session begins.

@@ -7,7 +7,7 @@ use crate::socket;
 use crate::socket::{Socket, SocketFault};
 use std::alloc::Global;
 use std::fs::File;
-use std::io::{Eprint, Input, Print, Read};
+use std::io::{Eprint, ErrorKind, Input, Print, Read};
 use std::net::{Net, Shutdown};
 use std::os::unix::net::{UnixListener, UnixStream};
 use std::rt::Files;
@@ -63,27 +63,22 @@ fn attend<R: Wait + Clock + Clone + Eprint>(
     }
 }
 
-// The next connection; none where none could be accepted. One for which there is no memory is a session that had none.
+// The next connection, or why there is none. One for which there is no memory is a session that had none.
 fn accept<R: Eprint>(
     rt: &R,
     alloc: Global,
     listener: &UnixListener,
     connections: &Connections,
-) -> Option<Arc<UnixStream>> {
-    connections.accepts(true);
-    // Whoever ends the server sees that this one waits, or this one sees the end.
-    if connections.is_ending() {
-        connections.accepts(false);
-        return None;
-    }
-    let accepted = listener.accept();
-    connections.accepts(false);
-    let (stream, _) = accepted.ok()?;
-    let kept = Arc::new(alloc, stream);
-    if kept.is_err() {
+) -> Result<Arc<UnixStream>, ErrorKind> {
+    let stream = match listener.accept() {
+        Ok((stream, _)) => stream,
+        Err(e) => return Err(e.kind()),
+    };
+    let Ok(kept) = Arc::new(alloc, stream) else {
         Teller { rt }.ended(connections.begin(), Some(SessionFault::Short));
-    }
-    kept.ok()
+        return Err(ErrorKind::OutOfMemory);
+    };
+    Ok(kept)
 }
 
 // Serves one connection after another at this place, until the server ends.
@@ -99,9 +94,14 @@ fn work<R: Wait + Clock + Clone + Eprint>(
         if connections.is_ending() {
             return;
         }
-        let Some(stream) = accept(rt, alloc, listener, connections) else {
-            sleep(rt, Duration::from_millis(PAUSE));
-            continue;
+        let stream = match accept(rt, alloc, listener, connections) {
+            Ok(stream) => stream,
+            // Nobody came to a socket that was handed over.
+            Err(ErrorKind::WouldBlock) => continue,
+            Err(_) => {
+                sleep(rt, Duration::from_millis(PAUSE));
+                continue;
+            }
         };
         let Ok(theirs) = Arc::try_clone(&stream) else {
             continue;
@@ -128,36 +128,29 @@ fn read_to_end<R: Input + Wait>(rt: &R) {
     }
 }
 
-// Ends all sessions: each one's input, and after a while both its sides. A worker that waits for a connection at a socket that was
-// handed over gets one; where nobody can connect there, that socket ends too.
-fn end_all<R: Wait + Clock + Net>(rt: &R, path: &str, made: &Socket, connections: &Connections) {
+// Ends all sessions: each one's input, and after a while both its sides.
+fn end_all<R: Wait + Clock>(rt: &R, made: &Socket, connections: &Connections) {
     connections.end();
-    made.close_own();
+    made.close();
     connections.shut(rt, Shutdown::Read);
     for _ in 0..LAST {
-        if connections.is_accepting() {
-            let _ = UnixStream::connect(rt, path);
-        } else if !connections.is_any(rt) {
+        if !connections.is_any(rt) {
             return;
         }
         sleep(rt, Duration::from_millis(1));
     }
     connections.shut(rt, Shutdown::Both);
-    if connections.is_accepting() {
-        made.close();
-    }
 }
 
-// Serves at this socket, which stands at the path, and says when clients can connect: by threads of this scope.
+// Serves at this socket, and says when clients can connect: by threads of this scope.
 fn serve_all<
     's,
     E,
-    R: Threads + Wait + Clock + Clone + Send + Sync + Print + Eprint + Store + Net + Input,
+    R: Threads + Wait + Clock + Clone + Send + Sync + Print + Eprint + Store + Input,
 >(
     scope: &Scope<'s, E>,
     rt: &'s R,
     alloc: Global,
-    path: &str,
     made: &'s Socket,
     shared: &'s SharedDesk<R>,
     connections: &'s Connections,
@@ -197,7 +190,7 @@ fn serve_all<
         read_to_end(rt);
     }
     if end != End::Done || how.until_eof {
-        end_all(rt, path, made, connections);
+        end_all(rt, made, connections);
     }
     for worker in workers {
         worker.join(rt);
@@ -213,10 +206,9 @@ fn serve_all<
 }
 
 // The same, once all threads have ended.
-fn serve_at<R: Threads + Wait + Clock + Clone + Send + Sync + Print + Eprint + Store + Net + Input>(
+fn serve_at<R: Threads + Wait + Clock + Clone + Send + Sync + Print + Eprint + Store + Input>(
     rt: &R,
     alloc: Global,
-    path: &str,
     made: &Socket,
     shared: &SharedDesk<R>,
     connections: &Connections,
@@ -224,25 +216,14 @@ fn serve_at<R: Threads + Wait + Clock + Clone + Send + Sync + Print + Eprint + S
     how: &Standing,
 ) -> End {
     thread::scope(thread::scope_env(), rt, |scope| {
-        serve_all(
-            scope,
-            rt,
-            alloc,
-            path,
-            made,
-            shared,
-            connections,
-            keeper,
-            how,
-        )
+        serve_all(scope, rt, alloc, made, shared, connections, keeper, how)
     })
 }
 
-// Serves at this socket, which stands at the path: how many sessions began, once the server was ended; or what else ended it.
-fn serve_on<R: Threads + Wait + Clock + Clone + Send + Sync + Print + Eprint + Store + Net + Input>(
+// Serves at this socket: how many sessions began, once the server was ended; or what else ended it.
+fn serve_on<R: Threads + Wait + Clock + Clone + Send + Sync + Print + Eprint + Store + Input>(
     rt: &R,
     alloc: Global,
-    path: &str,
     made: &Socket,
     folder: Option<&str>,
     how: &Standing,
@@ -260,7 +241,7 @@ fn serve_on<R: Threads + Wait + Clock + Clone + Send + Sync + Print + Eprint + S
         return Err(End::Short);
     };
     let keeper = Keeper::new(folder);
-    let end = serve_at(rt, alloc, path, made, &desk, &connections, &keeper, how);
+    let end = serve_at(rt, alloc, made, &desk, &connections, &keeper, how);
     keeper.keep_last(rt, alloc, desk);
     match end {
         End::Done => Ok(connections.begun()),
@@ -292,11 +273,11 @@ pub(crate) fn keep_serving<
     let (end, fault) = match folder(rt, alloc, traces) {
         Ok(folder) => {
             let folder = folder.as_ref().map(|name| name.as_str());
-            (serve_on(rt, alloc, path, &made, folder, how), None)
+            (serve_on(rt, alloc, &made, folder, how), None)
         }
         Err(()) => (Err(End::Write), Some(SocketFault::Traces)),
     };
-    made.remove(rt, path);
+    made.leave(rt, path);
     match end {
         Ok(begun) if println!(rt; "done {begun}").is_err() => (End::Write, None),
         Ok(_) => (End::Done, None),

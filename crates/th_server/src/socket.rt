@@ -2,7 +2,6 @@
 use os::FromRawFd;
 use std::alloc::Global;
 use std::fmt::Display;
-use std::fs;
 use std::fs::{File, Permissions};
 use std::io::ErrorKind;
 use std::net::{Net, Shutdown};
@@ -10,8 +9,14 @@ use std::os::fd::OwnedFd;
 use std::os::unix::fs::{FileTypeExt, PermissionsExt};
 use std::os::unix::net::{UnixListener, UnixStream};
 use std::rt::Files;
+use std::time::Duration;
+use std::{fs, io};
 use th_program::Standing;
 use thiserror::Error;
+
+// How long a worker waits for a connection at a socket that was handed over before it looks whether the server ends, in seconds. Only a
+// connection could wake it sooner, and one that this server made would be left to the next one wherever a client came first.
+const TURN: u64 = 1;
 
 /// Nobody but the user who serves may connect.
 pub(crate) const MODE: u32 = 0o600;
@@ -58,25 +63,27 @@ pub(crate) struct Socket {
 }
 
 impl Socket {
-    /// Nobody gets a connection any more: whoever waits for one is woken, and so is whoever waits to be accepted. It needs nothing at
-    /// the path.
+    // The listener as a stream, which has the calls that a listener has not.
+    fn as_stream(&self) -> io::Result<UnixStream> {
+        Ok(UnixStream::from(OwnedFd::from(self.listener.try_clone()?)))
+    }
+
+    /// Nobody gets a connection any more at a socket that was made here: whoever waits for one is woken, and so is whoever waits to be
+    /// accepted. One that was handed over goes on without this server: who waits there sees within a `TURN` that the server ends.
     pub(crate) fn close(&self) {
-        if let Ok(own) = self.listener.try_clone() {
-            let _ = UnixStream::from(OwnedFd::from(own)).shutdown(Shutdown::Both);
-        }
-    }
-
-    /// The same, where the socket was made here: one that was handed over goes on without this server.
-    pub(crate) fn close_own(&self) {
         if self.lock.is_some() {
-            self.close();
+            if let Ok(stream) = self.as_stream() {
+                let _ = stream.shutdown(Shutdown::Both);
+            }
         }
     }
 
-    /// Removes the socket at the path, if it was made here.
-    pub(crate) fn remove<R: Files>(self, rt: &R, path: &str) {
+    /// Removes the socket at the path if it was made here, and leaves one that was handed over as it was.
+    pub(crate) fn leave<R: Files>(self, rt: &R, path: &str) {
         if self.lock.is_some() {
             let _ = fs::remove_file(rt, path);
+        } else if let Ok(stream) = self.as_stream() {
+            let _ = stream.set_read_timeout(None);
         }
     }
 }
@@ -169,13 +176,17 @@ fn inherited<R: Files>(rt: &R, path: &str, descriptor: u64) -> Result<Socket, So
     };
     // Whoever started the server says that this is a socket that listens, and gives it up to the server.
     let listener = unsafe { UnixListener::from_raw_fd(descriptor) };
-    if listener.local_addr().is_err() {
-        return Err(SocketFault::NotHanded);
-    }
-    Ok(Socket {
+    let handed = Socket {
         listener,
         lock: None,
-    })
+    };
+    match handed.as_stream() {
+        Ok(stream)
+            if stream
+                .set_read_timeout(Some(Duration::from_secs(TURN)))
+                .is_ok() => Ok(handed),
+        _ => Err(SocketFault::NotHanded),
+    }
 }
 
 /// The socket of a server that is to run so: the one that was handed over, or one that is made at the path.
