@@ -114,3 +114,39 @@ pub fn check(trace: &[u8]) -> Verdict {
 pub fn library_version() -> u32 {
     library::version()
 }
+
+/// How the library that is linked was built.
+///
+/// It is a claim of who built it: a library cannot know whether it was proved.
+#[derive(Clone, Copy, Debug, PartialEq, Eq)]
+#[non_exhaustive]
+pub enum Build {
+    /// Of an archive that was given by hand: nothing is known of its proof.
+    Given,
+    /// Of an archive that the toolchain proved: `make`.
+    Proved,
+    /// Of the same sources with run-time checks, and not proved: `make fast`.
+    Checked,
+    /// Of the same sources with neither, to be measured: `make unchecked`.
+    Unchecked,
+}
+
+impl fmt::Display for Build {
+    fn fmt(&self, to: &mut fmt::Formatter<'_>) -> fmt::Result {
+        to.write_str(match self {
+            Self::Given => "of an archive that was given by hand",
+            Self::Proved => "proved",
+            Self::Checked => "with run-time checks, and not proved",
+            Self::Unchecked => "neither proved nor with run-time checks",
+        })
+    }
+}
+
+/// How the library that is linked was built: the channels are proved where it is [`Build::Proved`].
+///
+/// ```
+/// println!("libtopichub is {}", topichub::library_build());
+/// ```
+pub fn library_build() -> Build {
+    library::build()
+}

@@ -75,12 +75,13 @@ fn of_the_crate(text: &str) -> BTreeMap<String, Signature> {
     declared.collect()
 }
 
-/// The lines `NAME = NUMBER` of a text, without what stands before the name.
+/// The lines `NAME = NUMBER` or `NAME NUMBER` of a text, without what stands before the name.
 fn numbers<'a>(text: &'a str, before: &str) -> BTreeMap<&'a str, u32> {
     let lines = text.lines().filter_map(|line| {
-        let (name, value) = line.trim().strip_prefix(before)?.split_once('=')?;
+        let (name, rest) = line.trim().strip_prefix(before)?.split_once(' ')?;
+        let value = rest.split_once('=').map_or(rest, |(_, value)| value);
         let digits = value.trim().split(|it: char| !it.is_ascii_digit()).next()?;
-        Some((name.split(':').next()?.trim(), digits.parse().ok()?))
+        Some((name.trim_end_matches(':'), digits.parse().ok()?))
     });
     lines.collect()
 }
@@ -96,11 +97,11 @@ fn each_declaration_is_that_of_the_header() {
     for (name, signature) in &crate_has {
         assert_eq!(header_has.get(name), Some(signature), "{name}");
     }
-    let (in_header, here) = (
-        numbers(&header, "TOPICHUB_"),
-        numbers(&source, "pub(crate) const "),
-    );
+    let mut in_header = numbers(&header, "TOPICHUB_");
+    in_header.extend(numbers(&header, "#define TOPICHUB_"));
+    let here = numbers(&source, "pub(crate) const ");
     assert!(here.len() > 20, "{here:?}");
+    assert!(here.contains_key("BUILD_PROVED"), "{here:?}");
     for (name, value) in &here {
         assert_eq!(in_header.get(name), Some(value), "{name}");
     }

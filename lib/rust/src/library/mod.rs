@@ -6,7 +6,7 @@ mod sys;
 
 pub(crate) use sys::{status, Reply};
 
-use crate::{BuildError, Verdict};
+use crate::{Build, BuildError, Verdict};
 
 /// Room for whole lines: a trace has none that is longer.
 const PIECE: usize = 4_096;
@@ -174,6 +174,17 @@ pub(crate) fn check(text: &[u8]) -> Verdict {
 pub(crate) fn version() -> u32 {
     // SAFETY: it takes nothing.
     unsafe { sys::topichub_version() }
+}
+
+pub(crate) fn build() -> Build {
+    // SAFETY: it takes nothing.
+    match unsafe { sys::topichub_build() } {
+        sys::BUILD_PROVED => Build::Proved,
+        sys::BUILD_CHECKED => Build::Checked,
+        sys::BUILD_UNCHECKED => Build::Unchecked,
+        // That of a given archive, or one that a later version may have: nothing is known of it.
+        _ => Build::Given,
+    }
 }
 
 fn built(made: u32) -> Result<(), BuildError> {

@@ -67,8 +67,14 @@ pub(crate) mod status {
     pub(crate) const BAD_TRACE: u32 = 31;
 }
 
+// How the library was built. BUILD_GIVEN, which is 0, tells nothing of it.
+pub(crate) const BUILD_PROVED: u32 = 1;
+pub(crate) const BUILD_CHECKED: u32 = 2;
+pub(crate) const BUILD_UNCHECKED: u32 = 3;
+
 extern "C" {
     pub(crate) fn topichub_version() -> u32;
+    pub(crate) fn topichub_build() -> u32;
 
     pub(crate) fn topichub_broadcast_new(channel: *mut Broadcast, capacity: u64, base: u64) -> u32;
     pub(crate) fn topichub_broadcast_new_recorded(
