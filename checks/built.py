@@ -28,6 +28,7 @@ name = "{name}"
 path = "{source}"
 """
 CRATE = os.path.join(ROOT, "lib", "rust")
+HEADER = os.path.join(ROOT, "lib", "c", "topichub.h")
 ARCHIVE = os.path.join(ROOT, "crates", "th_c", "out", "libth_c.a")
 
 

@@ -1,54 +1,151 @@
-//! Links `libtopichub`: from the folder that `TOPICHUB_LIB_DIR` names, or where `pkg-config` knows
-//! of one, or from `lib/c/build` of the repository that this crate stands in.
+//! Finds `libtopichub` and has it linked: from the folder that `TOPICHUB_LIB_DIR` names, if it names
+//! one, else from the first of these that has it:
+//!
+//! - `native` beside this file, where the released crate carries it;
+//! - the folder that `pkg-config` tells;
+//! - `../c/build`, where `make -C lib/c` of the repository puts the proved one;
+//! - `../c/build/fast`, where `make -C lib/c fast` puts one that is not proved.
+//!
+//! Where there is none this script succeeds too, since `cargo check`, `clippy` and `doc` take none. It
+//! then asks for a library whose name says what to do, and rustc prints the name when it links and finds
+//! no such library. A warning would be shown to those alone who have this crate as a folder.
+//!
+//! Cargo runs this script again when what it watches has changed. A path that is not there counts as
+//! changed each time, and all that stands on this crate is compiled again. So for a library that is
+//! not there yet, a folder above it is watched.
 use std::env;
 use std::path::{Path, PathBuf};
 use std::process::Command;
 
 const NAME: &str = "topichub";
+const HOW: &str =
+    ", which make -C lib/c fast makes in a clone (docs/INSTALL.md has the other ways)";
+const VARIABLES: [&str; 4] = [
+    "TOPICHUB_LIB_DIR",
+    "PKG_CONFIG",
+    "PKG_CONFIG_PATH",
+    "PKG_CONFIG_LIBDIR",
+];
 
-/// Links the library in this folder: the archive, if it is there.
-fn link_from(folder: &Path) {
-    let kind = if folder.join("libtopichub.a").exists() {
-        "static"
-    } else {
-        "dylib"
-    };
-    println!("cargo:rustc-link-search=native={}", folder.display());
-    println!("cargo:rustc-link-lib={kind}={NAME}");
+/// How a library is linked, and its file.
+type Library = (&'static str, PathBuf);
+
+fn watch(path: &Path) {
+    println!("cargo:rerun-if-changed={}", path.display());
 }
 
-/// The folder of the repository's own library, where it is built.
-fn beside() -> Option<PathBuf> {
-    let folder = Path::new(&env::var_os("CARGO_MANIFEST_DIR")?)
-        .parent()?
-        .join("c")
-        .join("build");
-    println!(
-        "cargo:rerun-if-changed={}",
-        folder.join("libtopichub.a").display()
-    );
-    folder.join("libtopichub.a").exists().then_some(folder)
+/// Watches the folder, or the lowest one above it that is there, but none above `top`.
+fn watch_folder(folder: &Path, top: &Path) {
+    let mut above = folder.ancestors().take_while(|it| it.starts_with(top));
+    if let Some(there) = above.find(|it| it.is_dir()) {
+        watch(there);
+    }
 }
 
-/// Where the library stands that `pkg-config` knows.
-fn installed() -> Option<PathBuf> {
+/// The library in this folder: the archive, else the shared one.
+fn library_in(folder: &Path) -> Option<Library> {
+    [("static", "a"), ("dylib", "so")]
+        .into_iter()
+        .map(|(kind, ending)| (kind, folder.join(format!("lib{NAME}.{ending}"))))
+        .find(|(_, file)| file.is_file())
+}
+
+/// The library in this folder, which is watched; where there is none yet, the folder is.
+fn look(folder: &Path, top: &Path) -> Option<Library> {
+    let found = library_in(folder);
+    match &found {
+        Some((_, file)) => watch(file),
+        None => watch_folder(folder, top),
+    }
+    found
+}
+
+/// The library in the folder that is named: from where Cargo was called, else from this crate's own
+/// folder. While there is none, this script is run each time. A folder that is made later where Cargo
+/// was called is not noticed while the other has a library.
+fn named(folder: &Path, here: &Path) -> Option<Library> {
+    if folder.is_relative() {
+        println!("cargo:rerun-if-env-changed=PWD");
+    }
+    let called = env::var_os("PWD").map(|it| Path::new(&it).join(folder));
+    let found = called.and_then(|it| look(&it, &it));
+    found.or_else(|| {
+        let own = here.join(folder);
+        let found = library_in(&own);
+        watch(found.as_ref().map_or(&own.join(NAME), |(_, file)| file));
+        found
+    })
+}
+
+/// A variable of a package, as `pkg-config` tells it.
+fn told(variable: &str, package: &str) -> Option<String> {
     let program = env::var_os("PKG_CONFIG").unwrap_or_else(|| "pkg-config".into());
     let asked = Command::new(program)
-        .args(["--variable=libdir", NAME])
+        .args([&format!("--variable={variable}"), package])
         .output()
         .ok()?;
-    let folder = String::from_utf8(asked.stdout).ok()?;
-    (asked.status.success() && !folder.trim().is_empty()).then(|| PathBuf::from(folder.trim()))
+    let text = String::from_utf8(asked.stdout).ok()?;
+    (asked.status.success() && !text.trim().is_empty()).then(|| text.trim().to_string())
+}
+
+/// The library that `pkg-config` knows. Where it looks is watched: the first `make install` of a
+/// machine may make such a folder in `/usr/local`.
+fn installed() -> Option<Library> {
+    let own = || told("pc_path", "pkg-config").map(Into::into);
+    let paths = [
+        env::var_os("PKG_CONFIG_PATH"),
+        env::var_os("PKG_CONFIG_LIBDIR").or_else(own),
+    ];
+    for folder in paths.iter().flatten().flat_map(env::split_paths) {
+        let is_local = folder.starts_with("/usr/local");
+        let above = folder.parent().filter(|_| is_local);
+        watch_folder(&folder, above.unwrap_or(&folder));
+    }
+    let found = library_in(Path::new(&told("libdir", NAME)?))?;
+    watch(&found.1);
+    Some(found)
+}
+
+/// The library that was built in the repository, if this crate stands in it.
+fn built(c: &Path) -> Option<Library> {
+    if !c.join("topichub.h").is_file() {
+        return None;
+    }
+    ["build", "build/fast"]
+        .iter()
+        .find_map(|it| look(&c.join(it), c))
+}
+
+/// Asks for a library that is nowhere, by what to say of it. A colon would end its name.
+fn miss(what: &str) {
+    let what = what.replace([':', '\n'], " ");
+    println!("cargo:rustc-link-lib=static={NAME}{what}");
 }
 
 fn main() {
-    for variable in ["TOPICHUB_LIB_DIR", "PKG_CONFIG", "PKG_CONFIG_PATH"] {
+    for variable in VARIABLES {
         println!("cargo:rerun-if-env-changed={variable}");
     }
-    println!("cargo:rerun-if-changed=build.rs");
-    let named = env::var_os("TOPICHUB_LIB_DIR").map(PathBuf::from);
-    match named.or_else(installed).or_else(beside) {
-        Some(folder) => link_from(&folder),
-        None => panic!("there is no libtopichub: name its folder in TOPICHUB_LIB_DIR, install it, or build it in lib/c"),
+    watch(Path::new("build.rs"));
+    let here = PathBuf::from(env::var_os("CARGO_MANIFEST_DIR").unwrap_or_default());
+    let own = here.join("native");
+    let name = env::var_os(VARIABLES[0]).filter(|it| !it.is_empty());
+    let found = match &name {
+        Some(folder) => named(Path::new(folder), &here),
+        None => look(&own, &own)
+            .or_else(installed)
+            .or_else(|| built(&here.with_file_name("c"))),
+    };
+    match (found, name) {
+        (Some((kind, file)), _) => {
+            let folder = file.parent().unwrap_or(&file).display();
+            println!("cargo:rustc-link-search=native={folder}");
+            println!("cargo:rustc-link-lib={kind}={NAME}");
+        }
+        (None, Some(folder)) => {
+            let folder = Path::new(&folder).display();
+            miss(&format!(" in {folder}, which TOPICHUB_LIB_DIR names"));
+        }
+        (None, None) => miss(HOW),
     }
 }
