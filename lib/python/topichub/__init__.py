@@ -4,7 +4,7 @@
 the library `libtopichub`: which reply each call gets, and what it leaves. This package adds the lock, the payloads and the
 waits, which are only tested. `Client` and `AsyncClient` take nothing but Python.
 """
-from ._library import check, version
+from ._library import build, check, version
 from .answers import (ChannelError, Closed, Empty, Lagged, NoReceivers, ProtocolError, Refused, Shown, TooMany, Verdict)
 from .broadcast import Broadcast, Receiver
 from .client import AsyncClient, Client
@@ -12,4 +12,4 @@ from .watch import Watch, WatchReceiver
 
 __version__ = "0.1.0"
 __all__ = ["AsyncClient", "Broadcast", "ChannelError", "Client", "Closed", "Empty", "Lagged", "NoReceivers", "ProtocolError",
-           "Receiver", "Refused", "Shown", "TooMany", "Verdict", "Watch", "WatchReceiver", "check", "version"]
+           "Receiver", "Refused", "Shown", "TooMany", "Verdict", "Watch", "WatchReceiver", "build", "check", "version"]

@@ -11,8 +11,9 @@ from .answers import Verdict
 
 SONAME = "libtopichub.so.0"
 _HERE = os.path.dirname(os.path.abspath(__file__))
-# Beside this package, where it is packaged with it, and in the repository that it stands in.
-_PLACES = (os.path.join(_HERE, "libtopichub.so"), os.path.join(_HERE, "..", "..", "c", "build", "libtopichub.so"))
+_C = os.path.join(_HERE, "..", "..", "c", "build")
+# Beside this package, where it is packaged with it, and in the repository that it stands in: the proved one first.
+_PLACES = tuple(os.path.join(it, "libtopichub.so") for it in (_HERE, _C, os.path.join(_C, "fast")))
 _PIECE = 4_096
 
 # What each call takes besides its channel.
@@ -58,6 +59,15 @@ class Status(enum.IntEnum):
     BAD_TRACE = 31
 
 
+class Build(enum.IntEnum):
+    """How a library was built: a `TOPICHUB_BUILD_..`."""
+
+    GIVEN = 0
+    PROVED = 1
+    CHECKED = 2
+    UNCHECKED = 3
+
+
 class Reply(ctypes.Structure):
     """A `topichub_reply`."""
 
@@ -100,11 +110,13 @@ def _declare(library: ctypes.CDLL) -> None:
 @functools.lru_cache(maxsize=None)
 def library() -> ctypes.CDLL:
     """The shared library: what `TOPICHUB_LIBRARY` names, else one beside this package, else the one that is installed."""
-    found = os.environ.get("TOPICHUB_LIBRARY") or next((place for place in _PLACES if os.path.exists(place)), SONAME)
+    named = os.environ.get("TOPICHUB_LIBRARY")
+    found = named or next((place for place in _PLACES if os.path.exists(place)), SONAME)
     try:
         loaded = ctypes.CDLL(found)
     except OSError as fault:
-        raise ImportError(f"there is no libtopichub ({fault}): install it, or name its file in TOPICHUB_LIBRARY") from fault
+        how = "TOPICHUB_LIBRARY names it" if named else "type `make -C lib/c fast` in a clone, or install it (docs/INSTALL.md)"
+        raise ImportError(f"there is no libtopichub ({fault}): {how}") from fault
     _declare(loaded)
     return loaded
 
@@ -140,3 +152,14 @@ def version() -> str:
     """The version of the library that is loaded."""
     number = library().topichub_version()
     return f"{number // 1_000_000}.{number // 1_000 % 1_000}.{number % 1_000}"
+
+
+def build() -> str:
+    """How the library that is loaded was built: "proved"; "checked", which is compiled with run-time checks and not proved;
+    "unchecked", which is neither; or "given", where nothing is known of its proof. It is what its builder says."""
+    loaded = library()
+    try:
+        number = loaded.topichub_build()
+    except AttributeError as fault:
+        raise ImportError(f"{loaded._name} is of an older build, which cannot tell how it was built") from fault
+    return next((it.name.lower() for it in Build if it == number), "given")
