@@ -1,4 +1,6 @@
 """Other programs that the scripts build: in plain Rust, and in Rust on Tokio."""
+import ctypes
+import functools
 import glob
 import os
 import shutil
@@ -28,8 +30,13 @@ name = "{name}"
 path = "{source}"
 """
 CRATE = os.path.join(ROOT, "lib", "rust")
-HEADER = os.path.join(ROOT, "lib", "c", "topichub.h")
+C = os.path.join(ROOT, "lib", "c")
+HEADER = os.path.join(C, "topichub.h")
 ARCHIVE = os.path.join(ROOT, "crates", "th_c", "out", "libth_c.a")
+FAST = os.path.join(C, "build", "fast")  # where `make fast` puts what it makes
+# What a library is that answers these numbers, the TOPICHUB_BUILD_.. of the header.
+KINDS = {0: "made of an archive that was given by hand", 1: "proved", 2: "compiled with run-time checks, not proved",
+         3: "neither proved nor checked"}
 
 
 def need_tool(tool, what):
@@ -62,18 +69,47 @@ def archive():
         status = crate.build_static(["--jobs", str(os.cpu_count() or 1)])
         del held
         crate.out.seek(0)
+        if not status:
+            os.utime(ARCHIVE)  # as lib/c does it: one that was kept may be older than sources that were only written again
         return crate.out.read()[-2000:] if status else ""
 
 
-def library(folder):
+def is_proved():
+    """Whether the archive of th_c is here, and not older than the sources of th_c and of the crates below it. It is proved then."""
+    question = ["make", "--quiet", "--question", "-C", C, os.path.realpath(ARCHIVE)]
+    return os.path.isfile(ARCHIVE) and bool(shutil.which("make")) and subprocess.run(question).returncode == 0
+
+
+@functools.cache
+def proved_library(folder):
     """A folder with libtopichub.a and libtopichub.so: what TOPICHUB_LIB_DIR names, or one in this folder, where lib/c makes them of
-    the archive of th_c. None where that archive is not built."""
+    the proved archive of th_c. None where that is not here."""
     named = os.environ.get("TOPICHUB_LIB_DIR")
-    if named or not os.path.exists(ARCHIVE):
-        return named
+    if named or not is_proved():
+        return named and os.path.abspath(named)
     made = os.path.join(folder, "libtopichub")
-    subprocess.run(["make", "--quiet", "-C", os.path.join(ROOT, "lib", "c"), "BUILD=" + made], check=True, stdout=sys.stderr)
+    subprocess.run(["make", "--quiet", "-C", C, "BUILD=" + made], check=True, stdout=sys.stderr)
     return made
+
+
+@functools.cache
+def library(folder):
+    """Such a folder: that of `proved_library`, else the one in which `make fast` keeps what it has compiled without proofs. None where
+    that cannot be made."""
+    return proved_library(folder) or fast_library()
+
+
+def fast_library():
+    made = shutil.which("make") and subprocess.run(["make", "--quiet", "-C", C, "fast"], stdout=sys.stderr).returncode == 0
+    return FAST if made else None
+
+
+def kind(library):
+    """What the library in a folder says how it was built."""
+    try:
+        return KINDS[ctypes.CDLL(os.path.join(library, "libtopichub.so")).topichub_build()]
+    except (OSError, AttributeError, KeyError):
+        return "of an unknown kind"
 
 
 def c_program(name, library, folder):
