@@ -1,8 +1,9 @@
 """Broadcast and watch channels whose every reply is proved, and clients of `topichub serve`.
 
 `Broadcast` and `Watch` are channels of this process, for threads and for tasks of asyncio. What is proved is their state, in
-the library `libtopichub`: which reply each call gets, and what it leaves. This package adds the lock, the payloads and the
-waits, which are only tested. `Client` and `AsyncClient` take nothing but Python.
+the library `libtopichub`: which reply each call gets, and what it leaves; `build` tells whether the library that is loaded was
+proved. This package adds the lock, the payloads and the waits, which are only tested. `Client` and `AsyncClient` take nothing but
+Python.
 """
 from ._library import build, check, version
 from .answers import (ChannelError, Closed, Empty, Lagged, NoReceivers, ProtocolError, Refused, Shown, TooMany, Verdict)

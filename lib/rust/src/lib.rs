@@ -25,9 +25,10 @@
 //! # What is proved
 //!
 //! The channel's state stands in the library `libtopichub`. It is proved of its code that each call
-//! gets the reply that the rules give and leaves the state that they give. Not proved, and only
-//! tested, is what this crate adds: the lock round each call, the payloads (the library holds
-//! numbers that stand for them), the wakers, and the declarations of the C functions.
+//! gets the reply that the rules give and leaves the state that they give. [`library_build`] tells
+//! whether the library that is linked was proved. Not proved, and only tested, is what this crate
+//! adds: the lock round each call, the payloads (the library holds numbers that stand for them), the
+//! wakers, and the declarations of the C functions.
 //!
 //! # Recording
 //!
