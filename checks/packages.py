@@ -1,6 +1,7 @@
 """What the scripts that try the package have in common: what is made, for which Debian, and how it is told."""
 import contextlib
 import os
+import shutil
 import subprocess
 
 from program import ROOT, program
@@ -36,14 +37,25 @@ class Tally:
         return 1 if self.failed else 0
 
 
-def made(script, folder):
+def made(script, folder, *words, **how):
     """The files that a script of packaging/ makes of the program in a folder, by their names."""
     environment = {name: value for name, value in os.environ.items() if name not in ("DEBFULLNAME", "DEBEMAIL")}
-    ran = subprocess.run([os.path.join(ROOT, "packaging", script), "--program", program(), folder], env=environment,
-                         stdin=subprocess.DEVNULL, capture_output=True, text=True, timeout=PATIENCE)
+    how["env"] = {**environment, **how.get("env", {})}
+    ran = subprocess.run([os.path.join(ROOT, "packaging", script), "--program", program(), *words, folder],
+                         stdin=subprocess.DEVNULL, capture_output=True, text=True, timeout=PATIENCE, **how)
     if ran.returncode:
         raise SystemExit(f"packaging/{script} ended with the status {ran.returncode}:\n{ran.stderr}")
     return ran.stdout.split("\n")[:-1]
+
+
+def lintian(tally, package):
+    """What lintian says of a package of Debian."""
+    name = os.path.basename(package).partition("_")[0]
+    if not shutil.which("lintian"):
+        return tally.leave_out(f"what lintian says of {name}", "lintian is not installed")
+    words = ["lintian", *(["--allow-root"] if os.geteuid() == 0 else []), package]
+    ran = subprocess.run(words, stdout=subprocess.PIPE, text=True, timeout=PATIENCE)
+    return tally.tell(f"lintian has nothing to say of {name}", not ran.stdout and not ran.returncode, ran.stdout)
 
 
 def suite():

@@ -3,10 +3,12 @@
 It has what the C library, a shell and the basic commands need, copied from the packages of the machine; or it is a whole
 Debian, which `debootstrap` fetches. It takes root's rights, or those that `unshare --map-root-user` gives.
 """
+import contextlib
 import os
 import re
 import shutil
 import subprocess
+import tempfile
 
 PACKAGES = ("libc6", "dash", "coreutils")
 # Not needed to run anything, and large.
@@ -110,4 +112,22 @@ class Root:
         for at, folders, files in os.walk(self.folder):
             found |= {os.path.join(at, name) for name in folders + files}
         own = self.path("var/lib/dpkg/")
-        return {it for it in found if not it.startswith(own) or "/info/topichub" in it}
+        return {it for it in found if not it.startswith(own) or "/info/topichub" in it or "/info/libtopichub" in it}
+
+
+@contextlib.contextmanager
+def new_root(suite, *packages):
+    """A root in a folder that goes again; made as root, it may have files that only root can remove. It is a copy of the machine's own,
+    or a whole Debian of the suite that is named, with these packages besides."""
+    folder = tempfile.mkdtemp(prefix="package-")
+    try:
+        root = Root(folder)
+        if suite:
+            ran = root.fetch_debian(suite, *packages)
+            if ran.returncode:
+                raise SystemExit(f"debootstrap ended with the status {ran.returncode}:\n{ran.stdout.decode()}{ran.stderr.decode()}")
+        else:
+            root.copy_machine()
+        yield root
+    finally:
+        run("rm", "-rf", "--one-file-system", folder)

@@ -1,4 +1,4 @@
-# What packaging/deb and packaging/tarball have in common; they read it, and set here, root and room.
+# What the scripts of packaging/ have in common; they read it, and set here, root and room.
 # shellcheck shell=sh disable=SC2034,SC2154
 
 say() {
@@ -29,64 +29,152 @@ print_help() {
     awk 'NR > 1 { if (!/^#/) exit; sub(/^# ?/, ""); print }' "$0"
 }
 
-# Reads the words of the command line into given (a program, or nothing) and folder.
+# read_words FOLDER OPTIONS WORDS..: reads the words of the command line into folder, which is FOLDER if none is named, and, by
+# those options that the script takes, into given_program, given_library, only_program and gate (each a word, or nothing).
 read_words() {
-    given='' folder=''
+    folder=$1 options=" $2 "
+    shift 2
+    given_program='' given_library='' only_program='' gate='' named=''
     while [ $# -gt 0 ]; do
         case $1 in
             -h | --help)
                 print_help
                 exit 0
                 ;;
-            --program)
-                [ -n "${2-}" ] || wrong_words '--program wants a file'
-                given=$2
-                shift
+            -*)
+                case $options in
+                    *" $1 "*) ;;
+                    *) wrong_words "there is no option $1" ;;
+                esac
+                if [ "$1" != --only-program ]; then
+                    [ -n "${2-}" ] || wrong_words "$1 wants a file or a folder"
+                    word=$2
+                fi
+                case $1 in
+                    --program) given_program=$word ;;
+                    --library) given_library=$word ;;
+                    --gate) gate=$word ;;
+                    --only-program) only_program=yes ;;
+                esac
+                [ "$1" = --only-program ] || shift
                 ;;
-            -*) wrong_words "there is no option $1" ;;
             '') wrong_words 'a folder has a name' ;;
             *)
-                [ -z "$folder" ] || wrong_words "one folder is enough, and $1 is a second"
-                folder=$1
+                [ -z "$named" ] || wrong_words "one folder is enough, and $1 is a second"
+                named=$1
                 ;;
         esac
         shift
     done
-    folder=${folder:-$here/out}
+    folder=${named:-$folder}
+}
+
+# strip_of KIND FILE: takes away what nobody needs who runs the file or links with it (KIND: --strip-unneeded, --strip-debug).
+strip_of() {
+    strip "$1" --enable-deterministic-archives --remove-section=.comment --remove-section=.note "$2"
 }
 
 # Puts the program into the room, without the names of its functions, as topichub.
 take_program() {
-    if [ -n "$given" ]; then
-        if [ ! -f "$given" ] || [ ! -x "$given" ]; then fail "$given is no program"; fi
-        cp -- "$given" "$room/topichub"
-        say "$given is packaged as it was given: nothing is said of its proof"
+    if [ -n "$given_program" ]; then
+        if [ ! -f "$given_program" ] || [ ! -x "$given_program" ]; then fail "$given_program is no program"; fi
+        cp -- "$given_program" "$room/topichub"
+        say "$given_program is packaged as it was given: nothing is said of its proof"
     else
         "$root/run" --install "$room"
     fi
     chmod 755 "$room/topichub"
-    strip --strip-unneeded --remove-section=.comment --remove-section=.note "$room/topichub"
+    strip_of --strip-unneeded "$room/topichub"
 }
 
-# Sets version, which the program alone knows; epoch, the second of the last commit; and architecture.
-# As long as CHANGELOG.md dates no such version, what is built comes before it: 0.1.0~20260131.1200. And a program that was
-# given is told by the version: 0.1.0~given.
-take_facts() {
-    version=$("$room/topichub" --version) || fail 'the program does not tell its version'
-    version=${version#topichub }
-    case $version in
-        '' | *[!0-9.]*) fail "the program tells its version as $version" ;;
+# Puts libtopichub.a and the shared library into the room. Sets soname, libtopichub.so.0.
+take_library() {
+    from=$given_library
+    if [ -n "$from" ]; then
+        [ -d "$from" ] || fail "$from is no folder"
+        say "the library in $from is packaged as it was given: nothing is said of its proof"
+    else
+        need make make
+        make --no-print-directory -C "$root/lib/c" KIND=proved >&2
+        from=$root/lib/c/build
+    fi
+    soname=$(cd -- "$from" && find . -maxdepth 1 -name 'libtopichub.so.[0-9]*' -printf '%f\n')
+    for file in libtopichub.a "${soname:-libtopichub.so.0}"; do
+        [ -f "$from/$file" ] || fail "$from has no file $file"
+        cp -- "$from/$file" "$room/$file"
+        chmod 644 "$room/$file"
+    done
+    strip_of --strip-debug "$room/libtopichub.a"
+    strip_of --strip-unneeded "$room/$soname"
+    readelf -dW "$room/$soname" | grep -qF "soname: [$soname]" || fail "$soname has another soname"
+}
+
+# The libraries that a program or a library needs, by their sonames.
+needed_by() {
+    readelf -dW "$1" | sed -n 's/.*(NEEDED).*\[\(.*\)\]/\1/p'
+}
+
+# The oldest C library that has all that a program or a library takes of it: 2.34.
+oldest_glibc() {
+    readelf -VW "$1" | grep -o 'GLIBC_[0-9][0-9.]*' | sort -uV | tail -n 1 | sed 's/GLIBC_//'
+}
+
+# Debian's name of the processor that a file is for.
+processor_of() {
+    case $(od -An -j18 -N2 -tx1 "$1" | tr -d ' ') in
+        3e00) echo amd64 ;;
+        b700) echo arm64 ;;
+        *) fail "${1##*/} is for a processor that is not known here" ;;
     esac
+}
+
+# Sets plain, the version that the header has, and the program that is in the room as well; epoch, the second of the last commit;
+# architecture, Debian's name of the processor, with machine, the one that others give it.
+take_facts() {
+    plain=$(sed -n 's/^#define TOPICHUB_VERSION "\(.*\)"$/\1/p' "$root/lib/c/topichub.h")
+    case $plain in
+        '' | *[!0-9.]*) fail "lib/c/topichub.h tells its version as $plain" ;;
+    esac
+    if [ -f "$room/topichub" ]; then
+        told=$("$room/topichub" --version) || fail 'the program does not tell its version'
+        [ "$told" = "topichub $plain" ] || fail "the program tells its version as $told, and lib/c/topichub.h as $plain"
+    fi
     epoch=${SOURCE_DATE_EPOCH:-$(git -C "$root" log -1 --format=%ct)} ||
         fail 'there is no commit to take the date from: set SOURCE_DATE_EPOCH'
-    grep -q "^## \[$version\] - [0-9]" "$root/CHANGELOG.md" ||
-        version=$version~$(date -u -d "@$epoch" +%Y%m%d.%H%M)
-    [ -z "$given" ] || version=$version~given
-    case $(od -An -j18 -N2 -tx1 "$room/topichub" | tr -d ' ') in
-        3e00) architecture=amd64 ;;
-        b700) architecture=arm64 ;;
-        *) fail 'the program is for a processor that is not known here' ;;
+    architecture=''
+    for file in "$room"/topichub "$room"/libtopichub.so.*; do
+        [ -f "$file" ] || continue
+        found=$(processor_of "$file") || exit 1
+        [ "${architecture:-$found}" = "$found" ] || fail 'the program and the library are for different processors'
+        architecture=$found
+    done
+    case $architecture in
+        amd64) machine=x86_64 ;;
+        arm64) machine=aarch64 ;;
     esac
+}
+
+# name_versions GIVEN: sets version, wheel_version and crate_version, what the version is of a package of Debian or a tarball, of
+# one for Python, and of one for Cargo. As long as CHANGELOG.md has no date of it, what is made comes before it. What was given by
+# hand, where GIVEN is a word, is told by the version.
+#
+#     CHANGELOG.md   given   version                     wheel_version                crate_version
+#     dates it               0.1.0                       0.1.0                        0.1.0
+#     dates it       yes     0.1.0~given                 0.1.0.dev0+given             0.1.0-given
+#     does not               0.1.0~20260131.1200         0.1.0.dev202601311200        0.1.0-dev.202601311200
+#     does not       yes     0.1.0~20260131.1200~given   0.1.0.dev202601311200+given  0.1.0-dev.202601311200.given
+name_versions() {
+    version=$plain wheel_version=$plain crate_version=$plain
+    if ! grep -q "^## \[$plain\] - [0-9]" "$root/CHANGELOG.md"; then
+        minute=$(date -u -d "@$epoch" +%Y%m%d%H%M)
+        version=$plain~$(date -u -d "@$epoch" +%Y%m%d.%H%M) wheel_version=$plain.dev$minute crate_version=$plain-dev.$minute
+    fi
+    if [ -n "$1" ]; then
+        version=$version~given
+        case $wheel_version in *.dev*) ;; *) wheel_version=$wheel_version.dev0 ;; esac
+        wheel_version=$wheel_version+given
+        case $crate_version in *-*) crate_version=$crate_version.given ;; *) crate_version=$crate_version-given ;; esac
+    fi
 }
 
 # put MODE FILE.. FOLDER: copies the files into the folder.
@@ -111,7 +199,24 @@ stage() {
     put 644 "$here/completions/topichub.zsh" "$share/zsh/$2"
     mv "$share/zsh/$2/topichub.zsh" "$share/zsh/$2/_topichub"
     put 644 "$here/completions/topichub.fish" "$share/fish/vendor_completions.d"
+    put 644 "$here/debian/topichub@.service" "$here/debian/topichub@.socket" "$1/lib/systemd/system"
     stage_documents "$share/doc/topichub"
+}
+
+# stage_shared LIB: the shared library, in the folder of libraries.
+stage_shared() {
+    put 644 "$room/$soname" "$1"
+}
+
+# stage_for_compilers FOLDER LIB PREFIX: what a compiler takes besides: the header in the folder; the archive, the link to the shared
+# library and topichub.pc in its folder LIB. PREFIX is where the folder will stand, as topichub.pc says it.
+stage_for_compilers() {
+    put 644 "$root/lib/c/topichub.h" "$1/include"
+    put 644 "$room/libtopichub.a" "$1/$2"
+    ln -s "$soname" "$1/$2/libtopichub.so"
+    make --silent -C "$root/lib/c" KIND=proved BUILD="$room/made" PREFIX="$3" LIBDIR="$3/$2" "$room/made/topichub.pc" >&2
+    put 644 "$room/made/topichub.pc" "$1/$2/pkgconfig"
+    rm -r "$room/made"
 }
 
 # put_as_is FILE FOLDER: copies the file into the folder, to be run where it can be run here.
@@ -132,4 +237,20 @@ stage_documents() {
             [ ! -f "$file" ] || put_as_is "$file" "$1/examples/$kind"
         done
     done
+}
+
+# hand_over FILE..: puts what was made into the folder, and prints its names there.
+hand_over() {
+    mkdir -p -- "$folder"
+    for file; do
+        mv -f -- "$file" "$folder/"
+        printf '%s\n' "$folder/${file##*/}"
+    done
+}
+
+# pack TOP FILE: makes the gzipped tar FILE, with the folder TOP of the room in it, in the room.
+pack() {
+    tar -C "$room" --sort=name --mtime="@$epoch" --owner=root:0 --group=root:0 --format=gnu -cf "$room/packed.tar" -- "$1"
+    gzip -9n <"$room/packed.tar" >"$room/$2"
+    rm "$room/packed.tar"
 }
