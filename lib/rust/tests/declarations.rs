@@ -109,8 +109,13 @@ fn each_declaration_is_that_of_the_header() {
 
 #[test]
 fn the_crate_and_the_library_are_of_one_version() {
-    let digits = env!("CARGO_PKG_VERSION").split('.');
-    let version = digits.fold(0, |number, part| {
+    // Not of what a pre-release has behind these.
+    let parts = [
+        env!("CARGO_PKG_VERSION_MAJOR"),
+        env!("CARGO_PKG_VERSION_MINOR"),
+        env!("CARGO_PKG_VERSION_PATCH"),
+    ];
+    let version = parts.iter().fold(0, |number, part| {
         1_000 * number + part.parse::<u32>().unwrap()
     });
     assert_eq!(topichub::library_version(), version);
