@@ -48,14 +48,14 @@ def made(script, folder, *words, **how):
     return ran.stdout.split("\n")[:-1]
 
 
-def lintian(tally, package):
-    """What lintian says of a package of Debian."""
-    name = os.path.basename(package).partition("_")[0]
+def lintian(tally, *packages):
+    """What lintian says of packages of Debian."""
+    names = ", ".join(os.path.basename(it).partition("_")[0] for it in packages)
     if not shutil.which("lintian"):
-        return tally.leave_out(f"what lintian says of {name}", "lintian is not installed")
-    words = ["lintian", *(["--allow-root"] if os.geteuid() == 0 else []), package]
+        return tally.leave_out(f"what lintian says of {names}", "lintian is not installed")
+    words = ["lintian", *(["--allow-root"] if os.geteuid() == 0 else []), *packages]
     ran = subprocess.run(words, stdout=subprocess.PIPE, text=True, timeout=PATIENCE)
-    return tally.tell(f"lintian has nothing to say of {name}", not ran.stdout and not ran.returncode, ran.stdout)
+    return tally.tell(f"lintian has nothing to say of {names}", not ran.stdout and not ran.returncode, ran.stdout)
 
 
 def suite():

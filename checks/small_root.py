@@ -106,6 +106,10 @@ class Root:
         """Runs a command with this root."""
         return run("chroot", self.folder, *words, **how)
 
+    def inside_with_processes(self, *words, **how):
+        """The same, with a /proc, which compilers look into. It goes with the command, and nothing stays mounted."""
+        return run("unshare", "--pid", "--fork", "--kill-child", f"--mount-proc={self.path('proc')}", "chroot", self.folder, *words, **how)
+
     def files(self):
         """Every path, but for what dpkg keeps for itself."""
         found = set()
