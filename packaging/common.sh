@@ -46,17 +46,17 @@ read_words() {
                     *" $1 "*) ;;
                     *) wrong_words "there is no option $1" ;;
                 esac
-                if [ "$1" != --only-program ]; then
+                if [ "$1" = --only-program ]; then
+                    only_program=yes
+                else
                     [ -n "${2-}" ] || wrong_words "$1 wants a file or a folder"
-                    word=$2
+                    case $1 in
+                        --program) given_program=$2 ;;
+                        --library) given_library=$2 ;;
+                        --gate) gate=$2 ;;
+                    esac
+                    shift
                 fi
-                case $1 in
-                    --program) given_program=$word ;;
-                    --library) given_library=$word ;;
-                    --gate) gate=$word ;;
-                    --only-program) only_program=yes ;;
-                esac
-                [ "$1" = --only-program ] || shift
                 ;;
             '') wrong_words 'a folder has a name' ;;
             *)
