@@ -11,7 +11,7 @@ import subprocess
 import sys
 import tempfile
 
-from program import ROOT
+from program import PATIENCE, ROOT
 
 CRATES = os.path.join(ROOT, "crates")
 PROGRAMS = os.path.join(ROOT, "bench", "programs")
@@ -123,7 +123,7 @@ def build(name, folder):
         if ran.returncode:
             sys.exit(f"{crate} is not built:\n{ran.stdout[-2_000:]}")
         program = shutil.copy(os.path.join(at, "out", crate), os.path.join(folder, crate))
-    printed = subprocess.run([program, *words], stdin=subprocess.DEVNULL, capture_output=True, text=True, timeout=120).stdout
+    printed = subprocess.run([program, *words], stdin=subprocess.DEVNULL, capture_output=True, text=True, timeout=PATIENCE).stdout
     if printed != wanted:
         sys.exit(f"{crate} printed {printed!r}, where bench/programs/{name}/stdout has {wanted!r}")
     return program

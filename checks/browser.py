@@ -9,7 +9,8 @@ import os
 import select
 import shutil
 import signal
-import time
+
+from program import PATIENCE
 
 PROGRAMS = ("chromium", "chromium-browser", "google-chrome")
 FIRST_FREE = 10  # above the files that Chromium wants as 3 and 4
@@ -43,10 +44,9 @@ def flags(folder):
 
 
 class Page:
-    """A page in a browser of its own, which keeps what went wrong and which addresses were asked for. All of it ends in time."""
+    """A page in a browser of its own, which keeps what went wrong and which addresses were asked for. No answer is waited for too long."""
 
-    def __init__(self, folder, seconds):
-        self.until = time.monotonic() + seconds
+    def __init__(self, folder):
         self.faults, self.addresses, self.seen = [], [], set()
         self.sent, self.got, self.session = 0, b"", None
         taken, self.commands = pipe()
@@ -81,7 +81,7 @@ class Page:
     def message(self):
         """The next reply or event."""
         while b"\0" not in self.got:
-            if not select.select([self.replies], [], [], max(self.until - time.monotonic(), 0))[0]:
+            if not select.select([self.replies], [], [], PATIENCE)[0]:
                 raise Stuck("no answer in time")
             more = os.read(self.replies, 1 << 16)
             if not more:

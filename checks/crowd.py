@@ -22,10 +22,9 @@ import tempfile
 import time
 
 from histories import entries_of
-from program import program, run
+from program import PATIENCE, program, run
 from sessions import Client
 
-PATIENCE = 30
 TOGETHER = 16  # clients of a topic
 WORKERS = 2  # processes with clients
 STAY = (0.5, 5)  # seconds that a client stays
@@ -299,7 +298,7 @@ class Files:
     def join(self, topic, paths, more):
         """The first file was checked before, if any was, and the others have so many entries."""
         before = sum(map(entries_of, self.checked[topic][0]))
-        said = run(["check", "--joined", *paths], b"", seconds=600).stdout.decode()
+        said = run(["check", "--joined", *paths], b"", 5 * PATIENCE).stdout.decode()
         need(said == f"joined {before + more}\n", f"the files of {topic}, {before + more} entries: {said.strip()}")
         for path in paths[:-1]:
             os.remove(path)
@@ -338,7 +337,7 @@ def served(folder, words, clients, seconds, kills, seed, traces=None, tells=None
     shares = [clients // WORKERS + (number < clients % WORKERS) for number in range(WORKERS)]
     try:
         need(server.stdout.readline() == "listening\n", "the server does not listen")
-        keeper = Client(path, PATIENCE)
+        keeper = Client(path)
         topics = [topic for worker, share in enumerate(shares) for topic in topics_of(worker, share)]
         for topic, is_watch in topics:
             keeper.ask(b"OPEN %b " % topic + (b"W 0.0;" if is_watch else b"B 1024"))

@@ -11,13 +11,10 @@ import socket
 import stat
 import subprocess
 import threading
-import time
 
-from program import is_sanitized, patience, program, run
+from program import eventually, is_sanitized, patience, program, run
 from sessions import Client, Server
 
-PATIENCE = 20
-LONGEST = 60  # seconds that a server may take
 GROUP = 64  # lines that are carried out together at most
 MANY = 1_000_000  # entries that a trace has at most
 TIMEVAL = 16  # bytes that a limit of time of a socket has, all of them 0 where there is none
@@ -28,24 +25,14 @@ AHEAD = 4_096
 
 def standing(path, *words, **how):
     """A server that ends with its standard input."""
-    return Server(path, None, LONGEST, words=["--at-once", "4", "--until-eof", *words], **how)
+    return Server(path, None, words=["--at-once", "4", "--until-eof", *words], **how)
 
 
 def ended(server):
     """The status, and what was printed and told as an error, of a server whose standard input has ended."""
     server.process.stdin.close()
     server.process.stdin = None
-    return server.end(PATIENCE)
-
-
-def eventually(holds):
-    """Whether it holds, now or soon."""
-    end = time.monotonic() + patience(PATIENCE)
-    while not holds():
-        if time.monotonic() > end:
-            return False
-        time.sleep(0.01)
-    return True
+    return server.end()
 
 
 def entries_of(path):
@@ -103,7 +90,7 @@ def sent_ahead(client, line, count):
     return kinds
 
 
-# ---- what is tried: each yields what was tried and whether it was as it should be
+# ---- what is tried: each yields what was tried and whether it was as it should be, and says what it leaves out
 
 def words(folder):
     path = os.path.join(folder, "words")
@@ -113,7 +100,7 @@ def words(folder):
                   (*stand, "--socket-fd", "3", "--replace"), (path, "--sessions", "2", "--history", "5"),
                   (path, "--sessions", "2", "--memory", "1024"), (path, "--sessions", "2", "--traces", folder),
                   (path, "--sessions", "2", "--socket-fd", "3")):
-        ran = subprocess.run([program(), "serve", *given], stdin=subprocess.DEVNULL, capture_output=True, timeout=patience(PATIENCE))
+        ran = subprocess.run([program(), "serve", *given], stdin=subprocess.DEVNULL, capture_output=True, timeout=patience())
         name = " ".join(["serve", *map(os.path.basename, given)])
         yield f"'{name}' is a usage fault", (ran.returncode, ran.stdout) == (2, b"") and not os.path.lexists(path)
 
@@ -134,7 +121,7 @@ def cuts(folder):
 
 def cut(server, traces):
     kept, = starts(traces)
-    asks, other = Client(server.path, PATIENCE), Client(server.path, PATIENCE)
+    asks, other = Client(server.path), Client(server.path)
     asks.ask(b"OPEN t B 128")
     asks.ask(b"OPEN w W v")
     made = {"t": 0, "w": 0}
@@ -179,7 +166,7 @@ def each_alone(folder):
     traces = os.path.join(folder, "alone")
     with standing(os.path.join(folder, "one"), "--history", "1", "--traces", traces) as server:
         kept, = starts(traces)
-        with contextlib.closing(Client(server.path, PATIENCE)) as client:
+        with contextlib.closing(Client(server.path)) as client:
             name = "-" * 31 + "a"
             for line in ("OPEN {} B 1", "BIND {}", "SUB {}", *["PUB {} x"] * 20, *["TRY {}"] * 2, "END {}"):
                 client.ask(line.format(name).encode())
@@ -194,7 +181,7 @@ def divided(folder):
     traces = os.path.join(folder, "divided")
     with standing(os.path.join(folder, "memory"), "--memory", "1024", "--traces", traces) as server:
         kept, = starts(traces)
-        client = Client(server.path, PATIENCE)
+        client = Client(server.path)
 
         def are_first(topic, lengths):
             """Whether the first parts of a topic have so many entries each, now or soon."""
@@ -249,7 +236,7 @@ END 2
 def let_go(folder):
     path = os.path.join(folder, "gone", "hub")
     os.mkdir(os.path.dirname(path))
-    with standing(path, "--history", "5") as server, contextlib.closing(Client(path, PATIENCE)) as client:
+    with standing(path, "--history", "5") as server, contextlib.closing(Client(path)) as client:
         for line in (b"OPEN t B 2", b"BIND t", b"SUB t", b"PUB t 0", b"PUB t 1", b"PUB t 2", b"PUB t 3", b"PUB t 4"):
             client.ask(line)
         told = client.ask(b"TRACE t", 14)
@@ -265,7 +252,7 @@ def endless(folder):
     traces = os.path.join(folder, "endless")
     with standing(os.path.join(folder, "full"), "--history", str(MANY), "--traces", traces) as server:
         kept, = starts(traces)
-        with contextlib.closing(Client(server.path, PATIENCE)) as client:
+        with contextlib.closing(Client(server.path)) as client:
             for line in (b"OPEN t B 1", b"BIND t", b"SUB t"):
                 client.ask(line)
             told = sent_ahead(client, b"PUB t x\n", MANY + 1_000)
@@ -292,7 +279,7 @@ def killed(folder):
     traces, path = os.path.join(folder, "killed"), os.path.join(folder, "kill")
     with standing(path, "--history", "1000", "--traces", traces) as server:
         kept, = starts(traces)
-        clients = [Client(path, PATIENCE), Client(path, PATIENCE)]
+        clients = [Client(path), Client(path)]
         for client, kind in zip(clients, (b"b B 4", b"w W v")):
             client.ask(b"OPEN " + kind)
             for verb in (b"BIND ", b"SUB "):
@@ -301,7 +288,7 @@ def killed(folder):
         threads = [publishes(client, b"PUB %b x\n" % topic, 400_000) for client, topic in zip(clients, (b"b", b"w"))]
         begun = eventually(lambda: len(parts_of(kept, "b")) > 4 and len(parts_of(kept, "w")) > 4)
         server.process.kill()
-        server.end(PATIENCE)
+        server.end()
         for thread in threads:
             thread.join()
         for client in clients:
@@ -312,7 +299,7 @@ def killed(folder):
     unfinished = len(os.listdir(kept)) - sum(map(len, parts.values()))
     yield "and at most one of each kind is not whole", unfinished == len(glob.glob(os.path.join(kept, "*.trace.part"))) <= 2
     with standing(path, "--history", "1000", "--traces", traces, "--replace") as server, contextlib.closing(
-            Client(path, PATIENCE)) as client:
+            Client(path)) as client:
         told = client.ask(b"LIST"), client.ask(b"OPEN b B 1"), client.ask(b"BIND b")
         status = ended(server)[0]
         others = [it for it in starts(traces) if it != kept]
@@ -356,7 +343,7 @@ def full_disk(folder):
         traces = os.path.join(disk, "traces")
         with standing(os.path.join(folder, "small"), "--history", "100", "--traces", traces) as server:
             kept, = starts(traces)
-            with contextlib.closing(Client(server.path, PATIENCE)) as client:
+            with contextlib.closing(Client(server.path)) as client:
                 for line in (b"OPEN t B 1", b"BIND t", b"SUB t"):
                     client.ask(line)
                 told = sent_ahead(client, b"PUB t " + b"x" * 500 + b"\n", 4_000), client.ask(b"READERS t")
@@ -389,12 +376,12 @@ def slow_disk(folder):
         kept, = starts(traces)
         first = os.path.join(kept, "t.00000000000000000001.trace.part")
         os.mkfifo(first)  # whoever opens it waits until somebody reads it
-        with contextlib.closing(Client(server.path, PATIENCE)) as client:
+        with contextlib.closing(Client(server.path)) as client:
             for line in (b"OPEN t B 1", b"BIND t", b"SUB t"):
                 client.ask(line)
             # There is room for 5 parts beside the one that is being written.
             told = sent_ahead(client, b"PUB t x\n", 98), {client.ask(b"PUB t x")}
-            time.sleep(patience(0.2))
+            server.settled()  # the first part is that one
             for _ in range(1_000):
                 told += {client.ask(b"PUB t x")},
         yield "where a disk hangs the server goes on", set.union(*told) == {b"OK 1", b"OK 1\n"}
@@ -443,13 +430,13 @@ def handed_over(folder):
         how = {"pass_fds": (descriptor,)}
         handed = ("--socket-fd", str(descriptor))
         for start in ("a socket that was handed over is served", "and once more, by the next start"):
-            with standing(path, *handed, **how) as server, contextlib.closing(Client(path, PATIENCE)) as client:
+            with standing(path, *handed, **how) as server, contextlib.closing(Client(path)) as client:
                 told = server.first, client.ask(b"LIST"), ended(server)
             yield start, told == ("listening\n", b"OK 0\n", (0, "listening\ndone 1\n", ""))
             yield "it is left at the end, and no lock is made", (os.path.lexists(path), os.path.lexists(path + ".lock")) == (True, False)
             limits = [listener.getsockopt(socket.SOL_SOCKET, option, TIMEVAL) for option in (socket.SO_RCVTIMEO, socket.SO_SNDTIMEO)]
             yield "nobody waits there, and it is as it was", (are_waiting(listener), limits) == (False, [bytes(TIMEVAL)] * 2)
-        with contextlib.closing(Client(path, PATIENCE)) as early, standing(path, *handed, **how) as server:
+        with contextlib.closing(Client(path)) as early, standing(path, *handed, **how) as server:
             told = early.ask(b"LIST"), ended(server)
         yield "who connects between two starts is served by the next", told == (b"OK 0\n", (0, "listening\ndone 1\n", ""))
         with open(os.devnull) as other, standing(path, "--socket-fd", str(other.fileno()), "--verbose", pass_fds=(other.fileno(),)) as server:
@@ -483,7 +470,7 @@ def two_starts(folder):
         for thread in threads:
             thread.join()
         for number, server in enumerate(servers):
-            with contextlib.closing(Client(server.path, PATIENCE)) as client:
+            with contextlib.closing(Client(server.path)) as client:
                 client.ask(b"OPEN t B 1")
                 for _ in range(number + 1):
                     client.ask(b"READERS t")
@@ -504,7 +491,7 @@ def moved(folder):
                 words += ["--socket-fd", str(listener.fileno())]
                 how = {"pass_fds": (listener.fileno(),)}
             with standing(path, *words, **how) as server:
-                with contextlib.closing(Client(path, PATIENCE)) as client:
+                with contextlib.closing(Client(path)) as client:
                     client.ask(b"OPEN t B 1")
                     client.ask(b"READERS t")
                 os.remove(path)

@@ -6,6 +6,8 @@ import shutil
 import subprocess
 import sys
 
+from program import PATIENCE
+
 sys.dont_write_bytecode = True
 USED = ("in_lanes", "need", "must_fail", "checked", "rtlib")
 
@@ -29,7 +31,7 @@ def version():
     found = shutil.which("rt")
     how = {"stdin": subprocess.DEVNULL, "stdout": subprocess.PIPE, "stderr": subprocess.DEVNULL, "text": True, "errors": "replace"}
     try:
-        asked = subprocess.run([found, "version"], timeout=10, **how) if found else None
+        asked = subprocess.run([found, "version"], timeout=PATIENCE, **how) if found else None
     except (OSError, subprocess.TimeoutExpired):
         return None
     lines = asked.stdout.split("\n") if asked and not asked.returncode else []

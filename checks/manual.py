@@ -5,10 +5,10 @@ import re
 import shutil
 import subprocess
 
-ROOT = os.path.dirname(os.path.dirname(os.path.abspath(__file__)))
+from program import PATIENCE, ROOT
+
 PAGES = os.path.join(ROOT, "packaging", "man")
 COMPLETIONS = os.path.join(ROOT, "packaging", "completions")
-PATIENCE = 120
 SHELLS = ("bash", "zsh", "fish")
 
 # Offers what bash would at the end of the line $2, by the completion in the file $1.

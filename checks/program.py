@@ -3,8 +3,12 @@ import functools
 import os
 import subprocess
 import sys
+import time
 
 ROOT = os.path.dirname(os.path.dirname(os.path.abspath(__file__)))
+# For how many seconds a script waits for what has to come. It comes within a few, so that what is right fails on no machine that is
+# busy, or ten times slower; what has not come by then is told as missing.
+PATIENCE = 120
 
 
 @functools.cache
@@ -24,12 +28,22 @@ def is_sanitized():
         return b"__asan_init" in file.read()
 
 
-def patience(seconds):
+def patience(seconds=PATIENCE):
     """For how many seconds to wait for what the proved program does in so many at the most."""
     return 10 * seconds if is_sanitized() else seconds
 
 
-def run(words, text, seconds=60, **how):
+def eventually(holds):
+    """Whether it holds, now or soon."""
+    end = time.monotonic() + patience()
+    while not holds():
+        if time.monotonic() > end:
+            return False
+        time.sleep(0.01)
+    return True
+
+
+def run(words, text, seconds=PATIENCE, **how):
     """A run of the program with these words over these bytes. Where it goes on for longer than that, the script ends."""
     try:
         return subprocess.run([program(), *words], input=text, capture_output=True, timeout=patience(seconds), **how)

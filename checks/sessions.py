@@ -1,19 +1,20 @@
-"""Servers and clients of `topichub serve`, for the scripts that try it. All that they wait for is given in seconds of the proved
-program, and takes longer where the program is slow."""
+"""Servers and clients of `topichub serve`, for the scripts that try it. Nothing is waited for longer than `patience` allows."""
+import os
 import resource
+import select
 import signal
 import socket
 import subprocess
 import threading
 
-from program import patience, program
+from program import eventually, patience, program
 
 
 class Server:
     """A server of so many sessions, or one that stands, by its other words; it may have so many files open at a time, and is given
     these descriptors. `first` is the first line that it printed: it listens, or has ended without one."""
 
-    def __init__(self, path, sessions, seconds, environment=None, files=None, words=None, pass_fds=()):
+    def __init__(self, path, sessions, environment=None, files=None, words=None, pass_fds=()):
         self.path = path
         words = words or ["--sessions", str(sessions)]
 
@@ -27,31 +28,60 @@ class Server:
                                         stdin=subprocess.PIPE if "--until-eof" in words else subprocess.DEVNULL,
                                         stdout=subprocess.PIPE, stderr=subprocess.PIPE, text=True, env=environment,
                                         preexec_fn=begin, pass_fds=pass_fds)
-        # What has not ended after so many seconds never will, and says no more.
-        self.timer = threading.Timer(patience(seconds), self.process.kill)
-        self.timer.start()
+        timer = threading.Timer(patience(), self.process.kill)
+        timer.start()
         self.first = self.process.stdout.readline()
+        timer.cancel()
 
     def __enter__(self):
         return self
 
     def __exit__(self, *raised):
-        self.timer.cancel()
         self.process.kill()
         self.process.communicate()
 
-    def end(self, seconds=None):
-        """The status, and what was printed and told as an error until then."""
-        printed, told = self.process.communicate(timeout=None if seconds is None else patience(seconds))
+    def end(self):
+        """The status, and what was printed and told as an error until then. What does not end is killed, and that is its status."""
+        try:
+            printed, told = self.process.communicate(timeout=patience())
+        except subprocess.TimeoutExpired:
+            self.process.kill()
+            printed, told = self.process.communicate()
         return self.process.returncode, self.first + printed, told
+
+    def sleeps(self):
+        """How often each thread of the server was put to sleep until now; None where one of them is awake."""
+        found = {}
+        for name in os.listdir(f"/proc/{self.process.pid}/task"):
+            try:
+                with open(f"/proc/{self.process.pid}/task/{name}/status", encoding="ascii", errors="replace") as file:
+                    told = dict(line.split(":", 1) for line in file)
+            except (FileNotFoundError, ProcessLookupError):  # it has just ended
+                return None
+            if told["State"].split()[0] != "S":
+                return None
+            found[name] = told["voluntary_ctxt_switches"], told["nonvoluntary_ctxt_switches"]
+        return found
+
+    def settled(self, since=None):
+        """Waits until the server has done all that it can do: each of its threads sleeps, and none was awake between two looks. It says
+        how often each was put to sleep until then; where `since` is what it said before, it waits until one was awake since."""
+        seen = [None]
+
+        def rests():
+            seen[0] = self.sleeps()
+            return seen[0] is not None and seen[0] != since and seen[0] == self.sleeps()
+
+        eventually(rests)
+        return seen[0]
 
 
 class Client:
     """A session, by what it sends and reads, all of it bytes."""
 
-    def __init__(self, path, seconds):
+    def __init__(self, path):
         self.socket = socket.socket(socket.AF_UNIX)
-        self.socket.settimeout(patience(seconds))
+        self.socket.settimeout(patience())
         try:
             self.socket.connect(path)
         except OSError:
@@ -70,6 +100,10 @@ class Client:
         """The reply to a line, of so many lines."""
         self.send(line + b"\n")
         return self.lines(count)
+
+    def is_told(self):
+        """Whether something has come that was not read, or the server has closed the connection."""
+        return bool(select.select([self.socket], [], [], 0)[0])
 
     def rest(self):
         """What is left until the server closes the connection."""

@@ -10,10 +10,11 @@ import shutil
 import subprocess
 import tempfile
 
+from program import PATIENCE
+
 PACKAGES = ("libc6", "dash", "coreutils")
 # Not needed to run anything, and large.
 LEFT_OUT = ("/usr/share/doc/", "/usr/share/man/", "/usr/share/locale/", "/usr/share/info/")
-PATIENCE = 120
 FETCHING = 900  # seconds that debootstrap may take
 PATH = "/usr/local/sbin:/usr/local/bin:/usr/sbin:/usr/bin:/sbin:/bin"
 ENVIRONMENT = {"PATH": PATH, "LC_ALL": "C.UTF-8", "DEBIAN_FRONTEND": "noninteractive"}

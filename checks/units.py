@@ -10,10 +10,9 @@ import subprocess
 import tempfile
 
 import manual
-from program import patience
+from program import PATIENCE, patience
 from sessions import Client
 
-PATIENCE = 20
 FOLDER = "usr/lib/systemd/system"
 SOCKET = "topichub@.socket"
 SERVICE = "topichub@.service"
@@ -53,12 +52,12 @@ def stopped(server, path):
     first = server.stdout.readline()
     told = b""
     if first == "listening\n":
-        with contextlib.closing(Client(path, PATIENCE)) as client:
+        with contextlib.closing(Client(path)) as client:
             told = client.ask(b"OPEN t B 2") + client.ask(b"SUB t")
             client.send(b"NEXT t\n")
             os.killpg(server.pid, signal.SIGTERM)
             told += client.rest()
-    status = server.wait(patience(PATIENCE))
+    status = server.wait(patience())
     kill(server)
     return told, first + server.stdout.read(), status
 
@@ -83,7 +82,7 @@ def tries(tally, folder, program):
     """The units in this folder, with this program."""
     paths = [os.path.join(folder, it) for it in (SERVICE, SOCKET)]
     if shutil.which("systemd-analyze"):
-        ran = subprocess.run(["systemd-analyze", "--man=no", "verify", *paths], capture_output=True, text=True, timeout=60)
+        ran = subprocess.run(["systemd-analyze", "--man=no", "verify", *paths], capture_output=True, text=True, timeout=PATIENCE)
         told = [line for line in ran.stderr.splitlines() if "topichub" in line]
         tally.tell("systemd has nothing to say of the units", not told, "\n".join(told))
     else:
