@@ -1,5 +1,5 @@
 #!/usr/bin/env python3
-"""Publishes ten news that a slow subscriber is too late for, and two settings that the watcher has to confirm."""
+"""Publishes ten news that a slow subscriber is too late for, and settings that the watcher has to confirm."""
 from hub import session
 
 hub = session(__doc__)
@@ -15,6 +15,7 @@ for number in range(1, 11):
     hub.send(f"PUB news item {number}")
 print("news:", ", ".join(hub.reply() for _ in range(10)))
 
+print("confirmed:", hub.ask("NEXT applied"))  # the watcher has seen what was there before
 for volume in (5, 7):
     hub.ask(f"PUB settings volume={volume}")
     print("confirmed:", hub.ask("NEXT applied"))

@@ -5,7 +5,9 @@ from hub import session
 hub = session(__doc__)
 hub.until("BIND applied", "OK")  # the last topic that is opened, so all are there
 hub.ask("SUB settings")
-print("at first:", hub.ask("GET settings"))
+reply = hub.ask("GET settings")
+print("at first:", reply)
+hub.ask("PUB applied " + reply.partition(" ")[2])
 while hub.ask("CHANGED settings") == "CHANGED":  # waits for news, and they are seen then
     reply = hub.ask("GET settings")
     print("now:", reply)
