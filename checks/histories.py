@@ -14,6 +14,7 @@ import threading
 
 from program import eventually, is_sanitized, patience, program, run
 from sessions import Client, Server
+from tries import leave_out
 
 GROUP = 64  # lines that are carried out together at most
 MANY = 1_000_000  # entries that a trace has at most
@@ -247,7 +248,7 @@ def let_go(folder):
 
 def endless(folder):
     if is_sanitized():
-        yield "left out, since the program is compiled with AddressSanitizer: more lines and events than one trace has", True
+        leave_out("serve", "the program is compiled with AddressSanitizer", "more lines and events than one trace has")
         return
     traces = os.path.join(folder, "endless")
     with standing(os.path.join(folder, "full"), "--history", str(MANY), "--traces", traces) as server:
@@ -338,7 +339,7 @@ def runs_of(parts):
 def full_disk(folder):
     with small_disk(folder) as disk:
         if disk is None:
-            yield "left out, since no disk of 1 MB can be mounted: files on a full disk", True
+            leave_out("serve", "no disk of 1 MB can be mounted", "files on a full disk")
             return
         traces = os.path.join(disk, "traces")
         with standing(os.path.join(folder, "small"), "--history", "100", "--traces", traces) as server:

@@ -5,6 +5,7 @@ import shutil
 import subprocess
 
 from program import ROOT, program
+from tries import leave_out
 
 PATIENCE = 300
 
@@ -29,7 +30,7 @@ class Tally:
 
     def leave_out(self, name, why):
         self.skipped += 1
-        print(f"{self.name}: left out, since {why}: {name}", flush=True)
+        leave_out(self.name, why, name)
 
     def end(self):
         """The last line, and the status."""
