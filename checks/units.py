@@ -8,6 +8,7 @@ import signal
 import socket
 import subprocess
 import tempfile
+import threading
 
 import manual
 from program import PATIENCE, patience
@@ -49,7 +50,10 @@ def kill(server):
 
 def stopped(server, path):
     """What a session is told, and how the server ends, where all the processes of the service get SIGTERM."""
+    timer = threading.Timer(patience(), kill, [server])
+    timer.start()
     first = server.stdout.readline()
+    timer.cancel()
     told = b""
     if first == "listening\n":
         with contextlib.closing(Client(path)) as client:
