@@ -22,8 +22,8 @@ def program():
 
 @functools.cache
 def is_sanitized():
-    """Whether the program is compiled with AddressSanitizer, as one that is not proved is. It has an allocator of its own then,
-    and takes some two hundred times as long for a line."""
+    """Whether the program is compiled with AddressSanitizer (`checks/compile --sanitized`). It has an allocator of its own then, and
+    takes some two hundred times as long for a line."""
     with open(program(), "rb") as file:
         return b"__asan_init" in file.read()
 
