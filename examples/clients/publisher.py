@@ -3,8 +3,8 @@
 from hub import session
 
 hub = session(__doc__)
-for line in ("OPEN news B 4", "OPEN settings W volume=3", "OPEN applied B 16",
-             "BIND news", "BIND settings", "SUB applied"):
+for line in ("OPEN applied B 16", "SUB applied", "OPEN news B 4", "BIND news",
+             "OPEN settings W volume=3", "BIND settings"):
     hub.ask(line)
 for topic in ("news", "settings"):
     hub.until(f"READERS {topic}", "OK 1")

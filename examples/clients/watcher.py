@@ -3,8 +3,8 @@
 from hub import session
 
 hub = session(__doc__)
-hub.until("BIND applied", "OK")  # the last topic that is opened, so all are there
-hub.ask("SUB settings")
+hub.until("SUB settings", "OK")  # the last topic that is opened, so somebody receives on `applied`
+hub.ask("BIND applied")
 reply = hub.ask("GET settings")
 print("at first:", reply)
 hub.ask("PUB applied " + reply.partition(" ")[2])
