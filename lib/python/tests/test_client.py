@@ -214,7 +214,7 @@ def test_tasks_with_the_program(tmp_path):
             await hub.ask_all([commands.open_watch("light", NOT_TEXT)])
             await reader.ask(commands.subscribe("light"))
             waiting = asyncio.create_task(reader.ask(commands.changed("light")))
-            await asyncio.sleep(0.02)
+            await asyncio.sleep(0.02)  # so that it waits by then, mostly
             await hub.ask(commands.bind("light"))
             await hub.ask(commands.send("light", b"green"))
             await asyncio.wait_for(waiting, 60)

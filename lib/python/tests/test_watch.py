@@ -2,6 +2,7 @@
 import asyncio
 import random
 import threading
+import time
 
 import pytest
 
@@ -81,10 +82,16 @@ def test_a_reader_waits_in_a_thread_or_a_task():
                 return seen
             seen.append(reader.borrow_and_update().value)
 
-    timers = [threading.Timer(0.02 * turn, light.send, [turn]) for turn in range(1, 4)] + [threading.Timer(0.2, light.close)]
-    for timer in timers:
-        timer.start()
+    def publish():
+        for value in range(1, 4):
+            time.sleep(0.02)  # so that the reader waits meanwhile, mostly
+            light.send(value)
+        light.close()
+
+    publisher = threading.Thread(target=publish)
+    publisher.start()
     seen = asyncio.run(asyncio.wait_for(follow(), 60))
+    publisher.join()
     assert seen[-1] == 3 and seen == sorted(seen)
 
 
