@@ -107,16 +107,6 @@ take_library() {
     strip_of --strip-debug "$room/libtopichub.a"
     strip_of --strip-unneeded "$room/$soname"
     readelf -dW "$room/$soname" | grep -qF "soname: [$soname]" || fail "$soname has another soname"
-    [ -n "$given_library" ] || says_proved
-}
-
-# Ends where the library that lib/c has made says of itself that it is something else than proved, since its folder is also that of a
-# library that was made of an archive given by hand.
-says_proved() {
-    need python3 python3
-    due=$(sed -n 's/^#define TOPICHUB_BUILD_PROVED \([0-9]*\).*/\1/p' "$root/lib/c/topichub.h")
-    found=$(python3 -c 'import ctypes, sys; print(ctypes.CDLL(sys.argv[1]).topichub_build())' "$room/$soname")
-    [ "$found" = "$due" ] || fail "lib/c/build has a library that is not proved (topichub_build answers $found): make -C lib/c clean"
 }
 
 # The libraries that a program or a library needs, by their sonames.
