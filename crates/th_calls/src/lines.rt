@@ -4,7 +4,7 @@ use std::fs::File;
 use th_lines::fields::{cut, number, number_and_rest, value};
 use th_lines::{
     Counted, Feeder, Intake, Lines, Reply, TakesLines, ValueWord, WriteBuffer, front_line, laws,
-    name_and_rest, read_command, read_send,
+    name_and_rest, read_command,
 };
 use th_model::Value;
 
@@ -45,19 +45,20 @@ pub fn fields(alloc: Global, bytes: &[u8]) {
 
 pub fn commands(alloc: Global, line: &[u8]) {
     let _ = read_command(alloc, line);
-    if let Ok(value) = Value::new(alloc, b"x") {
-        let _ = read_send(line, &value);
-    }
 }
 
-pub fn take_in(alloc: Global, intake: &mut Intake, reader: &mut Counted<File>) -> (usize, bool) {
+pub fn take_in(alloc: Global, intake: &mut Intake, reader: &mut Counted<File>) -> bool {
     let _ = Intake::new(alloc);
     if !intake.next_line() {
         let _ = intake.fill(reader);
     }
     let _ = intake.line(true);
     let _ = front_line(intake.ahead());
-    (intake.repeats(7), intake.is_empty())
+    intake.is_empty()
+}
+
+pub fn pass(intake: &mut Intake) {
+    intake.pass(0);
 }
 
 pub fn end_intake(intake: &mut Intake) {
@@ -90,7 +91,6 @@ impl TakesLines<(), ()> for Taken {
         _writer: &mut (),
         _taken: u64,
         _line: Option<&[u8]>,
-        _intake: &Intake,
     ) -> Result<(), ()> {
         Ok(())
     }
@@ -98,7 +98,8 @@ impl TakesLines<(), ()> for Taken {
 
 pub fn take_one(alloc: Global, taken: &mut Taken, intake: &Intake) {
     let _ = taken.settle(&mut (), &mut (), 0);
-    let _ = taken.take(alloc, &mut (), &mut (), 0, intake.line(false), intake);
+    let _ = taken.take_row(alloc, &mut (), &mut (), 0, 7, intake);
+    let _ = taken.take(alloc, &mut (), &mut (), 0, intake.line(false));
 }
 
 pub fn feed(alloc: Global, reader: &mut Counted<File>) -> u64 {

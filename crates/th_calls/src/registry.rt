@@ -1,6 +1,7 @@
 //! Calls of th_registry, at a desk of one thread. What they answer is handed on, so that nothing is let go here.
 use indexmap::IndexMap;
 use std::alloc::Global;
+use std::collections::VecDeque;
 use std::time::Duration;
 use th_log::{MakeFault, Receipt, Segment};
 use th_model::{
@@ -151,11 +152,26 @@ pub fn give_back(desk: &mut LocalDesk, topic: TopicId, segment: TopicSegment) {
 pub fn keep(
     desk: &mut LocalDesk,
     topic: TopicId,
+    rx: &mut RxId,
+) -> (Result<TopicSegment, NoEvent>, bool) {
+    desk.wake();
+    let waits = desk.wait(topic, rx, Duration::from_secs(1));
+    (desk.cut(topic), waits)
+}
+
+pub fn rows(
+    alloc: Global,
+    desk: &mut LocalDesk,
+    topic: TopicId,
     tx: &mut TxId,
     rx: &mut RxId,
-) -> (Result<TopicSegment, NoEvent>, usize, bool) {
-    desk.wake();
-    desk.send_ahead(topic, tx, &[]);
-    let waits = desk.wait(topic, rx, Duration::from_secs(1));
-    (desk.cut(topic), desk.ready(topic, rx, 7), waits)
+) -> (usize, usize) {
+    let mut values = VecDeque::new(alloc);
+    let Ok(mut receipts) = Vec::with_capacity(alloc, 7) else {
+        return (0, 0);
+    };
+    let sent = desk.send_row(topic, tx, &mut values, &mut receipts);
+    let mut receipts = Vec::new(alloc);
+    let received = desk.by_receiver_row(topic, rx, ReceiverVerb::Recv, 0, &mut receipts);
+    (sent, received)
 }

@@ -12,7 +12,7 @@ use crate::point::{Spot, ended_with, take_line};
 use crate::verdict::Verdict;
 use std::alloc::{AllocError, Global};
 use std::io::Read;
-use th_lines::{Counted, Fed, Feeder, Intake, MOST_READS, TakesLines};
+use th_lines::{Counted, Fed, Feeder, MOST_READS, TakesLines};
 use th_traces::Draft;
 
 /// More lines than any check has, since each has a byte.
@@ -55,7 +55,6 @@ impl TakesLines<(), ()> for Spot {
         _writer: &mut (),
         _taken: u64,
         line: Option<&[u8]>,
-        _intake: &Intake,
     ) -> Result<(), Stop> {
         take_line(alloc, self, line)
     }

@@ -1,9 +1,9 @@
 -- Lines that are read are fed to a taker, one after another: what it took, and why no further line is fed.
-use Rattle.std.specs.Prelude.{◌≡◌, ◌⊎◌, ℕ, ◌+◌, ◌*◌, ◌<◌, ◌≤◌, Bool, true, false, List, [], ◌∷◌, ◌++◌, length, Option, Some, None, Result, Ok, Err}
+use Rattle.std.specs.Prelude.{◌≡◌, ◌⊎◌, ℕ, ◌+◌, ◌*◌, ◌<◌, ◌≤◌, Bool, true, false, List, [], ◌∷◌, ◌++◌, length, Option, Some, None, Result, Ok, Err, IfErr}
 use Rattle.std.specs.Io.KnownBytes.{Consumes, IsAtEnd}
 use Rattle.th_lines.specs.Device.{kept_count, one_more}
-use Rattle.th_lines.specs.Intake.{Came, Finds, Reading, lines_after, most_read, nothing_came}
-use Rattle.th_lines.specs.Lines.{Line, lines_from, lines_of}
+use Rattle.th_lines.specs.Intake.{Came, Finds, IsRow, Reading, lines_after, most_read, nothing_came}
+use Rattle.th_lines.specs.Lines.{Line, line_of, lines_from, lines_of}
 use Rattle.th_lines.specs.declared.feeder.Fed.{Fed}
 use Rattle.th_lines.specs.declared.feeder.Fed.TheVariants.{Ended, Stopped, Full, Failed, Spent}
 
@@ -45,6 +45,17 @@ HandsOut old false new = ((new.taken ≡ new.limit) ⊎ (new.came.ahead ≡ []))
     lines_after ended old.came more ≡ lines_after ended new.came more)
     × (new ≡ record old { line = new.line; came = new.came })
 
+-- From the line that was handed out on, these lines, at least one, were handed out and taken.
+pub record HasPassed (old : Feeding) (row : List Line) (new : Feeding) : Type 0 where
+  pub some : 0 < length row
+  pub lines : (ended : Bool) (more : List ℕ) → line_of true old.line ∷ lines_after ended old.came more
+      ≡ row ++ lines_after ended new.came more
+  pub same : new ≡ record old {
+    line = new.line;
+    came = new.came;
+    taken = old.taken + length row;
+  }
+
 -- These are the first lines of any text that begins with these bytes; or, where they are all bytes, of the text that
 -- they are.
 abbrev pub AreFirst : Bool → List ℕ → List Line → Type 0
@@ -65,12 +76,33 @@ failures_so_far n (Some fed) = failures_by n fed
 -- was handed them, and has stopped.
 module _ {P E : Type 0} (took : P → List Line → P → Type 0)
     (halts : P → List Line → E → P → Type 0) where
+  -- where so many lines were taken, these more were, or the taker has stopped with the last of them
+  abbrev pub TakesAll : {A : Type 0} → (taken : ℕ) → List Line → P → Result A E → P → Type 0
+  TakesAll taken row old (Ok a) new = (from : P) (lines : List Line) → taken ≡ length lines →
+      took from lines old → took from (lines ++ row) new
+  TakesAll taken row old (Err why) new = (from : P) (lines : List Line) → taken ≡ length lines →
+      took from lines old → halts from (lines ++ row) why new
+
   -- where so many lines were taken, one line more was, or the taker has stopped at it
   abbrev pub Takes : {A : Type 0} → (taken : ℕ) → Line → P → Result A E → P → Type 0
-  Takes taken line old (Ok a) new = (from : P) (lines : List Line) → taken ≡ length lines →
-      took from lines old → took from (lines ++ line ∷ []) new
-  Takes taken line old (Err why) new = (from : P) (lines : List Line) → taken ≡ length lines →
-      took from lines old → halts from (lines ++ line ∷ []) why new
+  Takes taken line old result new = TakesAll taken (line ∷ []) old result new
+
+  -- Of the lines that are there the first ones were taken together, so many, or none; or the taker has stopped with the last
+  -- of them.
+  pub record TakesRow {A : Type 0} (taken most : ℕ) (there : Reading) (old : P) (count : ℕ)
+      (result : Result A E) (new : P) : Type 0 where
+    pub row : List Line
+    pub is : IsRow there count row
+    pub within : count ≤ most
+    pub some : IfErr result (λ _. 0 < count)
+    pub takes : TakesAll taken row old result new
+
+  -- From the line on that was handed out, lines were taken, and handed out; or the taker has stopped with the last of them.
+  pub record TakesOn {A : Type 0} (f : Feeding) (old : P) (result : Result A E) (f' : Feeding)
+      (new : P) : Type 0 where
+    pub row : List Line
+    pub passed : HasPassed f row f'
+    pub takes : TakesAll f.taken row old result new
 
   -- nothing is held back, or the taker has stopped
   abbrev pub Settles : {A : Type 0} → (P → Type 0) → P → Result A E → P → Type 0

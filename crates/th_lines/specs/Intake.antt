@@ -48,6 +48,20 @@ Finds old true new = (new.came.begun ≡ []) × ((ended : Bool) (more : List ℕ
 Finds old false new = (new.came.ahead ≡ []) × ((ended : Bool) (more : List ℕ) →
     lines_after ended old more ≡ lines_after ended new.came more)
 
+-- so many lines that came whole were handed out, one after another
+pub record Passes (count : ℕ) (old new : Came) : Type 0 where
+  pub passed : List Line
+  pub counted : length passed ≡ count
+  pub lines : (ended : Bool) (more : List ℕ) →
+      lines_after ended old more ≡ passed ++ lines_after ended new more
+  pub begun : old.begun ≡ [] → new.begun ≡ []
+
+-- The line that was handed out, before an LF, and those that came whole behind it: these are the first of them, so many.
+pub record IsRow (i : Reading) (count : ℕ) (row : List Line) : Type 0 where
+  pub counted : length row ≡ count
+  pub first : (ended : Bool) (more : List ℕ) → (later : List Line) ×
+      (line_of true i.line ∷ lines_from ended [] (i.came.ahead ++ more) ≡ row ++ later)
+
 -- At the end of the input what stands after the last LF was handed out, if it is a line.
 abbrev pub Ends : Came → Bool → Reading → Type 0
 Ends old true new =

@@ -1,9 +1,9 @@
 //! Lines that are read and fed to a taker, one after another.
-ghost use Rattle.std.specs.Prelude.{◌≡◌, ℕ, ◌<◌, ◌≤◌, ◌+◌, [], List, Option, None, not, true, false, length, IfOk};
+ghost use Rattle.std.specs.Prelude.{◌≡◌, ℕ, ◌<◌, ◌≤◌, ◌+◌, ◌-◌, [], List, Option, None, not, true, false, length, IfOk};
 ghost use Rattle.std.specs.Io.KnownBytes.{IsAtEnd};
 ghost use Rattle.th_lines.specs.Device.{failures_after, one_more};
-ghost use Rattle.th_lines.specs.Feeding.{Feeds, GoesOn, HandsOut, IsFull, Settles, Stands, Takes, Underway, beginning, failures_by, failures_so_far, reading};
-ghost use Rattle.th_lines.specs.Intake.{Ends, Fills, line_given, most_read, nothing_came};
+ghost use Rattle.th_lines.specs.Feeding.{Feeds, GoesOn, HandsOut, IsFull, Settles, Stands, Takes, TakesOn, TakesRow, Underway, beginning, failures_by, failures_so_far, reading};
+ghost use Rattle.th_lines.specs.Intake.{Ends, Fills, Passes, lines_after, line_given, most_read, nothing_came};
 ghost use Rattle.th_lines.specs.Lines.{Line, line_of};
 
 use crate::counted::{Counted, Moved};
@@ -12,7 +12,15 @@ use std::alloc::{AllocError, Global};
 use std::io::Read;
 use std::marker::Model;
 
-/// What takes lines, one by one, and works on a desk and a writer beside, or on whatever it has in their place.
+/// How many lines a taker took together, and whether it has stopped with the last of them.
+#[derive(Drop)]
+pub struct Row<E> {
+    pub count: usize,
+    pub end: Result<(), E>,
+}
+
+/// What takes lines, one by one or several together, and works on a desk and a writer beside, or on whatever it has in their
+/// place.
 pub trait TakesLines<D, W> {
     /// Why it takes no further line.
     type Stop;
@@ -32,7 +40,7 @@ pub trait TakesLines<D, W> {
             (self.old, desk.old, writer.old) result (self.new, desk.new, writer.new) };
 
     /// Takes a line, which is given without its end, or as `None` where it has more than 4,096 bytes. It took so many
-    /// before. The line is lent from the intake, which shows whether the same comes next.
+    /// before.
     fn take(
         &mut self,
         alloc: Global,
@@ -40,10 +48,30 @@ pub trait TakesLines<D, W> {
         writer: &mut W,
         taken: u64,
         line: Option<&[u8]>,
-        intake: &Intake,
     ) -> Result<(), Self::Stop>
         ensures { Takes took halts taken (line_given line.entry)
             (self.old, desk.old, writer.old) result (self.new, desk.new, writer.new) };
+
+    /// Takes the line that the intake hands out, which has an LF, together with those that stand whole behind it: as many of
+    /// them as it takes so, at most so many, or none. It took so many before.
+    fn take_row(
+        &mut self,
+        _alloc: Global,
+        _desk: &mut D,
+        _writer: &mut W,
+        _taken: u64,
+        _most: u64,
+        _intake: &Intake,
+    ) -> Row<Self::Stop>
+        ensures { TakesRow took halts _taken _most _intake.now
+            (self.old, _desk.old, _writer.old) result.count result.end
+            (self.new, _desk.new, _writer.new) }
+    {
+        Row {
+            count: 0,
+            end: Ok(()),
+        }
+    }
 }
 
 /// Why no further line is fed.
@@ -219,7 +247,7 @@ impl Feeder {
                 }
                 return None;
             }
-            match self.take_line(taker, alloc, desk, writer, true) {
+            match self.take_lines(taker, alloc, desk, writer) {
                 Ok(()) => {}
                 Err(why) => return Some(Fed::Stopped(why)),
             }
@@ -308,6 +336,66 @@ impl Feeder {
         let line = self.intake.line(before_lf);
         let taken = self.taken;
         self.taken += 1;
-        taker.take(alloc, desk, writer, taken, line, &self.intake)
+        taker.take(alloc, desk, writer, taken, line)
+    }
+
+    // Has the taker take those lines together, from the one that was handed out on, that it takes so.
+    #[inline(always)]
+    fn row<D, W, T: TakesLines<D, W>>(
+        &self,
+        taker: &mut T,
+        alloc: Global,
+        desk: &mut D,
+        writer: &mut W,
+    ) -> Row<T::Stop>
+        ensures { TakesRow T.took T.halts self.now.taken (self.now.limit - self.now.taken)
+            (reading self.now) (taker.old, desk.old, writer.old) result.count result.end
+            (taker.new, desk.new, writer.new) }
+    {
+        let most = self.limit - self.taken;
+        taker.take_row(alloc, desk, writer, self.taken, most, &self.intake)
+    }
+
+    // Feeds the line that was handed out, and those behind it that the taker takes together with it.
+    #[inline(always)]
+    fn take_lines<D, W, T: TakesLines<D, W>>(
+        &mut self,
+        taker: &mut T,
+        alloc: Global,
+        desk: &mut D,
+        writer: &mut W,
+    ) -> Result<(), T::Stop>
+        requires room { self.old.taken < self.old.limit }
+        requires line { self.old.came.begun ≡ [] }
+        ensures { TakesOn T.took T.halts self.old (taker.old, desk.old, writer.old)
+            result self.new (taker.new, desk.new, writer.new) }
+    {
+        let Row { count, end } = self.row(taker, alloc, desk, writer);
+        if count > 0 {
+            self.pass(count);
+            return end;
+        }
+        match end {
+            Ok(()) => self.take_line(taker, alloc, desk, writer, true),
+            Err(why) => Err(why),
+        }
+    }
+
+    // So many lines were taken, from the one that was handed out on: the last of them is the one that was handed out now.
+    #[inline(always)]
+    fn pass(&mut self, count: usize)
+        requires some { 0 < count }
+        requires room { self.old.taken + count ≤ self.old.limit }
+        requires line { self.old.came.begun ≡ [] }
+        requires there { count ≤ 1 + length (lines_after false self.old.came []) }
+        ensures passes { Passes (count - 1) self.old.came self.new.came }
+        ensures same { self.new ≡ record self.old {
+          line = self.new.line;
+          came = self.new.came;
+          taken = self.old.taken + count;
+        } }
+    {
+        self.intake.pass(count - 1);
+        self.taken += count as u64;
     }
 }

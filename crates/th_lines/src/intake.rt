@@ -1,13 +1,11 @@
 //! Bytes that a reader gives, and the lines that are found in them.
 ghost use Rattle.std.specs.Prelude.{◌≡◌, ◌∷◌, ◌++◌, ℕ, Bool, IfSome, List, [], true, false, ◌<◌, ◌+◌, ◌≤◌, IfOk, drop, length, slice_range, take};
 ghost use Rattle.th_lines.specs.Device.{ReadMoved, bytes_moved, failures_after, one_more};
-ghost use Rattle.th_lines.specs.Intake.{Ends, Fills, Finds, IsSameLine, Reading, line_given, most_read, nothing_came, nothing_read};
+ghost use Rattle.th_lines.specs.Intake.{Ends, Fills, Finds, IsSameLine, Passes, Reading, line_given, lines_after, most_read, nothing_came, nothing_read};
 ghost use Rattle.th_lines.specs.Lines.{Good, line_of, lines_from};
-ghost use Rattle.th_lines.specs.Repeating.{Repeats};
 
 use crate::counted::{Counted, Moved};
 use crate::cut::{LINE_KEPT, LINE_LIMIT, keep_begun};
-use crate::repeats::repeats;
 use bstr::ByteSlice;
 use std::alloc::{AllocError, Global};
 use std::io::Read;
@@ -108,14 +106,14 @@ impl Intake {
         given(&self.buffer[self.line_from..self.line_to], before_lf)
     }
 
-    /// How often the line that was handed out comes next, byte for byte the same and with its LF, at most so often: fewer
-    /// times only where another line comes next, or none that is whole. It compares each byte once.
-    pub fn repeats(&self, most: usize) -> usize
-        ensures { Repeats most self.now.line self.now.came.ahead result }
+    /// Hands out so many lines that came whole, one after another: the last of them is lent then.
+    pub fn pass(&mut self, count: usize)
+        requires { count ≤ length (lines_after false self.old.came []) }
+        ensures { Passes count self.old.came self.new.came }
     {
-        let line = &self.buffer[self.line_from..self.line_to];
-        let ahead = &self.buffer[self.ahead_from..self.ahead_to];
-        repeats(line, ahead, most)
+        for passed in 0..count {
+            let _ = self.next_line();
+        }
     }
 
     /// The bytes that came behind the line that was handed out.

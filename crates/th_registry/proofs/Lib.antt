@@ -13,3 +13,4 @@ pub mod LegalHistory
 pub mod LegalChannel
 pub mod LegalTopics
 pub mod LegalEnds
+pub mod InRow

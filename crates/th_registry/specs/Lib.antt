@@ -6,6 +6,7 @@ pub mod Refusals
 pub mod Receipts
 pub mod Hub
 pub mod Typed
+pub mod Rows
 pub mod Endless
 pub mod Pictures
 pub mod Outcomes

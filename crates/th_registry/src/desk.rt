@@ -1,23 +1,25 @@
 //! What a session asks of the hub.
-ghost use Rattle.std.specs.Prelude.{◌≡◌, IfErr};
+ghost use Rattle.std.specs.Prelude.{◌≡◌, ◌+◌, ◌≤◌, IfErr, length, vec_capacity, vec_len};
 ghost use Rattle.std.specs.Option.{option_map};
 ghost use Rattle.th_model.specs.declared.handles.TxId.{TxId};
 ghost use Rattle.th_model.specs.declared.handles.RxId.{RxId};
 ghost use Rattle.th_registry.specs.Events.{Asks, Binds, DropsRx, DropsTx, Hub, Own, Receives, Resubscribes, Sends, Subscribes, any_sender};
 ghost use Rattle.th_registry.specs.Hub.{Query, Said, Find, List, Open, On, Cut};
+ghost use Rattle.th_registry.specs.Rows.{MadeInRow, sends_of, times};
 ghost use Rattle.th_registry.specs.Typed.{ended, made_rx, made_tx, replied, spent};
 
 use crate::channel::{TopicReceipt, TopicSegment};
 use crate::opening::{Found, Refusal, TopicId};
 use crate::outcome::{Made, NoEvent, Unspent};
+use std::collections::VecDeque;
 use std::time::Duration;
 use th_model::{Listing, Making, NameRef, Question, ReceiverVerb, SenderVerb, Short, Start, Value};
 
-/// The most calls of one handle that a desk is asked to have ready at once ([`Desk::ready`], [`Desk::send_ahead`]).
-pub const MOST_READY: usize = 64;
+/// The most events that a desk is asked for in one row ([`Desk::send_row`], [`Desk::by_receiver_row`]).
+pub const MOST_IN_ROW: usize = 64;
 
-/// Topics by name. Each call but `find`, `list`, `cut`, `give_back`, `wake`, `ready`, `wait` and `send_ahead` is one event, on the
-/// topic of that number or of the registry, or none; `resubscribe` is both of its events, or none. By which side of handles an event is made
+/// Topics by name. Each call but `find`, `list`, `cut`, `give_back`, `wake`, `would_wait` and `wait` is one event, on the topic of that number or of
+/// the registry, or none; `resubscribe` is both of its events, or none, and a row is as many as it answers. By which side of handles an event is made
 /// is the call's name and the type of its verb. An event's receipt is handed out, but for the end of a handle.
 pub trait Desk: Drop {
     /// A sender of a topic.
@@ -138,13 +140,8 @@ pub trait Desk: Drop {
     fn wake(&mut self)
         ensures { self.new ≡ self.old };
 
-    /// Of this receiver's next calls by a verb that waits, how many have their answer now: 0 where the first would wait.
-    /// The caller makes `most` of them, 1 to 64, before any other call by this receiver. So a desk may make their
-    /// events here, as many as it answers, and then hands out the receipts to those calls, in their order. It saves writes
-    /// and locks, and no clause rests on it. The receiver keeps its number.
-    fn ready(&mut self, topic: TopicId, receiver: &mut Self::Rx, most: usize) -> usize
-        ensures desk { self.new ≡ self.old }
-        ensures receiver { rx receiver.new ≡ rx receiver.old };
+    /// Whether this receiver's next call by this verb, that waits, would wait now. It is no event, and changes nothing.
+    fn would_wait(&self, topic: TopicId, receiver: &Self::Rx, verb: ReceiverVerb) -> bool;
 
     /// Waits until this receiver's next call by a verb that waits has its answer, but no longer than so: whether it has. It
     /// is no event, and no clause rests on it. The receiver keeps its number.
@@ -152,10 +149,35 @@ pub trait Desk: Drop {
         ensures desk { self.new ≡ self.old }
         ensures receiver { rx receiver.new ≡ rx receiver.old };
 
-    /// The caller's next calls by this sender, 1 to 64, send these values in their order, and it makes them before any other
-    /// call by this sender. So a desk may make their events here, of all or of the first ones, and then hands out the
-    /// receipts to those calls, in their order. It saves locks, and no clause rests on it. The sender keeps its number.
-    fn send_ahead(&mut self, topic: TopicId, sender: &mut Self::Tx, values: &[Value])
-        ensures desk { self.new ≡ self.old }
+    /// Sends these values by this sender in a row, from the front of the queue on, and answers how many were sent. Each send is
+    /// one event, as `by_sender` makes it, and its receipt is put behind those that the list has. None is refused: what
+    /// would be, and what is behind it, is not sent, and `by_sender` tells why. It waits for nothing. The sender keeps its
+    /// number.
+    fn send_row(
+        &mut self,
+        topic: TopicId,
+        sender: &mut Self::Tx,
+        values: &mut VecDeque<Value>,
+        receipts: &mut Vec<(TopicId, TopicReceipt)>,
+    ) -> usize
+        requires room { vec_len receipts.old + length values.old.items ≤ vec_capacity receipts.old }
+        ensures row { MadeInRow says topic.0 (sends_of (tx sender.old) values.old.items)
+            receipts.old.items receipts.new.items self.old self.new result }
         ensures sender { tx sender.new ≡ tx sender.old };
+
+    /// What a receiver does so often in a row as it has its answer at once, at most so often, and answers how often. Each is one
+    /// event, as `by_receiver` makes it, and its receipt is put behind those that the list has. None is refused: where one
+    /// would be, no further one is made, and `by_receiver` tells why. It waits for nothing. The receiver keeps its number.
+    fn by_receiver_row(
+        &mut self,
+        topic: TopicId,
+        receiver: &mut Self::Rx,
+        verb: ReceiverVerb,
+        most: usize,
+        receipts: &mut Vec<(TopicId, TopicReceipt)>,
+    ) -> usize
+        requires room { vec_len receipts.old + most ≤ vec_capacity receipts.old }
+        ensures row { MadeInRow says topic.0 (times most (Receives (rx receiver.old) verb))
+            receipts.old.items receipts.new.items self.old self.new result }
+        ensures receiver { rx receiver.new ≡ rx receiver.old };
 }

@@ -20,7 +20,7 @@ pub mod recorded;
 pub mod topics;
 
 pub use channel::Channel;
-pub use desk::{Desk, MOST_READY};
+pub use desk::{Desk, MOST_IN_ROW};
 pub use event::keep;
 pub use local::{BadLimit, LocalDesk};
 pub use opening::{Found, Refusal, TopicId};

@@ -10,6 +10,7 @@ use crate::outcome::{Made, NoEvent, Unspent};
 use crate::topics::{Channels, list, open_broadcast, open_watch};
 use indexmap::IndexMap;
 use std::alloc::Global;
+use std::collections::VecDeque;
 use std::marker::Model;
 use std::time::Duration;
 use th_log::MOST_ENTRIES;
@@ -225,13 +226,32 @@ impl Desk for LocalDesk {
 
     fn wake(&mut self) {}
 
-    fn send_ahead(&mut self, _topic: TopicId, _sender: &mut TxId, _values: &[Value]) {}
-
-    fn ready(&mut self, _topic: TopicId, _receiver: &mut RxId, most: usize) -> usize {
-        most
+    fn would_wait(&self, _topic: TopicId, _receiver: &RxId, _verb: ReceiverVerb) -> bool {
+        false
     }
 
     fn wait(&mut self, _topic: TopicId, _receiver: &mut RxId, _longest: Duration) -> bool {
         true
+    }
+    // There is no lock to save, so it makes none in a row.
+    fn send_row(
+        &mut self,
+        _topic: TopicId,
+        _sender: &mut TxId,
+        _values: &mut VecDeque<Value>,
+        _receipts: &mut Vec<(TopicId, TopicReceipt)>,
+    ) -> usize {
+        0
+    }
+
+    fn by_receiver_row(
+        &mut self,
+        _topic: TopicId,
+        _receiver: &mut RxId,
+        _verb: ReceiverVerb,
+        _most: usize,
+        _receipts: &mut Vec<(TopicId, TopicReceipt)>,
+    ) -> usize {
+        0
     }
 }

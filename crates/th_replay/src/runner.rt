@@ -11,7 +11,7 @@ use crate::fault::ReplayFault;
 use std::alloc::{AllocError, Global};
 use std::io::{Read, Write};
 use std::marker::Model;
-use th_lines::{Counted, Fed, Feeder, Intake, TakesLines, WriteBuffer, WriteFailed};
+use th_lines::{Counted, Fed, Feeder, TakesLines, WriteBuffer, WriteFailed};
 
 /// The hub of a schedule, and the replies that wait to be written.
 ///
@@ -64,7 +64,6 @@ impl<W: Write> TakesLines<(), Counted<W>> for Runner {
         writer: &mut Counted<W>,
         _taken: u64,
         line: Option<&[u8]>,
-        _intake: &Intake,
     ) -> Result<(), WriteFailed> {
         self.hub.answer(alloc, line, &mut self.out, writer)
     }

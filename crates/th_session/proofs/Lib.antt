@@ -11,3 +11,5 @@ mod Telling
 pub mod Endings
 mod Running
 mod Unkept
+mod Turns
+mod RowTaken

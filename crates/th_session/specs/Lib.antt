@@ -10,3 +10,4 @@ pub mod Quiet
 pub mod Pieces
 pub mod Ending
 pub mod Run
+pub mod Rows

@@ -1,23 +1,22 @@
 //! The replies of a session that wait to be written, and its gate, which is told of them.
 ghost use Rattle.std.specs.Prelude.{◌≡◌, [], true, false};
-ghost use Rattle.th_lines.specs.Commands.{carries_value, command_of};
-ghost use Rattle.th_lines.specs.Reads.{Reads};
-ghost use Rattle.th_lines.specs.Output.{Flushes, output};
+ghost use Rattle.th_lines.specs.Output.{AddsOrFails, Flushes, output};
 ghost use Rattle.th_session.specs.Answer.{PutsTold};
 ghost use Rattle.th_session.specs.Run.{Enters, strictness};
+ghost use Rattle.th_session.specs.Rows.{told_by};
 
+use crate::as_reply::append_told;
 use crate::fault::Stop;
 use crate::gate::Gate;
-use crate::sends_ahead::SendsAhead;
 use crate::session::{Answer, Session};
-use std::alloc::Global;
 use std::io::Write;
 use std::marker::Model;
 use std::thread::sleep;
 use std::time::{Clock, Duration};
-use th_lines::{Action, Command, Counted, Intake, LineFault, Reply, WriteBuffer, WriteFailed};
-use th_model::{NameRef, ReceiverVerb, SenderVerb, Value};
-use th_registry::{Desk, MOST_READY};
+use th_lines::{Action, Command, Counted, Reply, WriteBuffer, WriteFailed};
+use th_model::ReceiverVerb;
+use th_registry::channel::TopicReceipt;
+use th_registry::{Desk, MOST_IN_ROW};
 
 /// How often a gate is asked for one line.
 const MOST_ASKS: u32 = 1000;
@@ -42,12 +41,6 @@ pub(crate) struct Replies<'a, C, G: Gate> {
     waiting: WriteBuffer,
     // For how many lines the gate was told that their replies are written.
     told: u64,
-    // How many lines may be answered. It never changes.
-    limit: u64,
-    // How many of the next lines are the same as the last one that waits, and have their answers at the desk.
-    sure: usize,
-    // Those of the next lines that send to the same topic, and were read before they are due.
-    sends: SendsAhead,
 }
 
 impl<'a, C, G: Gate> Model for Replies<'a, C, G> {
@@ -65,39 +58,20 @@ fn tell<G: Gate>(gate: &G, session: u64, told: u64, answered: u64) {
     }
 }
 
-// Whether the command is one that waits for its answer.
-fn waits(command: &Command<'_>) -> bool {
-    matches!(
-        command,
-        Command::On(
-            _,
-            Action::ByReceiver(ReceiverVerb::Recv | ReceiverVerb::Changed)
-        )
-    )
-}
-
-// Whether the command is one that takes the next value. Of a version there is at most one to wait for.
-fn takes_a_value(command: &Command<'_>) -> bool {
-    matches!(
-        command,
-        Command::On(_, Action::ByReceiver(ReceiverVerb::Recv))
-    )
+// Whether the command is one that waits for its answer, and would wait now.
+fn waits<D: Desk>(session: &Session<D>, desk: &D, command: &Command<'_>) -> bool {
+    match command {
+        Command::On(name, Action::ByReceiver(verb)) => match verb {
+            ReceiverVerb::Recv | ReceiverVerb::Changed => session.would_wait(desk, name, *verb),
+            _ => false,
+        },
+        _ => false,
+    }
 }
 
 // Whether the answer may be longer than a line.
 fn has_lines(answer: &Answer) -> bool {
     matches!(answer, Answer::Trace | Answer::Reply(Reply::Topics(_)))
-}
-
-// How many of so many lines behind the next one the gate lets through now.
-fn let_through<G: Gate>(gate: &G, session: u64, answered: u64, most: usize) -> usize {
-    for ahead in 0..most {
-        let line = answered.saturating_add(2).saturating_add(ahead as u64);
-        if !gate.may(session, line) {
-            return ahead;
-        }
-    }
-    most
 }
 
 // Waits until the command has its answer; or not, where the gate gives it up for the session of this number.
@@ -131,8 +105,6 @@ impl<'a, C: Clock, G: Gate> Replies<'a, C, G> {
         gate: &'a G,
         session: u64,
         waiting: WriteBuffer,
-        limit: u64,
-        alloc: Global,
     ) -> Replies<'a, C, G>
         ensures { result ≡ record { text = waiting; gate = (gate.now, session) } }
     {
@@ -142,9 +114,6 @@ impl<'a, C: Clock, G: Gate> Replies<'a, C, G> {
             session,
             waiting,
             told: 0,
-            limit,
-            sure: 0,
-            sends: SendsAhead::new(alloc),
         }
     }
 
@@ -172,64 +141,20 @@ impl<'a, C: Clock, G: Gate> Replies<'a, C, G> {
         Ok(())
     }
 
-    // How many lines behind the next one may be answered, and be asked about at once. So many lines were answered.
-    fn allowed_ahead(&self, answered: u64) -> usize {
-        let allowed = self.limit.saturating_sub(answered).saturating_sub(1);
-        (MOST_READY - 1).min(allowed as usize)
+    /// Whether the gate lets the line through now that is so many behind the next one. So many lines were answered.
+    pub(crate) fn lets(&self, answered: u64, ahead: usize) -> bool {
+        let line = answered.saturating_add(1).saturating_add(ahead as u64);
+        self.gate.may(self.session, line)
     }
 
-    // How many lines behind the next one are the same as it, may be answered, and are let through now, so that they will
-    // be carried out before anything else. So many lines were answered.
-    fn same_ahead(&self, intake: &Intake, answered: u64) -> usize {
-        let same = intake.repeats(self.allowed_ahead(answered));
-        let_through(self.gate, self.session, answered, same)
-    }
-
-    /// The command that the next line spells. For the value of a send that was read before, no memory is asked.
-    #[inline(always)]
-    pub(crate) fn read<'l>(
-        &mut self,
-        alloc: Global,
-        line: &'l [u8],
-    ) -> Result<Command<'l>, LineFault>
-        ensures same { self.new ≡ self.old }
-        ensures read { Reads carries_value result (command_of line.now) }
-    {
-        self.sends.read(alloc, line)
-    }
-
-    // Tells the desk of this send together with those that stand right behind it on the same topic, may be answered, and are let
-    // through now, so that they will be carried out before anything else: where their replies go in without a write, so that
-    // none of them is left without its reply but where a write fails. So many lines were answered.
-    fn send_ahead<D: Desk>(
-        &mut self,
-        session: &mut Session<D>,
-        desk: &mut D,
-        answered: u64,
-        name: &NameRef<'_>,
-        value: &Value,
-        intake: &Intake,
-    )
-        ensures same { self.new ≡ self.old }
-        ensures session { session.new ≡ session.old }
-        ensures desk { desk.new ≡ desk.old }
-    {
-        if !self.waiting.has_room_for(MOST_READY * SENT_ROOM) {
-            return;
-        }
-        let allowed = self.allowed_ahead(answered);
-        let read = self.sends.read_on(intake, value, allowed.saturating_add(1));
-        let behind = let_through(self.gate, self.session, answered, read.saturating_sub(1));
-        let values = self.sends.first(behind.saturating_add(1));
-        if values.len() > 1 {
-            session.send_ahead(desk, name, values);
-        }
-        self.sends.begin();
+    /// Whether the replies to sends in a row go in without a write. So none of them is left without its reply but where a
+    /// write fails.
+    pub(crate) fn has_room_for_sends(&self) -> bool {
+        self.waiting.has_room_for(MOST_IN_ROW * SENT_ROOM)
     }
 
     /// Where this command would wait at the desk, it settles, and waits until it has its answer, or the gate gives it up.
-    /// So many lines were answered. Its line is the one that was handed out last: of lines behind it that are the same the
-    /// desk is asked too, once for all. And where it sends, the desk is told of the sends behind it.
+    /// So many lines were answered.
     pub(crate) fn settle_before<D: Desk, W: Write>(
         &mut self,
         session: &mut Session<D>,
@@ -237,7 +162,6 @@ impl<'a, C: Clock, G: Gate> Replies<'a, C, G> {
         writer: &mut Counted<W>,
         answered: u64,
         command: &Command<'_>,
-        intake: &Intake,
     ) -> Result<(), Stop>
         ensures session { session.new ≡ session.old }
         ensures desk { desk.new ≡ desk.old }
@@ -246,29 +170,8 @@ impl<'a, C: Clock, G: Gate> Replies<'a, C, G> {
             (output W.contents writer.old self.old.text)
             (output W.contents writer.new self.new.text) result }
     {
-        if !waits(command) {
-            if let Command::On(name, Action::BySender(SenderVerb::Send(value))) = command {
-                if self.sends.is_empty() && !intake.ahead().is_empty() {
-                    self.send_ahead(session, desk, answered, name, value, intake);
-                }
-            }
+        if !waits(session, desk, command) {
             return Ok(());
-        }
-        if self.sure > 0 {
-            self.sure -= 1;
-            return Ok(());
-        }
-        let same = if takes_a_value(command) {
-            self.same_ahead(intake, answered)
-        } else {
-            0
-        };
-        match session.ready(desk, command, same.saturating_add(1)) {
-            0 => {}
-            ready => {
-                self.sure = ready - 1;
-                return Ok(());
-            }
         }
         if self.told != answered {
             match self.settle(desk, writer, answered) {
@@ -335,5 +238,26 @@ impl<'a, C: Clock, G: Gate> Replies<'a, C, G> {
             desk.wake();
         }
         session.put_answer(answer, waiting, writer)
+    }
+    /// Puts the text of what a topic replied behind what waits, by its receipt. Where that may write, who waits for what was
+    /// done is woken before.
+    #[inline(always)]
+    pub(crate) fn put_told<D: Desk, W: Write>(
+        &mut self,
+        receipt: &TopicReceipt,
+        desk: &mut D,
+        writer: &mut Counted<W>,
+    ) -> Result<(), WriteFailed>
+        ensures desk { desk.new ≡ desk.old }
+        ensures gate { self.new.gate ≡ self.old.gate }
+        ensures told { AddsOrFails (told_by receipt.now)
+            (output W.contents writer.old self.old.text)
+            (output W.contents writer.new self.new.text) result }
+    {
+        let waiting = &mut self.waiting;
+        if !waiting.has_room() {
+            desk.wake();
+        }
+        append_told(receipt, waiting, writer)
     }
 }

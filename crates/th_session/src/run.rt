@@ -5,6 +5,7 @@ ghost use Rattle.th_lines.specs.Feeding.{failures_by};
 ghost use Rattle.th_lines.specs.Intake.{line_given};
 ghost use Rattle.th_lines.specs.Output.{output};
 ghost use Rattle.th_session.specs.Ending.{devices};
+ghost use Rattle.th_session.specs.Rows.{ServesRow};
 ghost use Rattle.th_session.specs.Run.{AnswersInTime, Ran, Served, Serves, beginning, fault_by, may_wait, reader_failures, strictness, tells_bye, writer_failures};
 ghost use Rattle.th_session.specs.Script.{Replied, has_quit};
 
@@ -14,12 +15,13 @@ use crate::fault::{SessionFault, Stop};
 use crate::gate::Gate;
 use crate::keeping::Keeping;
 use crate::replies::Replies;
+use crate::rows::{Rows, put_row};
 use crate::session::{Answer, Session};
 use std::alloc::{AllocError, Global};
 use std::io::{Read, Write};
 use std::marker::Model;
 use std::time::Clock;
-use th_lines::{Code, Counted, Fed, Feeder, Intake, Reply, TakesLines, WriteBuffer};
+use th_lines::{Code, Counted, Fed, Feeder, Intake, Reply, Row, TakesLines, WriteBuffer, read_command};
 use th_registry::Desk;
 
 /// How far a session's run has got.
@@ -31,6 +33,8 @@ struct Run<'a, D: Desk, C, G: Gate> {
     replies: Replies<'a, C, G>,
     // What is kept of the answers. It never changes.
     keeping: Keeping,
+    // Lines that are carried out in a row.
+    rows: Rows,
 }
 
 impl<'a, D: Desk, C, G: Gate> Model for Run<'a, D, C, G> {
@@ -67,8 +71,7 @@ fn tells_bye(answer: &Answer) -> bool
     }
 }
 
-// Carries out a line, and settles before one that would wait. So many lines were answered. The line is lent from the intake,
-// which shows whether the same comes next.
+// Carries out a line, and settles before one that would wait. So many lines were answered.
 #[inline(always)]
 fn answer_in_time<C: Clock, G: Gate, D: Desk, W: Write>(
     session: &mut Session<D>,
@@ -78,7 +81,6 @@ fn answer_in_time<C: Clock, G: Gate, D: Desk, W: Write>(
     writer: &mut Counted<W>,
     answered: u64,
     line: Option<&[u8]>,
-    intake: &Intake,
 ) -> Result<Answer, Stop>
     ensures answers { AnswersInTime D.says (strictness G.holds_back G.gives_up replies.old.gate)
         answered (line_given line.entry) (session.old, desk.old) (session.new, desk.new)
@@ -89,11 +91,11 @@ fn answer_in_time<C: Clock, G: Gate, D: Desk, W: Write>(
     let Some(bytes) = line else {
         return Ok(Answer::Reply(Reply::Refused(Code::LongLine)));
     };
-    let command = match replies.read(alloc, bytes) {
+    let command = match read_command(alloc, bytes) {
         Ok(command) => command,
         Err(fault) => return Ok(refused(fault)),
     };
-    match replies.settle_before(session, desk, writer, answered, &command, intake) {
+    match replies.settle_before(session, desk, writer, answered, &command) {
         Ok(()) => Ok(session.step(desk, command)),
         Err(e) => Err(e),
     }
@@ -111,7 +113,6 @@ fn serve<C: Clock, G: Gate, D: Desk, W: Write>(
     writer: &mut Counted<W>,
     answered: u64,
     line: Option<&[u8]>,
-    intake: &Intake,
 ) -> Result<(), Stop>
     ensures serves { Serves keeping D.says (strictness G.holds_back G.gives_up replies.old.gate)
         answered (line_given line.entry)
@@ -124,7 +125,7 @@ fn serve<C: Clock, G: Gate, D: Desk, W: Write>(
         Err(e) => return Err(e),
     }
     match answer_in_time(
-        session, replies, alloc, desk, writer, answered, line, intake,
+        session, replies, alloc, desk, writer, answered, line,
     ) {
         Ok(answer) => {
             let quits = tells_bye(&answer);
@@ -138,6 +139,41 @@ fn serve<C: Clock, G: Gate, D: Desk, W: Write>(
         }
         Err(why) => Err(why),
     }
+}
+
+// Carries out lines in a row, if they are one, puts their replies behind those that wait, and lets go of what is not kept.
+#[inline(always)]
+fn serve_row<C: Clock, G: Gate, D: Desk, W: Write>(
+    session: &mut Session<D>,
+    replies: &mut Replies<'_, C, G>,
+    rows: &mut Rows,
+    alloc: Global,
+    keeping: Keeping,
+    desk: &mut D,
+    writer: &mut Counted<W>,
+    answered: u64,
+    most: u64,
+    intake: &Intake,
+) -> Row<Stop>
+    ensures serves { ServesRow D.says keeping intake.now most
+        ((session.old, desk.old), output W.contents writer.old replies.old.text)
+        result.count result.end
+        ((session.new, desk.new), output W.contents writer.new replies.new.text) }
+    ensures gate { replies.new.gate ≡ replies.old.gate }
+{
+    let count = rows.carry_out(session, replies, alloc, desk, answered, most, intake);
+    if count > 0 {
+        let put = put_row(session, replies, desk, writer, count);
+        session.let_go(desk, keeping);
+        return match put {
+            Ok(()) => Row { count, end: Ok(()) },
+            Err(_) => Row {
+                count,
+                end: Err(Stop::Write),
+            },
+        };
+    }
+    Row { count, end: Ok(()) }
 }
 
 impl<'a, D: Desk, C: Clock, G: Gate, W: Write> TakesLines<D, Counted<W>> for Run<'a, D, C, G> {
@@ -169,7 +205,6 @@ impl<'a, D: Desk, C: Clock, G: Gate, W: Write> TakesLines<D, Counted<W>> for Run
         writer: &mut Counted<W>,
         taken: u64,
         line: Option<&[u8]>,
-        intake: &Intake,
     ) -> Result<(), Stop> {
         serve(
             &mut self.session,
@@ -180,6 +215,30 @@ impl<'a, D: Desk, C: Clock, G: Gate, W: Write> TakesLines<D, Counted<W>> for Run
             writer,
             taken,
             line,
+        )
+    }
+
+    // Answers the lines of a row.
+    #[inline(always)]
+    fn take_row(
+        &mut self,
+        alloc: Global,
+        desk: &mut D,
+        writer: &mut Counted<W>,
+        taken: u64,
+        most: u64,
+        intake: &Intake,
+    ) -> Row<Stop> {
+        serve_row(
+            &mut self.session,
+            &mut self.replies,
+            &mut self.rows,
+            alloc,
+            self.keeping,
+            desk,
+            writer,
+            taken,
+            most,
             intake,
         )
     }
@@ -192,7 +251,6 @@ impl<'a, D: Desk, C: Clock, G: Gate> Run<'a, D, C, G> {
         alloc: Global,
         gate: &'a G,
         number: u64,
-        limit: u64,
         keeping: Keeping,
     ) -> Result<Run<'a, D, C, G>, AllocError>
         ensures { IfOk result (λ r. r ≡ beginning keeping (gate.now, number)) }
@@ -200,8 +258,9 @@ impl<'a, D: Desk, C: Clock, G: Gate> Run<'a, D, C, G> {
         let waiting = WriteBuffer::new(alloc)?;
         Ok(Run {
             session: Session::new(alloc),
-            replies: Replies::new(clock, gate, number, waiting, limit, alloc),
+            replies: Replies::new(clock, gate, number, waiting),
             keeping,
+            rows: Rows::new(alloc),
         })
     }
 
@@ -332,7 +391,7 @@ pub fn run_session<C: Clock, R: Read, W: Write, D: Desk, G: Gate>(
     let Ok(mut feeder) = Feeder::new(alloc, bounds.lines) else {
         return (Session::new(alloc), Some(SessionFault::Short));
     };
-    let Ok(mut run) = Run::new(rt, alloc, gate, number, bounds.lines, keeping) else {
+    let Ok(mut run) = Run::new(rt, alloc, gate, number, keeping) else {
         return (Session::new(alloc), Some(SessionFault::Short));
     };
     let fault = run.go(&mut feeder, alloc, reader, writer, desk, bounds.reads);

@@ -1,9 +1,10 @@
 //! One actor, and its commands carried out.
-ghost use Rattle.std.specs.Prelude.{◌≡◌, [], option_copied};
+ghost use Rattle.std.specs.Prelude.{◌≡◌, [], List, ℕ, length, option_copied};
 ghost use Rattle.std.specs.Option.{option_map};
 ghost use Rattle.th_registry.specs.Hub.{Find};
 ghost use Rattle.th_session.specs.Held.{Holding, handles_at, held};
 ghost use Rattle.th_session.specs.Kept.{Tells, kept_by, last_of, with_receipt, with_segment};
+ghost use Rattle.th_session.specs.Rows.{CarriesFirst, ReceiveEach, ReceivesRow, SendEach, SendsRow};
 ghost use Rattle.th_session.specs.Script.{Ask, Plays, Replied, at_topic, spend_all, traced};
 ghost use Rattle.th_session.specs.Step.{IsStep};
 
@@ -13,11 +14,13 @@ use crate::keeping::Keeping;
 use crate::quit::quit;
 use crate::table::{is_for, replied_list, replied_none, replied_opening};
 use std::alloc::Global;
+use std::collections::VecDeque;
 use std::marker::Model;
 use std::time::Duration;
 use th_lines::{Action, Code, Command, Reply};
-use th_model::{NameRef, Value};
+use th_model::{Kind, NameRef, ReceiverVerb, Value};
 use th_numbered::ByNumber;
+use th_registry::calls::receives;
 use th_registry::channel::{TopicReceipt, TopicSegment};
 use th_registry::{Desk, TopicId};
 
@@ -108,26 +111,6 @@ fn trace<D: Desk>(
     }
 }
 
-// Of so many next calls by the actor's own receiver of this topic, how many have their answer now: all, where there is no
-// such receiver.
-fn ready<D: Desk>(
-    handles: &mut ByNumber<Handles<D::Tx, D::Rx>>,
-    desk: &mut D,
-    topic: TopicId,
-    most: usize,
-) -> usize
-    ensures held { held D.tx D.rx handles.new.entries ≡ held D.tx D.rx handles.old.entries }
-    ensures desk { desk.new ≡ desk.old }
-{
-    let Some(own) = handles.get_mut(topic.0) else {
-        return most;
-    };
-    let Some(receiver) = &mut own.receiver else {
-        return most;
-    };
-    desk.ready(topic, receiver, most)
-}
-
 // Waits until the next call by the actor's own receiver of this topic has its answer, but no longer than so: whether it has. It
 // has where there is no such receiver.
 fn wait<D: Desk>(
@@ -148,23 +131,53 @@ fn wait<D: Desk>(
     desk.wait(topic, receiver, longest)
 }
 
-// These are what the actor's own sender of this topic sends next, if there is one.
-fn send_ahead<D: Desk>(
+// Sends of these values by the actor's own sender of this topic, in a row: how many were sent.
+fn send_row<D: Desk>(
     handles: &mut ByNumber<Handles<D::Tx, D::Rx>>,
+    receipts: &mut Vec<(TopicId, TopicReceipt)>,
     desk: &mut D,
     topic: TopicId,
-    values: &[Value],
-)
-    ensures held { held D.tx D.rx handles.new.entries ≡ held D.tx D.rx handles.old.entries }
-    ensures desk { desk.new ≡ desk.old }
+    values: &mut VecDeque<Value>,
+) -> usize
+    ensures { let h = held D.tx D.rx handles.old.entries in
+        SendsRow D.says topic.0 h (held D.tx D.rx handles.new.entries) values.old.items
+        receipts.old.items receipts.new.items desk.old desk.new result }
 {
     let Some(own) = handles.get_mut(topic.0) else {
-        return;
+        return 0;
     };
     let Some(sender) = &mut own.sender else {
-        return;
+        return 0;
     };
-    desk.send_ahead(topic, sender, values);
+    let Ok(()) = receipts.reserve(values.len()) else {
+        return 0;
+    };
+    desk.send_row(topic, sender, values, receipts)
+}
+
+// What the actor's own receiver of this topic does, in a row: how often.
+fn receive_row<D: Desk>(
+    handles: &mut ByNumber<Handles<D::Tx, D::Rx>>,
+    receipts: &mut Vec<(TopicId, TopicReceipt)>,
+    desk: &mut D,
+    topic: TopicId,
+    verb: ReceiverVerb,
+    most: usize,
+) -> usize
+    ensures { let h = held D.tx D.rx handles.old.entries in
+        ReceivesRow D.says topic.0 h (held D.tx D.rx handles.new.entries) verb most
+        receipts.old.items receipts.new.items desk.old desk.new result }
+{
+    let Some(own) = handles.get_mut(topic.0) else {
+        return 0;
+    };
+    let Some(receiver) = &mut own.receiver else {
+        return 0;
+    };
+    let Ok(()) = receipts.reserve(most) else {
+        return 0;
+    };
+    desk.by_receiver_row(topic, receiver, verb, most, receipts)
 }
 
 // Gives these back to the desk that handed them out, in their order.
@@ -320,25 +333,25 @@ impl<D: Desk> Session<D> {
         }
     }
 
-    /// Of the next commands, so many of which are this one, that waits, how many have their answer now: 0 where the first
-    /// may wait. There is room then for the receipts of all that the desk was asked for, so that no command is refused whose
-    /// event the desk has made.
-    pub(crate) fn ready(&mut self, desk: &mut D, command: &Command<'_>, most: usize) -> usize
-        ensures session { self.new ≡ self.old }
-        ensures desk { desk.new ≡ desk.old }
-    {
-        let Command::On(name, action) = command else {
-            return most;
-        };
+    /// Whether the actor's own receiver of the topic of this name would wait now by this verb; not, where there is none.
+    pub(crate) fn would_wait(&self, desk: &D, name: &NameRef<'_>, verb: ReceiverVerb) -> bool {
         let Some(found) = desk.find(name) else {
-            return most;
+            return false;
         };
-        if !is_for(found.kind, action) {
-            return most;
+        match self.receiver_of(found.topic) {
+            Some(receiver) => desk.would_wait(found.topic, receiver, verb),
+            None => false,
         }
-        match self.receipts.reserve(most) {
-            Ok(()) => ready(&mut self.handles, desk, found.topic, most),
-            Err(_) => 0,
+    }
+
+    /// Whether the topic of this name is a broadcast topic, and the actor holds a sender of it.
+    pub(crate) fn has_broadcast_sender(&self, desk: &D, name: &NameRef<'_>) -> bool {
+        let Some(found) = desk.find(name) else {
+            return false;
+        };
+        match found.kind {
+            Kind::Broadcast => self.sender_of(found.topic).is_some(),
+            Kind::Watch => false,
         }
     }
 
@@ -359,17 +372,53 @@ impl<D: Desk> Session<D> {
         wait(&mut self.handles, desk, found.topic, longest)
     }
 
-    /// The next commands send these values to the topic of this name: the desk may make their events. There is room then for
-    /// the receipts of all of them, so that no command is refused whose event the desk has made.
-    pub(crate) fn send_ahead(&mut self, desk: &mut D, name: &NameRef<'_>, values: &[Value])
-        ensures session { self.new ≡ self.old }
-        ensures desk { desk.new ≡ desk.old }
+    /// Sends these values to the broadcast topic of this name, in a row, from the first one on: how many were sent, whose receipts
+    /// are kept behind the others. What is not sent has to be asked for by `step`, which tells why.
+    pub(crate) fn send_row(
+        &mut self,
+        desk: &mut D,
+        name: &NameRef<'_>,
+        values: &mut VecDeque<Value>,
+    ) -> usize
+        ensures { (lines : List (List ℕ)) → SendEach name.now lines values.old.items
+            → CarriesFirst D.says lines (self.old, desk.old) result (self.new, desk.new) }
     {
         let Some(found) = desk.find(name) else {
-            return;
+            return 0;
         };
-        if self.receipts.reserve(values.len()).is_ok() {
-            send_ahead(&mut self.handles, desk, found.topic, values);
+        match found.kind {
+            Kind::Broadcast => {
+                send_row(&mut self.handles, &mut self.receipts, desk, found.topic, values)
+            }
+            Kind::Watch => 0,
         }
+    }
+
+    /// What a receiver does on the topic of this name, in a row, as often as it has its answer, at most so often: how often. The
+    /// receipts are kept behind the others.
+    pub(crate) fn receive_row(
+        &mut self,
+        desk: &mut D,
+        name: &NameRef<'_>,
+        verb: ReceiverVerb,
+        most: usize,
+    ) -> usize
+        ensures { (lines : List (List ℕ)) → length lines ≡ most → ReceiveEach name.now verb lines
+            → CarriesFirst D.says lines (self.old, desk.old) result (self.new, desk.new) }
+    {
+        let Some(found) = desk.find(name) else {
+            return 0;
+        };
+        if !receives(found.kind, verb) {
+            return 0;
+        }
+        receive_row(
+            &mut self.handles,
+            &mut self.receipts,
+            desk,
+            found.topic,
+            verb,
+            most,
+        )
     }
 }

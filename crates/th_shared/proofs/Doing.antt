@@ -22,21 +22,11 @@ use Rattle.th_registry.specs.Typed.{ended}
 use Rattle.th_registry.specs.Hub.{Noted, On}
 use Rattle.th_registry.specs.Receipts.{BroadcastReceipt, ChannelReceipt, WatchReceipt}
 use Rattle.th_seats.specs.Tally.{Part}
-use Rattle.th_shared.specs.Ahead.{Ahead, told_before, told_in}
 use Rattle.th_shared.specs.declared.handles.TopicReceiver.{TopicReceiver}
 use Rattle.th_shared.specs.declared.handles.TopicReceiver.TheVariants.{Live, Spent}
-use Rattle.th_shared.specs.Doing.{Declines, DeclinesHub, Does, EndsHub, Enters, EntersAnew, EntersHub, HasEnded, HearsOf, IsTold, MovesAnew, ReceiverMoves, TellsKind, noted_of}
-use Rattle.th_shared.specs.Numbers.{TopicHandle, told_of}
+use Rattle.th_shared.specs.Doing.{Declines, DeclinesHub, Does, EndsHub, Enters, EntersHub, HasEnded, Moves, ReceiverMoves, TellsKind, noted_of}
 use Rattle.th_shared.specs.Reasons.{through_hub}
 use Rattle.th_shared.specs.Saying.{AtHub, IsOf, MayRefuse, MaySay, Notes, Says, first}
-
--- what was told of a handle that was told of all
-below-told : (h : Ahead) (place : ℕ) → h.untold ≡ [] → place < seen_of h.handle.known → place < told_in h
-below-told h place none below =
-    subst (λ (l : List BroadcastReceipt). place < told_before l (seen_of h.handle.known)) (sym none) below
-
-same-told : (old new : TopicHandle) → new ≡ old → told_of old ≤ told_of new
-same-told old new same = subst (λ (h : TopicHandle). told_of old ≤ told_of h) (sym same) (omega arith)
 
 -- of an event by a handle that stays
 module _ (n : ℕ) (e : Event) (own : is_by_hub e ≡ false) (stays : is_end e ≡ false) where
@@ -76,59 +66,45 @@ module _ (n : ℕ) (e : Event) (own : is_by_hub e ≡ false) (stays : is_end e �
   watch-kind LogFull there = there
   watch-kind Short there = there
 
-  broadcast-did : (old new : Ahead) (said : Result BroadcastReceipt NoEvent) → EntersAnew n (broadcast_call e) old new said →
-      Does n e (Broadcast old) (Broadcast new) (noted_of (broadcast_outcome e) (λ r. Broadcast r) said)
-  broadcast-did old new (Ok r) enters = record {
-    says = ((enters.0, refl), stays);
-    kind = ap is_some enters.0.0;
-    number = enters.1.number;
-    knows = (enters.1.made, enters.1.told);
-    rises = (enters.1.later, below-told new r.place enters.1.told enters.1.made.seen);
-  }
-  broadcast-did old new (Err why) enters = record {
-    says = (refl, broadcast-refuses why enters.0);
-    kind = broadcast-kind why enters.0;
-    number = ap (λ (h : Ahead). h.handle.number) enters.1;
-    knows = ap (λ (h : Ahead). Broadcast h) enters.1;
-    rises = same-told (Broadcast old) (Broadcast new) (ap (λ (h : Ahead). Broadcast h) enters.1);
-  }
-
-  pub broadcast-does : (old new : Ahead) (said : Result BroadcastReceipt NoEvent) (noted : Noted) →
-      noted ≡ noted_of (broadcast_outcome e) (λ r. Broadcast r) said →
-      EntersAnew n (broadcast_call e) old new said → Does n e (Broadcast old) (Broadcast new) noted
-  broadcast-does old new said noted is enters = subst (Does n e (Broadcast old) (Broadcast new)) (sym is) (broadcast-did old new said enters)
-
-  -- of an event that was made before
-  pub hears : (old new : Ahead) (r : BroadcastReceipt) (noted : Noted) →
-      noted ≡ noted_of (broadcast_outcome e) (λ r. Broadcast r) (Ok r) → IsOf n (broadcast_call e) r → IsTold old new r →
-      HearsOf n e (Broadcast old) (Broadcast new) noted
-  hears old new r noted is of told = subst (HearsOf n e (Broadcast old) (Broadcast new)) (sym is) (record {
-    receipt = r;
-    told = told;
-    is = refl;
-    says = ((of, refl), stays);
-  })
-
   module _ (old new : Holder) (same : new.number ≡ old.number) where
+    back : new.known ≡ old.known → new ≡ old
+    back known = ap (λ (i : ℕ). record { number = i; known = new.known }) same
+        ∙ ap (λ (k : Known). record { number = old.number; known = k }) known
+
+    broadcast-did : (said : Result BroadcastReceipt NoEvent) → Enters n (broadcast_call e) old.known new.known said →
+        Does n e (Broadcast old) (Broadcast new) (noted_of (broadcast_outcome e) (λ r. Broadcast r) said)
+    broadcast-did (Ok r) enters = record {
+      says = ((enters.0, refl), stays);
+      kind = ap is_some enters.0.0;
+      number = same;
+      knows = enters.1;
+    }
+    broadcast-did (Err why) enters = record {
+      says = (refl, broadcast-refuses why enters.0);
+      kind = broadcast-kind why enters.0;
+      number = same;
+      knows = ap (λ (h : Holder). Broadcast h) (back enters.1);
+    }
+
+    pub broadcast-does : (said : Result BroadcastReceipt NoEvent) (noted : Noted) →
+        noted ≡ noted_of (broadcast_outcome e) (λ r. Broadcast r) said →
+        Enters n (broadcast_call e) old.known new.known said → Does n e (Broadcast old) (Broadcast new) noted
+    broadcast-does said noted is enters = subst (Does n e (Broadcast old) (Broadcast new)) (sym is) (broadcast-did said enters)
+
     watch-did : (said : Result WatchReceipt NoEvent) → Enters n (watch_call e) old.known new.known said →
         Does n e (Watch old) (Watch new) (noted_of (watch_outcome e) (λ r. Watch r) said)
     watch-did (Ok r) enters = record {
       says = ((enters.0, refl), stays);
       kind = ap is_some enters.0.0;
       number = same;
-      knows = (enters.1, refl);
-      rises = (enters.1.later, enters.1.seen);
+      knows = enters.1;
     }
-    watch-did (Err why) enters =
-        let back : new ≡ old = ap (λ (i : ℕ). record { number = i; known = new.known }) same
-        ∙ ap (λ (k : Known). record { number = old.number; known = k }) enters.1 in
-        record {
-          says = (refl, watch-refuses why enters.0);
-          kind = watch-kind why enters.0;
-          number = same;
-          knows = ap (λ (h : Holder). Watch h) back;
-          rises = same-told (Watch old) (Watch new) (ap (λ (h : Holder). Watch h) back);
-        }
+    watch-did (Err why) enters = record {
+      says = (refl, watch-refuses why enters.0);
+      kind = watch-kind why enters.0;
+      number = same;
+      knows = ap (λ (h : Holder). Watch h) (back enters.1);
+    }
 
     pub watch-does : (said : Result WatchReceipt NoEvent) (noted : Noted) →
         noted ≡ noted_of (watch_outcome e) (λ r. Watch r) said →
@@ -215,21 +191,20 @@ if-through-hub P (Ok a) result is here = subst (λ r. IfOk r P) (sym is) here
 if-through-hub P (Err why) result is here = subst (λ r. IfOk r P) (sym is) tt
 
 -- what is left of a broadcast receiver, once another was asked for in its place
-abbrev pub left_of : ℕ → Option Ahead → TopicReceiver
+abbrev pub left_of : ℕ → Option Holder → TopicReceiver
 left_of n None = Spent n
 left_of n (Some h) = Live (Broadcast h)
 
-module _ {M : Type 0} (n : ℕ) (call : Option (BCall Bytes)) (old : Ahead) where
-  pub moved : (left : Option Ahead) (new : BroadcastReceipt × Option Holder) (share : Option Part) (made : M) →
-      MovesAnew n call old left (Ok (new, share)) →
-      ReceiverMoves (Broadcast old) (left_of old.handle.number left) (Ok (made, share)) (Some (Broadcast new.0))
-  moved None (r, Some h) (Some share) made moves = ((refl, moves.later), moves.moves.2)
-  moved None (r, Some h) None made moves = absurd moves.moves
-  moved None (r, None) share made moves = absurd moves.moves
-  moved (Some left) (r, None) None made moves =
-      (moves.moves.1, (moves.moves.2, moves.stays), (moves.later, below-told left r.place moves.stays moves.moves.2.seen))
-  moved (Some left) (r, None) (Some share) made moves = absurd moves.moves
-  moved (Some left) (r, Some h) share made moves = absurd moves.moves
+module _ {M : Type 0} (n : ℕ) (call : Option (BCall Bytes)) (old : Holder) where
+  pub moved : (left : Option Holder) (new : BroadcastReceipt × Option Holder) (share : Option Part) (made : M) →
+      Moves n call old left (Ok (new, share)) →
+      ReceiverMoves (Broadcast old) (left_of old.number left) (Ok (made, share)) (Some (Broadcast new.0))
+  moved None (r, Some h) (Some share) made moves = ((refl, moves.1), moves.2)
+  moved None (r, Some h) None made moves = absurd moves
+  moved None (r, None) share made moves = absurd moves
+  moved (Some left) (r, None) None made moves = (moves.1, moves.2)
+  moved (Some left) (r, None) (Some share) made moves = absurd moves
+  moved (Some left) (r, Some h) share made moves = absurd moves
 
 -- the last event of a handle, which the channel is done with
 done-broadcast : (reply : BReply Bytes) → reply ≡ BReplies.Done → Ended ≡ ended_or (is_broadcast_done reply) (Broadcast reply)

@@ -1,5 +1,5 @@
-pub mod Ahead
 pub mod Doing
 pub mod Named
 pub mod Opened
 pub mod Tables
+pub mod InRow

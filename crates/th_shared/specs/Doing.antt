@@ -1,27 +1,20 @@
 -- What a handle's event does to the handle, what it is told, and why there is none (docs/HISTORIES.md, "In the hub").
-use Rattle.std.specs.Prelude.{◌≡◌, ℕ, ◌≤◌, ◌<◌, ◌⊎◌, Bool, true, false, is_some, List, [], ◌∷◌, length, Option, Some, None, IsSome, Result, Ok, Err, IfOk, IfSome, MatchResult}
-use Rattle.std.specs.Option.{option_map}
+use Rattle.std.specs.Prelude.{◌≡◌, ℕ, ◌≤◌, ◌<◌, Bool, true, false, is_some, Option, Some, None, IsSome, Result, Ok, Err}
 use Rattle.th_seats.specs.Tally.{Part}
-use Rattle.th_block.specs.Handles.{Holder, Known, rx, seen_of, tx}
-use Rattle.th_block.specs.Rows.{CallsInRow}
-use Rattle.th_block.specs.Together.{CallsOf}
+use Rattle.th_block.specs.Handles.{Holder, Known, seen_of}
 use Rattle.th_log.specs.Outcome.{Told, counted}
-use Rattle.th_model.specs.declared.broadcast.BCall.{BCall}
-use Rattle.th_model.specs.declared.broadcast.BCall.TheVariants as BCalls
 use Rattle.th_model.specs.declared.kind.Kind.{Kind}
 use Rattle.th_model.specs.declared.kind.Kind.TheVariants as Kinds
 use Rattle.th_registry.specs.declared.channel.Channel.TheVariants.{Broadcast, Watch}
 use Rattle.th_registry.specs.declared.outcome.NoEvent.{NoEvent}
 use Rattle.th_registry.specs.declared.outcome.NoEvent.TheVariants.{WrongKind, NoSender, NotLive, LogFull, Short}
-use Rattle.th_registry.specs.Calls.{Bytes}
-use Rattle.th_registry.specs.Events.{Event, EventResult, Outcome, broadcast_call, broadcast_outcome, watch_call}
+use Rattle.th_registry.specs.Events.{Event, EventResult, Outcome, broadcast_call, watch_call}
 use Rattle.th_registry.specs.Hub.{Noted, On}
 use Rattle.th_registry.specs.Kinds.{kind_of}
-use Rattle.th_registry.specs.Receipts.{BroadcastReceipt, ChannelReceipt}
-use Rattle.th_shared.specs.Ahead.{Ahead, told_in}
+use Rattle.th_registry.specs.Receipts.{ChannelReceipt}
 use Rattle.th_shared.specs.declared.handles.TopicReceiver.{TopicReceiver}
 use Rattle.th_shared.specs.declared.handles.TopicReceiver.TheVariants.{Live, Spent}
-use Rattle.th_shared.specs.Numbers.{TopicHandle, known_of, number_of, told_of, untold_of}
+use Rattle.th_shared.specs.Numbers.{TopicHandle, known_of, number_of}
 use Rattle.th_shared.specs.Saying.{IsOf, MaySay}
 
 -- the handle has made the event of this receipt: its share has exactly one event more, at a place that the handle had not
@@ -101,79 +94,15 @@ abbrev pub TellsKind : Kind → Event → EventResult → Type 0
 TellsKind k e (Err WrongKind) = has_call k e ≡ false
 TellsKind k e said = has_call k e ≡ true
 
--- the handle has made the event of this receipt, and holds none any more that it was not told
-pub record HasMadeAnew (old new : Ahead) (r : BroadcastReceipt) : Type 0 where
-  pub number : new.handle.number ≡ old.handle.number
-  pub made : HasMade old.handle.known new.handle.known r
-  pub told : new.untold ≡ []
-  pub later : told_in old ≤ r.place
-
--- a call of a broadcast handle on a topic: one event, or none, and then nothing has changed
-abbrev pub EntersAnew : ℕ → Option (BCall Bytes) → (old new : Ahead)
-    → Result BroadcastReceipt NoEvent → Type 0
-EntersAnew n call old new (Ok r) = IsOf n call r × HasMadeAnew old new r
-EntersAnew n call old new (Err why) = Declines call why × (new ≡ old)
-
--- the next of these receipts is of this call on a topic
-abbrev pub IsNext : ℕ → Option (BCall Bytes) → List BroadcastReceipt → Type 0
-IsNext n call [] = ⊥
-IsNext n call (r ∷ rs) = IsOf n call r
-
--- of the receipts that a handle was not told it is told the next one; nothing else has changed
-pub record IsTold (old new : Ahead) (r : BroadcastReceipt) : Type 0 where
-  pub next : old.untold ≡ r ∷ new.untold
-  pub same : new.handle ≡ old.handle
-  pub later : told_in old ≤ r.place
-  pub below : r.place < told_in new
-
--- where that is of this call on a topic; else nothing has changed
-abbrev pub TellsNext : ℕ → Option (BCall Bytes) → (old new : Ahead) → Option BroadcastReceipt
-    → Type 0
-TellsNext n call old new None = (IsNext n call old.untold → ⊥) × (new ≡ old)
-TellsNext n call old new (Some r) = IsOf n call r × IsTold old new r
-
--- receives of a handle were made in a row, at most so many, and it was told of none of them: so many, where it had been told of
--- all before
-pub record ReceivesAhead (most count : ℕ) (old new : Ahead) : Type 0 where
-  pub none : old.untold ≡ []
-  pub row : CallsInRow old.handle new.handle (BCalls.Recv (rx old.handle)) new.untold
-  pub count_is : count ≡ length new.untold
-  pub within : count ≤ most
-  pub rises : told_in old ≤ told_in new
-
--- the same of sends, of the first of these values in their order
-pub record SendsAhead (values : List Bytes) (old new : Ahead) : Type 0 where
-  pub none : old.untold ≡ []
-  pub over : List Bytes
-  pub row : CallsOf (BCalls.Send (tx old.handle)) old.handle new.handle values over [] new.untold
-  pub rises : told_in old ≤ told_in new
-
--- A broadcast receiver that asks for another in its place, and what is left of it. What is told stands above all that it was
--- told before. Where it stays, it was told of all; and where there was no event, nothing has changed.
-pub record MovesAnew (n : ℕ) (call : Option (BCall Bytes)) (old : Ahead) (left : Option Ahead)
-    (said : Result ((BroadcastReceipt × Option Holder) × Option Part) NoEvent) : Type 0 where
-  pub moves : Moves n call old.handle (option_map (λ h. h.handle) left) said
-  pub later : IfOk said (λ r. told_in old ≤ r.0.0.place)
-  pub stays : MatchResult said (λ r. IfSome left (λ h. h.untold ≡ [])) (λ why. left ≡ Some old)
-
 abbrev pub place_in : ChannelReceipt → ℕ
 place_in (Broadcast r) = r.place
 place_in (Watch r) = r.place
 
--- What a handle is told, that was told so far before and is told so far now: it stands above all that was told before, and below
--- all that is told later. So the places in the receipts of a handle rise.
-abbrev pub Rises : (before now : ℕ) → Option ChannelReceipt → Type 0
-Rises before now None = before ≤ now
-Rises before now (Some r) = (before ≤ place_in r) × (place_in r < now)
-
--- what a handle knows after what is noted of its event: it has made that, and was told of all that it made; or nothing has
--- changed
+-- what a handle knows after what is noted of its event: it has made that; or nothing has changed
 abbrev pub KnowsAfter : (old new : TopicHandle) → Option ChannelReceipt → Type 0
 KnowsAfter old new None = new ≡ old
-KnowsAfter old new (Some (Broadcast r)) =
-    HasMade (known_of old) (known_of new) r × (untold_of new ≡ [])
-KnowsAfter old new (Some (Watch r)) =
-    HasMade (known_of old) (known_of new) r × (untold_of new ≡ [])
+KnowsAfter old new (Some (Broadcast r)) = HasMade (known_of old) (known_of new) r
+KnowsAfter old new (Some (Watch r)) = HasMade (known_of old) (known_of new) r
 
 -- One event of a handle on a topic, or none: what is noted of it, and the handle afterwards.
 pub record Does (n : ℕ) (e : Event) (old new : TopicHandle) (noted : Noted) : Type 0 where
@@ -181,28 +110,10 @@ pub record Does (n : ℕ) (e : Event) (old new : TopicHandle) (noted : Noted) : 
   pub kind : TellsKind (kind_of old) e noted.0
   pub number : number_of new ≡ number_of old
   pub knows : KnowsAfter old new noted.1
-  pub rises : Rises (told_of old) (told_of new) noted.1
-
--- a handle is told of an event that it made before
-pub record Hears (n : ℕ) (e : Event) (old new : Ahead) (noted : Noted) : Type 0 where
-  pub receipt : BroadcastReceipt
-  pub told : IsTold old new receipt
-  pub is : noted ≡ (Ok (broadcast_outcome e receipt.reply), Some (Broadcast receipt))
-  pub says : MaySay (On n e) noted
-
-abbrev pub HearsOf : ℕ → Event → (old new : TopicHandle) → Noted → Type 0
-HearsOf n e (Broadcast old) (Broadcast new) noted = Hears n e old new noted
-HearsOf n e old new noted = ⊥
-
--- an event of a handle: the one that it was not told, where the next of these is such a one, or else one that is made now
-abbrev pub DoesOrDid : ℕ → Event → (old new : TopicHandle) → Noted → Type 0
-DoesOrDid n e old new noted =
-    ((IsNext n (broadcast_call e) (untold_of old) → ⊥) × Does n e old new noted)
-    ⊎ HearsOf n e old new noted
 
 -- the same of a receiver, which may have been spent when another began in its place
 abbrev pub ReceiverDoes : ℕ → Event → (old new : TopicReceiver) → Noted → Type 0
-ReceiverDoes n e (Live old) (Live new) noted = DoesOrDid n e old new noted
+ReceiverDoes n e (Live old) (Live new) noted = Does n e old new noted
 ReceiverDoes n e (Live old) (Spent number) noted = ⊥
 ReceiverDoes n e (Spent number) new noted =
     (new ≡ Spent number) × (noted ≡ (Err NotLive, None))
@@ -215,11 +126,11 @@ OwnDoes n e None new noted = new ≡ None
 
 -- what is left of a receiver that asked for another in its place, and was told this
 abbrev pub Leaves : (old : TopicHandle) → (left : TopicReceiver) → Option ChannelReceipt → Type 0
-Leaves old (Spent number) (Some r) = (number ≡ number_of old) × (told_of old ≤ place_in r)
+Leaves old (Spent number) (Some r) =
+    (number ≡ number_of old) × (seen_of (known_of old) ≤ place_in r)
 Leaves old (Spent number) None = ⊥
 Leaves old (Live new) receipt =
     (number_of new ≡ number_of old) × KnowsAfter old new receipt
-    × Rises (told_of old) (told_of new) receipt
 
 -- beside that, its share where it was spent: two events of it, one, or none
 abbrev pub ReceiverMoves : {M : Type 0} → (old : TopicHandle) → (left : TopicReceiver)
@@ -234,15 +145,3 @@ ReceiverMoves old left said receipt = ⊥
 abbrev pub ReceiverLeaves : (old left : TopicReceiver) → Option ChannelReceipt → Type 0
 ReceiverLeaves (Live old) left receipt = Leaves old left receipt
 ReceiverLeaves (Spent number) left receipt = (left ≡ Spent number) × (receipt ≡ None)
-
--- receives of a receiver were made before they are asked for, at most so many; or nothing has changed
-abbrev pub ReceiverGoesAhead : (most count : ℕ) → (old new : TopicReceiver) → Type 0
-ReceiverGoesAhead most count (Live (Broadcast old)) (Live (Broadcast new)) =
-    (new ≡ old) ⊎ ReceivesAhead most count old new
-ReceiverGoesAhead most count old new = new ≡ old
-
--- the same of sends of these values
-abbrev pub SenderGoesAhead : (values : List Bytes) → (old new : TopicHandle) → Type 0
-SenderGoesAhead values (Broadcast old) (Broadcast new) =
-    (new ≡ old) ⊎ SendsAhead values old new
-SenderGoesAhead values old new = new ≡ old

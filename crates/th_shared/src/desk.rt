@@ -10,16 +10,18 @@ use crate::histories::{Histories, divide, name_of};
 use crate::registry::{ask, bind, end, find, open, subscribe};
 use crate::shared_topics::SharedTopics;
 use crate::shares::Shares;
+use crate::rows;
+use crate::rows::Rooms;
 use crate::told;
 use crate::topic_cache::TopicCache;
-use crate::untold::Room;
 use std::alloc::Global;
+use std::collections::VecDeque;
 use std::marker::Model;
 use std::mem::replace;
 use std::sync::{Arc, Wait};
 use std::time::{Clock, Duration};
 use th_model::{
-    Listing, Making, Name, NameRef, Question, ReceiverVerb, RxId, SenderVerb, Short, Start, Value,
+    BCall, Listing, Making, Name, NameRef, Question, ReceiverVerb, RxId, SenderVerb, Short, Start, Value,
     WCall,
 };
 use th_registry::channel::{TopicReceipt, TopicSegment};
@@ -33,14 +35,8 @@ use th_seats::Share;
 /// one by the hub's own sender the lock of the topics too; `list`, `open_topic` and `find` take the latter alone, but that
 /// `find` takes none for a topic of which this desk had a handle made. Neither is held while a receiver waits.
 ///
-/// An event of a sender wakes nobody before `wake`, but for those of `send_ahead`. The desk wakes too before it waits, before it
-/// goes to another channel, and where it is given up (`into_shares`, `finish`).
-///
-/// `ready` makes the receives of a broadcast receiver that it answers, at most 64 under one lock, and `by_receiver` hands out
-/// their receipts without it. `send_ahead` likewise makes the sends of a broadcast sender under one lock, wakes once, and
-/// `by_sender` hands out their receipts. The handle holds them meanwhile. Where it makes another event before it was told of
-/// all of them, or is spent, it is not told of the others: they stand in the history, and its share counts them. So what a
-/// handle is told stands above all that it was told before.
+/// An event of a sender wakes nobody before `wake`, but for those of `send_row`, which wakes once. The desk wakes too before it
+/// waits, before it goes to another channel, and where it is given up (`into_shares`, `finish`).
 #[derive(Drop)]
 pub struct SharedDesk<R: Wait + Clone> {
     // By which it waits.
@@ -52,8 +48,8 @@ pub struct SharedDesk<R: Wait + Clone> {
     deferred: Option<DeferredWake>,
     // Topics that it finds without their lock.
     cache: TopicCache,
-    // Room for the receipts of calls that a handle makes ahead.
-    spare: Option<Room>,
+    // Room for the receipts of a row.
+    rooms: Rooms,
 }
 
 impl<R: Wait + Clone> Model for SharedDesk<R> {
@@ -126,7 +122,7 @@ impl<R: Wait + Clone> SharedDesk<R> {
             shares,
             deferred: None,
             cache: TopicCache::new(alloc),
-            spare: None,
+            rooms: Rooms::new(alloc),
         }
     }
 
@@ -196,7 +192,7 @@ impl<R: Wait + Clone> SharedDesk<R> {
             shares,
             deferred,
             cache,
-            spare,
+            rooms,
         } = self;
         match Arc::try_unwrap(hub) {
             Ok(shared) => {
@@ -212,7 +208,7 @@ impl<R: Wait + Clone> SharedDesk<R> {
                 shares,
                 deferred,
                 cache,
-                spare,
+                rooms,
             }),
         }
     }
@@ -240,7 +236,11 @@ impl<R: Wait + Clock + Clone> Desk for SharedDesk<R> {
     ghost use Rattle.th_registry.specs.Events.{Asks, DropsRx, DropsTx, Own, Receives, Resubscribes, Sends, Subscribes, any_sender};
     ghost use Rattle.th_registry.specs.Hub.{On};
     ghost use Rattle.th_registry.specs.Typed.{made_rx, replied, spent};
-    ghost use Rattle.th_shared.specs.Doing.{DoesOrDid, OwnDoes, ReceiverDoes, ReceiverGoesAhead, ReceiverLeaves, SenderGoesAhead};
+    ghost use Rattle.th_shared.specs.Doing.{Does, OwnDoes, ReceiverDoes, ReceiverLeaves};
+    ghost use Rattle.th_shared.specs.InRow.{SendsInRow};
+    ghost use Rattle.std.specs.Prelude.{◌+◌, ◌++◌, ◌≤◌, List, length, vec_capacity, vec_len};
+    ghost use Rattle.th_registry.specs.Receipts.{ChannelReceipt};
+    ghost use Rattle.th_registry.specs.Rows.{MadeInRow, on_topic, sends_of};
     ghost use Rattle.th_shared.specs.Numbers.{receiver as rx_of, sender as tx_of};
     ghost use Rattle.th_shared.specs.Saying.{Says};
 
@@ -339,19 +339,14 @@ impl<R: Wait + Clock + Clone> Desk for SharedDesk<R> {
             Says self.old (On topic.0 event) (replied result) self.new }
         ensures sender { tx_of sender.new ≡ tx_of sender.old }
         ensures does { let event = Sends (tx_of sender.old) verb in
-            DoesOrDid topic.0 event sender.old sender.new (replied result) }
+            Does topic.0 event sender.old sender.new (replied result) }
     {
         let SharedDesk {
             rt,
             hub,
             deferred,
-            spare,
             ..
         } = self;
-        // Whoever waits for it was woken when it was made.
-        if let Some(receipt) = told::sent(topic, sender, &verb, spare) {
-            return Ok(receipt);
-        }
         let mut said = told::send(rt, topic, sender, verb);
         hub.tell(&mut said);
         deferred_after(rt, deferred, topic, sender, &said);
@@ -399,7 +394,6 @@ impl<R: Wait + Clock + Clone> Desk for SharedDesk<R> {
             rt,
             hub,
             deferred,
-            spare,
             ..
         } = self;
         match verb {
@@ -407,7 +401,7 @@ impl<R: Wait + Clock + Clone> Desk for SharedDesk<R> {
             _ => {}
         }
         let mut said = match receiver {
-            TopicReceiver::Live(receiver) => told::receive(rt, topic, receiver, verb, spare),
+            TopicReceiver::Live(receiver) => told::receive(rt, topic, receiver, verb),
             TopicReceiver::Spent(_) => Err(NoEvent::NotLive),
         };
         hub.tell(&mut said);
@@ -517,29 +511,13 @@ impl<R: Wait + Clock + Clone> Desk for SharedDesk<R> {
         wake(rt, deferred);
     }
 
-    fn ready(&mut self, topic: TopicId, receiver: &mut TopicReceiver, most: usize) -> usize
-        ensures desk { self.new ≡ self.old }
-        ensures receiver { rx_of receiver.new ≡ rx_of receiver.old }
-        ensures ahead { ReceiverGoesAhead most result receiver.old receiver.new }
-    {
-        let SharedDesk {
-            rt,
-            shares,
-            spare,
-            ..
-        } = self;
+    fn would_wait(&self, _topic: TopicId, receiver: &TopicReceiver, verb: ReceiverVerb) -> bool {
         match receiver {
             TopicReceiver::Live(Channel::Broadcast(receiver)) => {
-                receiver.receive_ahead(rt, topic, most, spare, shares.allocator())
+                rows::would_wait(&self.rt, receiver, verb)
             }
-            TopicReceiver::Live(Channel::Watch(reader)) => {
-                if reader.would_wait(rt, &WCall::Changed(RxId(reader.number()))) {
-                    0
-                } else {
-                    1
-                }
-            }
-            TopicReceiver::Spent(_) => most,
+            TopicReceiver::Live(Channel::Watch(reader)) => rows::would_wait(&self.rt, reader, verb),
+            TopicReceiver::Spent(_) => false,
         }
     }
 
@@ -551,7 +529,9 @@ impl<R: Wait + Clock + Clone> Desk for SharedDesk<R> {
         let SharedDesk { rt, deferred, .. } = self;
         wake(rt, deferred);
         match receiver {
-            TopicReceiver::Live(Channel::Broadcast(receiver)) => receiver.wait_for(rt, longest),
+            TopicReceiver::Live(Channel::Broadcast(receiver)) => {
+                receiver.wait_for(rt, &BCall::Recv(RxId(receiver.number())), longest)
+            },
             TopicReceiver::Live(Channel::Watch(reader)) => {
                 reader.wait_for(rt, &WCall::Changed(RxId(reader.number())), longest)
             }
@@ -559,22 +539,33 @@ impl<R: Wait + Clock + Clone> Desk for SharedDesk<R> {
         }
     }
 
-    fn send_ahead(&mut self, topic: TopicId, sender: &mut TopicSender, values: &[Value])
-        ensures desk { self.new ≡ self.old }
+    fn send_row(
+        &mut self,
+        topic: TopicId,
+        sender: &mut TopicSender,
+        values: &mut VecDeque<Value>,
+        receipts: &mut Vec<(TopicId, TopicReceipt)>,
+    ) -> usize
+        requires room { vec_len receipts.old + length values.old.items ≤ vec_capacity receipts.old }
+        ensures row { MadeInRow Says topic.0 (sends_of (tx_of sender.old) values.old.items)
+            receipts.old.items receipts.new.items self.old self.new result }
         ensures sender { tx_of sender.new ≡ tx_of sender.old }
-        ensures ahead { SenderGoesAhead values.now sender.old sender.new }
+        ensures does { (told : List ChannelReceipt) × SendsInRow topic.0 values.old.items sender.old sender.new told
+            × (receipts.new.items ≡ receipts.old.items ++ on_topic topic.0 told) }
     {
-        let SharedDesk {
-            rt,
-            shares,
-            spare,
-            ..
-        } = self;
-        match sender {
-            Channel::Broadcast(sender) => {
-                sender.send_ahead(rt, topic, values, spare, shares.allocator())
-            }
-            Channel::Watch(_) => {}
-        }
+        let SharedDesk { rt, rooms, .. } = self;
+        rows::send_row(rt, topic, sender, values, rooms, receipts)
+    }
+
+    fn by_receiver_row(
+        &mut self,
+        topic: TopicId,
+        receiver: &mut TopicReceiver,
+        verb: ReceiverVerb,
+        most: usize,
+        receipts: &mut Vec<(TopicId, TopicReceipt)>,
+    ) -> usize {
+        let SharedDesk { rt, rooms, .. } = self;
+        rows::receive_row(rt, topic, receiver, verb, most, rooms, receipts)
     }
 }

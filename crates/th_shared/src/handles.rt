@@ -1,15 +1,14 @@
 //! The handles of a topic that threads share.
-pub use crate::ahead_handle::AheadHandle;
-use th_block::{Receives, Sends, Shared, WReader, WSender};
+use th_block::{BReceiver, BSender, Shared, WReader, WSender};
 use th_model::Value;
 use th_registry::Channel;
 use th_registry::channel::{HubBroadcast, HubWatch};
 
 /// A sender of a topic.
-pub type TopicSender = Channel<AheadHandle<Sends>, WSender<Value>>;
+pub type TopicSender = Channel<BSender<Value>, WSender<Value>>;
 
 /// A live receiver of a topic.
-pub type LiveReceiver = Channel<AheadHandle<Receives>, WReader<Value>>;
+pub type LiveReceiver = Channel<BReceiver<Value>, WReader<Value>>;
 
 /// An owner of a topic's channel.
 pub(crate) type TopicOwner = Channel<Shared<HubBroadcast>, Shared<HubWatch>>;

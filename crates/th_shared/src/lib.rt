@@ -14,7 +14,6 @@
 //! A session is served at it as at any other desk. th_sockets does so over a socket.
 #![tactic(auto)]
 
-mod ahead_handle;
 mod by_hub;
 mod cut;
 mod deferred_wake;
@@ -25,15 +24,15 @@ pub mod handles;
 pub mod histories;
 mod new_handle;
 mod registry;
+mod rows;
 mod said;
 mod shared_topics;
 mod shares;
 mod told;
 mod topic;
 mod topic_cache;
-mod untold;
 
 pub use desk::SharedDesk;
 pub use ended::Ended;
-pub use handles::{AheadHandle, TopicReceiver, TopicSender};
+pub use handles::{TopicReceiver, TopicSender};
 pub use histories::Histories;

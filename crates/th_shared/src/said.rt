@@ -7,7 +7,7 @@ ghost use Rattle.th_shared.specs.Doing.{noted_of};
 ghost use Rattle.th_shared.specs.Numbers.{receiver, sender};
 ghost use Rattle.th_shared.specs.Saying.{IsNumbered, first};
 
-use crate::handles::{AheadHandle, TopicReceiver, TopicSender};
+use crate::handles::{TopicReceiver, TopicSender};
 use crate::new_handle::New;
 use th_block::{Receives, Sends};
 use th_log::Receipt;
@@ -53,7 +53,7 @@ fn broadcast_sender(new: New<HubBroadcast, Sends>) -> Made<TopicSender>
         _ => None,
     };
     let handle = match handle {
-        Some(handle) => Some(Channel::Broadcast(AheadHandle::new(handle))),
+        Some(handle) => Some(Channel::Broadcast(handle)),
         None => None,
     };
     Made {
@@ -125,7 +125,7 @@ pub(crate) fn broadcast_receiver(new: New<HubBroadcast, Receives>) -> Made<Topic
         _ => None,
     };
     let handle = match handle {
-        Some(handle) => Some(TopicReceiver::Live(Channel::Broadcast(AheadHandle::new(handle)))),
+        Some(handle) => Some(TopicReceiver::Live(Channel::Broadcast(handle))),
         None => None,
     };
     Made {

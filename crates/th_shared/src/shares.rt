@@ -1,10 +1,10 @@
 //! The shares of a desk's handles.
-use crate::handles::{AheadHandle, TopicOwner, TopicReceiver};
+use crate::handles::{TopicOwner, TopicReceiver};
 use crate::told::owner_of;
 use std::alloc::Global;
 use std::sync::Wait;
 use th_block::Handle;
-use th_registry::channel::HubWatch;
+use th_registry::channel::{HubBroadcast, HubWatch};
 use th_registry::{Channel, Made, NoEvent, TopicId};
 use th_seats::Share;
 
@@ -68,7 +68,7 @@ impl Shares {
     /// Where the share of this handle is to go once it is spent, if the desk does not keep it: an owner of its channel.
     pub(crate) fn home<S>(
         &self,
-        handle: &Channel<AheadHandle<S>, Handle<HubWatch, S>>,
+        handle: &Channel<Handle<HubBroadcast, S>, Handle<HubWatch, S>>,
     ) -> Option<TopicOwner> {
         if self.keeps {
             return None;

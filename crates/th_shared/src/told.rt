@@ -1,25 +1,24 @@
 //! The events of a topic's handles that sessions hold: by the kind of its channel, each is what the kind's own handle does, with
 //! the receipt as one of the topic.
-ghost use Rattle.std.specs.Prelude.{◌≡◌, None, Ok, Some, IfErr, IfOk, MatchOption, OnOk};
+ghost use Rattle.std.specs.Prelude.{◌≡◌, None, Ok, IfErr, IfOk, OnOk};
 ghost use Rattle.th_log.specs.Outcome.{counted};
-ghost use Rattle.th_registry.specs.Events.{Asks, DropsRx, DropsTx, Ended, Own, Receives as Received, Resubscribes, Sends as Sent, Subscribes, broadcast_call};
+ghost use Rattle.th_registry.specs.Events.{Asks, DropsRx, DropsTx, Ended, Own, Receives as Received, Resubscribes, Sends as Sent, Subscribes};
 ghost use Rattle.th_registry.specs.Hub.{On};
 ghost use Rattle.th_registry.specs.Typed.{made_rx, replied};
-ghost use Rattle.th_shared.specs.Doing.{Does, DoesOrDid, HearsOf, IsNext, ReceiverMoves};
-ghost use Rattle.th_shared.specs.Numbers.{known_of, number_of, receiver, sender, untold_of};
+ghost use Rattle.th_shared.specs.Doing.{Does, ReceiverMoves};
+ghost use Rattle.th_shared.specs.Numbers.{known_of, number_of, receiver, sender};
 ghost use Rattle.th_shared.specs.Saying.{IsEvent, MaySay, first};
 
-use crate::handles::{AheadHandle, LiveReceiver, TopicOwner, TopicReceiver, TopicSender};
+use crate::handles::{LiveReceiver, TopicOwner, TopicReceiver, TopicSender};
 use crate::said::{
     broadcast_receiver, broadcast_receivers, broadcast_told, watch_receivers, watch_told,
 };
 use crate::shares::Shares;
-use crate::untold::Room;
 use crate::{event, new_handle};
 use std::sync::Wait;
-use th_block::{Handle, Receives};
+use th_block::Handle;
 use th_model::{Question, ReceiverVerb, SenderVerb, Short, Start, Value};
-use th_registry::channel::{HubWatch, TopicReceipt};
+use th_registry::channel::{HubBroadcast, HubWatch, TopicReceipt};
 use th_registry::{Channel, Made, NoEvent, TopicId, Unspent};
 use th_seats::Share;
 
@@ -34,31 +33,8 @@ pub(crate) fn send<R: Wait>(
     ensures { Does topic.0 (Sent (sender handle.old) verb) handle.old handle.new (replied result) }
 {
     match handle {
-        Channel::Broadcast(handle) => broadcast_told(handle.send(rt, topic, verb)),
+        Channel::Broadcast(handle) => broadcast_told(event::send(rt, topic, handle, verb)),
         Channel::Watch(handle) => watch_told(event::send(rt, topic, handle, verb)),
-    }
-}
-
-/// What a sender does, where it was done before.
-#[inline(always)]
-pub(crate) fn sent(
-    topic: TopicId,
-    handle: &mut TopicSender,
-    verb: &SenderVerb<Value>,
-    spare: &mut Option<Room>,
-) -> Option<TopicReceipt>
-    ensures { let event = Sent (sender handle.old) verb.now in
-        MatchOption result
-        ((IsNext topic.0 (broadcast_call event) (untold_of handle.old) → ⊥)
-        × (handle.new ≡ handle.old))
-        (λ receipt. HearsOf topic.0 event handle.old handle.new (replied (Ok receipt))) }
-{
-    match handle {
-        Channel::Broadcast(handle) => match handle.tell_sent(topic, verb, spare) {
-            Some(receipt) => Some(Channel::Broadcast(receipt)),
-            None => None,
-        },
-        Channel::Watch(_) => None,
     }
 }
 
@@ -73,44 +49,24 @@ pub(crate) fn ask<R: Wait>(
         Does topic.0 event handle.old handle.new (replied result) }
 {
     match handle {
-        Channel::Broadcast(handle) => broadcast_told(handle.ask(rt, topic, question)),
+        Channel::Broadcast(handle) => broadcast_told(event::ask(rt, topic, handle, question)),
         Channel::Watch(handle) => watch_told(event::ask(rt, topic, handle, question)),
     }
 }
 
-// What a broadcast receiver does, where it was not done yet.
-#[inline(always)]
-fn receive_broadcast<R: Wait>(
-    rt: &R,
-    topic: TopicId,
-    handle: &mut AheadHandle<Receives>,
-    verb: ReceiverVerb,
-    spare: &mut Option<Room>,
-) -> Result<TopicReceipt, NoEvent>
-    ensures { let event = Received (record { 0 = handle.old.handle.number }) verb in
-        DoesOrDid topic.0 event (Channel.Broadcast handle.old) (Channel.Broadcast handle.new)
-        (replied result) }
-{
-    match handle.tell_received(topic, verb, spare) {
-        Some(receipt) => Ok(Channel::Broadcast(receipt)),
-        None => broadcast_told(handle.receive(rt, topic, verb)),
-    }
-}
-
-/// What a receiver does, where it was not done yet.
+/// What a receiver does.
 #[inline(always)]
 pub(crate) fn receive<R: Wait>(
     rt: &R,
     topic: TopicId,
     handle: &mut LiveReceiver,
     verb: ReceiverVerb,
-    spare: &mut Option<Room>,
 ) -> Result<TopicReceipt, NoEvent>
     ensures { let event = Received (record { 0 = number_of handle.old }) verb in
-        DoesOrDid topic.0 event handle.old handle.new (replied result) }
+        Does topic.0 event handle.old handle.new (replied result) }
 {
     match handle {
-        Channel::Broadcast(handle) => receive_broadcast(rt, topic, handle, verb, spare),
+        Channel::Broadcast(handle) => broadcast_told(event::receive(rt, topic, handle, verb)),
         Channel::Watch(handle) => watch_told(event::receive(rt, topic, handle, verb)),
     }
 }
@@ -128,7 +84,7 @@ pub(crate) fn subscribe<R: Wait>(
 {
     match handle {
         Channel::Broadcast(handle) => {
-            broadcast_receivers(handle.subscribe(rt, topic, start, shares))
+            broadcast_receivers(new_handle::subscribe(rt, topic, handle, start, shares))
         }
         Channel::Watch(handle) => {
             watch_receivers(new_handle::subscribe(rt, topic, handle, start, shares))
@@ -162,7 +118,7 @@ pub(crate) fn resubscribe<R: Wait>(
         }
     };
     let number = old.number();
-    let (left, said) = old.resubscribe(rt, topic, shares);
+    let (left, said) = new_handle::resubscribe(rt, topic, old, shares);
     let left = match left {
         Some(left) => TopicReceiver::Live(Channel::Broadcast(left)),
         None => TopicReceiver::Spent(number),
@@ -186,7 +142,7 @@ pub(crate) fn end_sender<R: Wait>(
         (unspent.handle ≡ handle) × (unspent.why ≡ NoEvent.NotLive)) }
 {
     match handle {
-        Channel::Broadcast(handle) => match handle.end(rt, topic) {
+        Channel::Broadcast(handle) => match event::end(rt, topic, handle) {
             Ok(share) => Ok(share),
             Err(handle) => Err(Unspent {
                 handle: Channel::Broadcast(handle),
@@ -216,7 +172,7 @@ pub(crate) fn end_receiver<R: Wait>(
         (unspent.handle ≡ TopicReceiver.Live handle) × (unspent.why ≡ NoEvent.NotLive)) }
 {
     match handle {
-        Channel::Broadcast(handle) => match handle.end(rt, topic) {
+        Channel::Broadcast(handle) => match event::end(rt, topic, handle) {
             Ok(share) => Ok(share),
             Err(handle) => Err(Unspent {
                 handle: TopicReceiver::Live(Channel::Broadcast(handle)),
@@ -235,7 +191,7 @@ pub(crate) fn end_receiver<R: Wait>(
 
 /// An owner of a handle's channel.
 pub(crate) fn owner_of<S>(
-    handle: &Channel<AheadHandle<S>, Handle<HubWatch, S>>,
+    handle: &Channel<Handle<HubBroadcast, S>, Handle<HubWatch, S>>,
 ) -> Result<TopicOwner, Short<()>> {
     Ok(match handle {
         Channel::Broadcast(handle) => Channel::Broadcast(handle.shared()?),

@@ -29,9 +29,5 @@ returns-in-Err-clause-answers g c =
     IsAnswered g.D.Desk.says (line_given line) (c.args.session.now, c.args.desk.now) answer (c.args.session.now, c.args.desk.now) in
     let bad =
     refused_line g.D.Desk.says c.args.session.now c.args.desk.now
-    (command_of c.in-Some.bytes.now) c.in-Err.fault c.in-Err.ensures.read in
-    let at : List ℕ → Output = λ waiting. output g.W.Write.contents c.args.writer.now waiting in
-    let none =
-    subst (λ (r : Unwritten g.row.G.Denot). Adds [] (at c.args.replies.now.text) (at r.text)) (sym c.read.ensures.same)
-    (adds_none (at c.args.replies.now.text)) in
-    ((answer, c.refused.ensures, subst P (sym c.in-Some.is) bad), none)
+    (command_of c.in-Some.bytes.now) c.in-Err.fault c.in-Err.ensures.exact in
+    ((answer, c.refused.ensures, subst P (sym c.in-Some.is) bad), adds_none _)

@@ -10,10 +10,10 @@ use Rattle.th_shared.proofs.told.ask.Goals as goal
 pub returns-in-Broadcast : goal.returns-in-Broadcast
 returns-in-Broadcast g c =
     let own = c.in-Broadcast.handle in
-    subst (λ (h : TopicHandle). Does c.args.topic.0 (Asks (Own (sender h)) c.args.question) h (Broadcast c.ask.new.self) (replied c.broadcast_told.result))
+    subst (λ (h : TopicHandle). Does c.args.topic.0 (Asks (Own (sender h)) c.args.question) h (Broadcast c.ask.new.sender) (replied c.broadcast_told.result))
     (sym c.in-Broadcast.is)
-    (broadcast-does c.args.topic.0 (Asks (Own (record { 0 = own.handle.number })) c.args.question) refl refl own c.ask.new.self
-    c.ask.result _ c.broadcast_told.ensures c.ask.ensures)
+    (broadcast-does c.args.topic.0 (Asks (Own (record { 0 = own.number })) c.args.question) refl refl own c.ask.new.sender
+    c.ask.ensures.number c.ask.result _ c.broadcast_told.ensures c.ask.ensures.enters)
 
 pub returns-in-Watch : goal.returns-in-Watch
 returns-in-Watch g c =

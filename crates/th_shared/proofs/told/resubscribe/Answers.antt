@@ -11,7 +11,7 @@ use Rattle.th_shared.proofs.told.resubscribe.Goals as goal
 
 pub returns-in-Ok-clause-moves : goal.returns-in-Ok-clause-moves
 returns-in-Ok-clause-moves g c =
-    let number = c.in-Broadcast.old.handle.number in
+    let number = c.in-Broadcast.old.number in
     let left : c.match-left.left ≡ left_of number c.resubscribe-left.result.0 = elim c.match-left.branch [
       | in-Some w ↦ w.left-is ∙ ap (left_of number) (sym w.in-Some.is)
       | in-None w ↦ w.left-is ∙ ap (λ n. Spent n) c.number-number.ensures ∙ ap (left_of number) (sym w.in-None.is)

@@ -10,10 +10,10 @@ use Rattle.th_shared.proofs.told.send.Goals as goal
 pub returns-in-Broadcast : goal.returns-in-Broadcast
 returns-in-Broadcast g c =
     let own = c.in-Broadcast.handle in
-    subst (λ (h : TopicHandle). Does c.args.topic.0 (Sends (sender h) c.args.verb) h (Broadcast c.send.new.self) (replied c.broadcast_told.result))
+    subst (λ (h : TopicHandle). Does c.args.topic.0 (Sends (sender h) c.args.verb) h (Broadcast c.send.new.sender) (replied c.broadcast_told.result))
     (sym c.in-Broadcast.is)
-    (broadcast-does c.args.topic.0 (Sends (record { 0 = own.handle.number }) c.args.verb) refl refl own c.send.new.self
-    c.send.result _ c.broadcast_told.ensures c.send.ensures)
+    (broadcast-does c.args.topic.0 (Sends (record { 0 = own.number }) c.args.verb) refl refl own c.send.new.sender
+    c.send.ensures.number c.send.result _ c.broadcast_told.ensures c.send.ensures.enters)
 
 pub returns-in-Watch : goal.returns-in-Watch
 returns-in-Watch g c =

@@ -11,10 +11,10 @@ use Rattle.th_shared.proofs.told.subscribe.Goals as goal
 pub returns-in-Broadcast : goal.returns-in-Broadcast
 returns-in-Broadcast g c =
     let own = c.in-Broadcast.handle in
-    subst (λ (h : TopicHandle). Does c.args.topic.0 (Subscribes c.args.start (Own (sender h))) h (Broadcast c.subscribe.new.self) (made_rx receiver c.broadcast_receivers.result))
+    subst (λ (h : TopicHandle). Does c.args.topic.0 (Subscribes c.args.start (Own (sender h))) h (Broadcast c.subscribe.new.sender) (made_rx receiver c.broadcast_receivers.result))
     (sym c.in-Broadcast.is)
-    (broadcast-does c.args.topic.0 (Subscribes c.args.start (Own (record { 0 = own.handle.number }))) refl refl own c.subscribe.new.self
-    (first c.subscribe.result) _ c.broadcast_receivers.ensures c.subscribe.ensures.enters)
+    (broadcast-does c.args.topic.0 (Subscribes c.args.start (Own (record { 0 = own.number }))) refl refl own c.subscribe.new.sender
+    c.subscribe.ensures.number (first c.subscribe.result) _ c.broadcast_receivers.ensures c.subscribe.ensures.enters)
 
 pub returns-in-Watch : goal.returns-in-Watch
 returns-in-Watch g c =

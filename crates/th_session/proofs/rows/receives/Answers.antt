@@ -1,0 +1,14 @@
+use Rattle.std.proofs.Common.{◌≡◌, ◌≤◌, arith, length}
+use Rattle.th_registry.specs.Rows.{times}
+use Rattle.th_session.proofs.Turns.{carries_lines, same_each, so_many_same}
+use Rattle.th_session.proofs.rows.receives.Goals as goal
+
+pub returns : goal.returns
+returns g c =
+    let same = c.count_same-same.result in
+    let lines = times same c.args.line.now in
+    let many : length lines ≡ same = so_many_same same c.args.line.now in
+    let few : length lines ≤ c.args.most = omega (arith, many, c.count_same-same.ensures.most) in
+    carries_lines g.D.Desk.says c.args.line.now c.args.ahead.now c.args.most lines (c.args.session.now, c.args.desk.now)
+    c.receive_row.result (c.receive_row.new.self, c.receive_row.new.desk) c.count_same-same.ensures.same few
+    (c.receive_row.ensures lines many (same_each c.in-Some.name c.in-Some.verb c.args.line.now same c.in-Some.ensures))

@@ -1,0 +1,22 @@
+use Rattle.std.proofs.Common.{◌∙◌, subst, sym}
+use Rattle.th_session.specs.Kept.{Kept}
+use Rattle.th_session.specs.Held.{held}
+use Rattle.th_session.specs.Rows.{CarriesFirst}
+use Rattle.th_session.proofs.Turns.{receives_carry}
+use Rattle.th_session.proofs.session.Session.receive_row.Goals as goal
+
+pub returns : goal.returns
+returns g c = λ lines many p.
+    let i = c.self.inside in
+    let had : Kept = record {
+      handles = held g.D.Desk.tx g.D.Desk.rx i.handles.entries;
+      receipts = i.receipts.items;
+      segments = i.segments.items;
+    } in
+    let h = held g.D.Desk.tx g.D.Desk.rx c.receive_row.new.handles.entries in
+    let has : Kept = record had { handles = h; receipts = c.receive_row.new.receipts.items } in
+    let fits = sym c.receives.ensures ∙ c.if-not-receives.false in
+    subst (λ (k : Kept). CarriesFirst g.D.Desk.says lines (k, c.args.desk.now) c.receive_row.result (has, c.receive_row.new.desk))
+    c.self.view_is
+    (receives_carry g.D.Desk.says c.in-Some.found c.args.name.now had h c.receive_row.new.receipts.items c.args.desk.now
+    c.receive_row.new.desk c.in-Some.ensures c.receive_row.result lines c.args.verb c.args.most fits many p c.receive_row.ensures)
