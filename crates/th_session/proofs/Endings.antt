@@ -8,11 +8,17 @@ use Rattle.th_lines.specs.Intake.{lines_after}
 use Rattle.th_lines.specs.Lines.{Line, lines_from, lines_of}
 use Rattle.th_lines.specs.Output.{Output, WritesFront}
 use Rattle.th_lines.proofs.LineLemmas.{last_line-none, lines_from-some}
+use Rattle.th_session.specs.Run.{IsFirst}
 use Rattle.th_session.specs.Ending.{AllAnswered, AppendsFront, Devices, FirstAnswered, PastLines, WholeAnswered}
 
 -- the first items of a list in two parts
 front_of : {X : Type 0} (xs ys : List X) (n : ℕ) → n ≡ length xs → take n (xs ++ ys) ≡ xs
 front_of xs ys n e = ap (λ (k : ℕ). take k (xs ++ ys)) e ∙ take-append_seam xs ys
+
+-- the first of some lines is that of these and more
+first_of_more : (Is : Line → Type 0) (lines more : List Line) → IsFirst Is lines → IsFirst Is (lines ++ more)
+first_of_more Is [] more never = absurd never
+first_of_more Is (line ∷ lines) more is = is
 
 -- how a text came to a writer that had this, and has this then
 abbrev pub Writing : Type 1
@@ -144,11 +150,9 @@ module _ {P E : Type 0} {took : P → List Line → P → Type 0} {halts : P →
           wrote = wrote;
         }
 
-    -- and others are not, behind so many that it may be
-    pub held_back : (may_say_no : ℕ → Bool) → 0 < length later → may_say_no (0 + length first) ≡ true →
-        (g : FirstAnswered answers f.limit old new writes) × (0 < length g.later) × (may_say_no (length g.first) ≡ true)
+    -- and the next one is such a one, behind so many
+    pub held_back : (May : ℕ → Line → Type 0) → IsFirst (May (0 + length first)) later →
+        (g : FirstAnswered answers f.limit old new writes) × IsFirst (May (length g.first)) g.later
     unfolding first_halted
-    held_back may_say_no some may =
-        let more = s.lines f.ended [] (λ e. (e, refl)) in
-        let so_many : length first ≡ 0 + length first = omega arith in
-        (first_halted, omega (arith, some, length-append later more.0), ap may_say_no so_many ∙ may)
+    held_back May may =
+        let more = s.lines f.ended [] (λ e. (e, refl)) in (first_halted, first_of_more (May (length first)) later more.0 may)

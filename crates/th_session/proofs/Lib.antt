@@ -9,6 +9,7 @@ pub mod Live
 pub mod Living
 mod Telling
 pub mod Endings
+mod Letting
 mod Running
 mod Unkept
 mod Turns

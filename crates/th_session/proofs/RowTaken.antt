@@ -22,7 +22,9 @@ use Rattle.th_session.specs.declared.fault.Stop.TheVariants as stop
 use Rattle.th_session.specs.declared.keeping.Keeping.{Keeping}
 use Rattle.th_session.specs.Kept.{Kept, kept_by}
 use Rattle.th_session.specs.Rows.{Carried, CarriesOut, RowEnds, ServesRow, told_by, with_more}
-use Rattle.th_session.specs.Run.{IsOver, Progress, Strictness, Took, line_turn, quitting, stands}
+use Rattle.th_session.specs.Run.{AreLet, BreaksOff, IsOver, Progress, Strictness, Took, line_turn, quitting, stands}
+use Rattle.th_session.proofs.Letting.{first_let, more_let, row_let}
+use Rattle.th_session.proofs.Running.{breaks_off_after}
 
 -- the texts of the receipts that came last
 texts_on : (n : ℕ) (added : List ChannelReceipt) → map (λ r. told_by r.1) (on_topic n added) ≡ map told_by added
@@ -117,15 +119,14 @@ answers_both {S} {turn} {a} {b} {c} {xs} {ys} p q = record {
   said = subst (λ (l : List ℕ). Adds l a.1 c.1) (sym (concat-append p.texts q.texts)) (adds_both p.said q.said);
 }
 
-module _ {W D G : Type 0} (says : D → (q : Query) → Said q → D → Type 0) (strict : G × ℕ → Strictness)
-    (contents : W → Option (List ℕ)) where
+module _ {W D : Type 0} (says : D → (q : Query) → Said q → D → Type 0) (contents : W → Option (List ℕ)) where
   -- a run takes a row
-  pub row_taken : (taken most : ℕ) (there : Reading) (old new : Progress G × D × Tally W) (count : ℕ) (r : Result (Unit {0}) Stop) →
-      new.0.keeping ≡ old.0.keeping → new.0.gate ≡ old.0.gate
+  pub row_taken : (taken most : ℕ) (there : Reading) (old new : Progress × D × Tally W) (count : ℕ) (r : Result (Unit {0}) Stop) →
+      new.0.keeping ≡ old.0.keeping → new.0.gate ≡ old.0.gate → AreLet old.0.gate taken count
       → ServesRow says old.0.keeping there most (stands contents old) count r (stands contents new) →
-      TakesRow (Took says strict contents) (IsOver says strict contents) taken most there old count r new
-  row_taken taken most there old new count (Err why) same gate (inl none) = absurd (false≢true none.2)
-  row_taken taken most there old new count (Ok x) same gate (inl none) = record {
+      TakesRow (Took says contents) (IsOver says contents) taken most there old count r new
+  row_taken taken most there old new count (Err why) same gate these (inl none) = absurd (false≢true none.2)
+  row_taken taken most there old new count (Ok x) same gate these (inl none) = record {
     row = [];
     is = record { counted = sym none.0; first = λ ended more. (_, refl) };
     within = omega (arith, none.0);
@@ -133,13 +134,14 @@ module _ {W D G : Type 0} (says : D → (q : Query) → Said q → D → Type 0)
     takes = λ from lines many t. (
       same ∙ t.0,
       gate ∙ t.1,
+      subst (λ (ls : List Line). AreLet from.0.gate 0 (length ls)) (sym (append-nil lines)) t.2,
       subst (λ (ls : List Line). Answers (line_turn from.0.keeping says) (quitting false (stands contents from)) ls
           (quitting false (stands contents new))) (sym (append-nil lines))
           (subst (λ (at : (Kept × D) × Output). Answers (line_turn from.0.keeping says) (quitting false (stands contents from)) lines
-          (quitting false at)) (sym none.1) t.2),
+          (quitting false at)) (sym none.1) t.3),
     );
   }
-  row_taken taken most there old new count (Ok x) same gate (inr (row, is, within, some, ends)) = record {
+  row_taken taken most there old new count (Ok x) same gate these (inr (row, is, within, some, ends)) = record {
     row = row;
     is = is;
     within = within;
@@ -147,11 +149,12 @@ module _ {W D G : Type 0} (says : D → (q : Query) → Said q → D → Type 0)
     takes = λ from lines many t. (
       same ∙ t.0,
       gate ∙ t.1,
-      answers_both t.2 (subst (λ (k : Keeping). Answers (line_turn k says) (quitting false (stands contents old)) row
+      more_let from.0.gate taken lines row many t.2 (row_let from.0.gate old.0.gate taken count row t.1 is.counted these),
+      answers_both t.3 (subst (λ (k : Keeping). Answers (line_turn k says) (quitting false (stands contents old)) row
           (quitting false (stands contents new))) t.0 ends),
     );
   }
-  row_taken taken most there old new count (Err why) same gate (inr (row, is, within, some, ends)) = record {
+  row_taken taken most there old new count (Err why) same gate these (inr (row, is, within, some, ends)) = record {
     row = row;
     is = is;
     within = within;
@@ -159,6 +162,10 @@ module _ {W D G : Type 0} (says : D → (q : Query) → Said q → D → Type 0)
     takes = λ from lines many t.
         let b = subst (λ (k : Keeping). Breaks (line_turn k says) false (quitting false (stands contents old)) row
             (quitting false (stands contents new))) t.0 ends.1 in
-        subst (λ (w : Stop). IsOver says strict contents from (lines ++ row) w new) (sym ends.0) (false, breaks_after t.2 b);
+        let fewer : length b.done ≤ length row = omega (arith, ap (λ (l : List Line). length l) b.parts, length-append b.done b.later) in
+        let let_done = first_let from.0.gate taken (length b.done) (length row) fewer
+            (row_let from.0.gate old.0.gate taken count row t.1 is.counted these) in
+        subst (λ (w : Stop). IsOver says contents from (lines ++ row) w new) (sym ends.0) (false,
+            breaks_off_after from.0.keeping says from.0.gate taken (stands contents from) (stands contents old) (stands contents new) lines row
+            many t.2 t.3 false false (b, let_done));
   }
-

@@ -290,6 +290,13 @@ are_there line ahead rest lines p ended more = (lines_from ended [] (rest ++ mor
 
 module _ {D : Type 0} (says : D → (q : Query) → Said q → D → Type 0) where
   -- the first ones of lines that are there were carried out
+  -- no more than there are
+  pub no_more_than : (lines : List Bytes) (old : Kept × D) (count : ℕ) (new : Kept × D) → CarriesFirst says lines old count new →
+      count ≤ length lines
+  no_more_than lines old count new (inl none) = omega (arith, none.0)
+  no_more_than lines old count new (inr (done, later, parts, many, carried)) =
+      omega (arith, ap length parts, many, length-append done later)
+
   pub carries_lines : (line ahead : List ℕ) (most : ℕ) (lines : List Bytes) (old : Kept × D) (count : ℕ) (new : Kept × D) →
       AreThere line ahead lines → length lines ≤ most → CarriesFirst says lines old count new →
       CarriesLines says line ahead most old count new

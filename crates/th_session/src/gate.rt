@@ -12,12 +12,16 @@ pub trait Gate {
     /// Whether it may hold the line of this number of this session back. A gate that does not say may hold back any.
     ghost holds_back: { Self → (session : ℕ) → (line : ℕ) → Bool } = { λ _ _ _. true };
 
+    /// Whether it may let the line of this number of this session through. A gate that does not say may let any.
+    ghost lets: { Self → (session : ℕ) → (line : ℕ) → Bool } = { λ _ _ _. true };
+
     /// Whether it may give this session up while that waits for an answer. A gate that does not say may.
     ghost gives_up: { Self → (session : ℕ) → Bool } = { λ _ _. true };
 
     /// Whether this line of this session may be carried out now. Lines are counted from 1.
     fn may(&self, session: u64, line: u64) -> bool
-        ensures { result ≡ false → holds_back self.now session line ≡ true };
+        ensures no { result ≡ false → holds_back self.now session line ≡ true }
+        ensures yes { result ≡ true → lets self.now session line ≡ true };
 
     /// The reply to this line of this session is written and flushed. This comes once for each line that was carried
     /// out, in their order; after a failed write it comes no more.

@@ -1,8 +1,8 @@
 //! The replies of a session that wait to be written, and its gate, which is told of them.
-ghost use Rattle.std.specs.Prelude.{◌≡◌, [], true, false};
+ghost use Rattle.std.specs.Prelude.{◌≡◌, ◌+◌, [], true, false};
 ghost use Rattle.th_lines.specs.Output.{AddsOrFails, Flushes, output};
 ghost use Rattle.th_session.specs.Answer.{PutsTold};
-ghost use Rattle.th_session.specs.Run.{Enters, strictness};
+ghost use Rattle.th_session.specs.Run.{Awaits, Enters, IsLet, strictness, waits};
 ghost use Rattle.th_session.specs.Rows.{told_by};
 
 use crate::as_reply::append_told;
@@ -44,11 +44,14 @@ pub(crate) struct Replies<'a, C, G: Gate> {
 }
 
 impl<'a, C, G: Gate> Model for Replies<'a, C, G> {
-    ghost use Rattle.th_session.specs.Run.{Unwritten};
+    ghost use Rattle.th_session.specs.Run.{Unwritten, strictness};
 
-    ghost Value = { Unwritten G };
+    ghost Value = { Unwritten };
 
-    ghost view = { λ r. record { text = r.waiting; gate = (r.gate.now, r.session) } };
+    ghost view = { λ r. record {
+      text = r.waiting;
+      gate = strictness G.holds_back G.lets G.gives_up r.gate.now r.session;
+    } };
 }
 
 // Tells the gate of each line behind the first ones, up to the one of this number.
@@ -59,7 +62,9 @@ fn tell<G: Gate>(gate: &G, session: u64, told: u64, answered: u64) {
 }
 
 // Whether the command is one that waits for its answer, and would wait now.
-fn waits<D: Desk>(session: &Session<D>, desk: &D, command: &Command<'_>) -> bool {
+fn would_wait<D: Desk>(session: &Session<D>, desk: &D, command: &Command<'_>) -> bool
+    ensures { result ≡ true → waits command.now ≡ true }
+{
     match command {
         Command::On(name, Action::ByReceiver(verb)) => match verb {
             ReceiverVerb::Recv | ReceiverVerb::Changed => session.would_wait(desk, name, *verb),
@@ -106,7 +111,10 @@ impl<'a, C: Clock, G: Gate> Replies<'a, C, G> {
         session: u64,
         waiting: WriteBuffer,
     ) -> Replies<'a, C, G>
-        ensures { result ≡ record { text = waiting; gate = (gate.now, session) } }
+        ensures { result ≡ record {
+            text = waiting;
+            gate = strictness G.holds_back G.lets G.gives_up gate.now session;
+        } }
     {
         Replies {
             clock,
@@ -142,7 +150,10 @@ impl<'a, C: Clock, G: Gate> Replies<'a, C, G> {
     }
 
     /// Whether the gate lets the line through now that is so many behind the next one. So many lines were answered.
-    pub(crate) fn lets(&self, answered: u64, ahead: usize) -> bool {
+    pub(crate) fn lets(&self, answered: u64, ahead: usize) -> bool
+        ensures { result ≡ true →
+            IsLet self.now.gate (answered + ahead) }
+    {
         let line = answered.saturating_add(1).saturating_add(ahead as u64);
         self.gate.may(self.session, line)
     }
@@ -166,11 +177,11 @@ impl<'a, C: Clock, G: Gate> Replies<'a, C, G> {
         ensures session { session.new ≡ session.old }
         ensures desk { desk.new ≡ desk.old }
         ensures gate { self.new.gate ≡ self.old.gate }
-        ensures wrote { Enters (strictness G.holds_back G.gives_up self.old.gate) answered
-            (output W.contents writer.old self.old.text)
+        ensures wrote { Awaits self.old.gate
+            (waits command.now ≡ true) (output W.contents writer.old self.old.text)
             (output W.contents writer.new self.new.text) result }
     {
-        if !waits(session, desk, command) {
+        if !would_wait(session, desk, command) {
             return Ok(());
         }
         if self.told != answered {
@@ -196,7 +207,7 @@ impl<'a, C: Clock, G: Gate> Replies<'a, C, G> {
     ) -> Result<(), Stop>
         ensures desk { desk.new ≡ desk.old }
         ensures gate { self.new.gate ≡ self.old.gate }
-        ensures wrote { Enters (strictness G.holds_back G.gives_up self.old.gate) answered
+        ensures wrote { Enters self.old.gate answered
             (output W.contents writer.old self.old.text)
             (output W.contents writer.new self.new.text) result }
     {

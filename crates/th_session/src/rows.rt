@@ -1,5 +1,5 @@
 //! Lines that came together and are carried out in a row: sends to one topic, or what one receiver takes again and again.
-ghost use Rattle.std.specs.Prelude.{◌≡◌, ◌∷◌, ◌++◌, ◌≤◌, ◌<◌, ◌-◌, Bool, List, [], ℕ, Some, IfSome, MatchOption, drop, length, map};
+ghost use Rattle.std.specs.Prelude.{◌≡◌, ◌∷◌, ◌++◌, ◌+◌, ◌≤◌, ◌<◌, ◌-◌, Bool, List, [], ℕ, Some, IfSome, MatchOption, drop, length, map};
 ghost use Rattle.std.specs.List.{concat};
 ghost use Rattle.th_lines.specs.Commands.{command_of};
 ghost use Rattle.th_lines.specs.Lines.{Good, lines_from};
@@ -7,6 +7,7 @@ ghost use Rattle.th_lines.specs.Output.{AddsOrFails, output};
 ghost use Rattle.th_lines.specs.declared.command.Action.TheVariants.{ByReceiver, BySender};
 ghost use Rattle.th_lines.specs.declared.command.Command.TheVariants.{On};
 ghost use Rattle.th_model.specs.declared.verb.SenderVerb.TheVariants.{Send};
+ghost use Rattle.th_session.specs.Run.{AreLet, IsLet};
 ghost use Rattle.th_session.specs.Rows.{AreThere, CarriesLines, CarriesOut, SendEach, told_by};
 ghost use Rattle.th_registry.specs.Rows.{times};
 
@@ -109,9 +110,11 @@ fn count_same<C: Clock, G: Gate>(
     ahead: &[u8],
     most: usize,
 ) -> usize
-    requires { 0 < most }
+    requires some { 0 < most }
+    requires first { IsLet replies.now.gate answered }
     ensures most { result ≤ most }
     ensures same { AreThere line.now ahead.now (times result line.now) }
+    ensures let_through { AreLet replies.now.gate answered result }
 {
     let mut rest = ahead;
     for count in 1..most {
@@ -138,7 +141,9 @@ fn read_next<'b, C: Clock, G: Gate>(
     bytes: &'b [u8],
     values: &mut VecDeque<Value>,
 ) -> Option<&'b [u8]>
-    ensures { MatchOption result (values.new.items ≡ values.old.items)
+    ensures let_through { IfSome result
+        (λ _. IsLet replies.now.gate (answered + ahead)) }
+    ensures read { MatchOption result (values.new.items ≡ values.old.items)
         (λ behind. (line : List ℕ) × (value : List ℕ)
         × (command_of line ≡ Some (On name.now (BySender (Send value))))
         × (values.new.items ≡ values.old.items ++ value ∷ [])
@@ -169,7 +174,9 @@ fn read_sends<'l, C: Clock, G: Gate>(
 ) -> Option<NameRef<'l>>
     requires some { 0 < most }
     requires none { values.old.items ≡ [] }
+    requires first { IsLet replies.now.gate answered }
     ensures { IfSome result (λ name. (lines : List (List ℕ)) × (length lines ≤ most)
+        × AreLet replies.now.gate answered (length lines)
         × SendEach name lines values.new.items × AreThere line.now ahead.now lines) }
 {
     let (name, value) = send_of(alloc, line)?;
@@ -224,9 +231,11 @@ impl Rows {
         line: &[u8],
         ahead: &[u8],
     ) -> usize
-        requires { 0 < most }
-        ensures { CarriesLines D.says line.now ahead.now most
+        requires some { 0 < most }
+        requires first { IsLet replies.now.gate answered }
+        ensures row { CarriesLines D.says line.now ahead.now most
             (session.old, desk.old) result (session.new, desk.new) }
+        ensures let_through { AreLet replies.now.gate answered result }
     {
         let Some(front) = two_words(line) else {
             return 0;
@@ -262,8 +271,9 @@ impl Rows {
         most: u64,
         intake: &Intake,
     ) -> usize
-        ensures { CarriesOut D.says intake.now most
+        ensures row { CarriesOut D.says intake.now most
             (session.old, desk.old) result (session.new, desk.new) }
+        ensures let_through { AreLet replies.now.gate answered result }
     {
         let most = most.min(MOST_IN_ROW as u64) as usize;
         let Some(line) = intake.line(true) else {
@@ -299,9 +309,11 @@ fn receives<C: Clock, G: Gate, D: Desk>(
     line: &[u8],
     ahead: &[u8],
 ) -> usize
-    requires { 0 < most }
-    ensures { CarriesLines D.says line.now ahead.now most
+    requires some { 0 < most }
+    requires first { IsLet replies.now.gate answered }
+    ensures row { CarriesLines D.says line.now ahead.now most
         (session.old, desk.old) result (session.new, desk.new) }
+    ensures let_through { AreLet replies.now.gate answered result }
 {
     let Some((name, verb)) = wait_of(alloc, line) else {
         return 0;

@@ -6,7 +6,7 @@ ghost use Rattle.th_lines.specs.Intake.{line_given};
 ghost use Rattle.th_lines.specs.Output.{output};
 ghost use Rattle.th_session.specs.Ending.{devices};
 ghost use Rattle.th_session.specs.Rows.{ServesRow};
-ghost use Rattle.th_session.specs.Run.{AnswersInTime, Ran, Served, Serves, beginning, fault_by, may_wait, reader_failures, strictness, tells_bye, writer_failures};
+ghost use Rattle.th_session.specs.Run.{AnswersInTime, AreLet, Ran, Served, Serves, beginning, fault_by, may_wait, reader_failures, strictness, tells_bye, writer_failures};
 ghost use Rattle.th_session.specs.Script.{Replied, has_quit};
 
 use crate::answer::refused;
@@ -40,7 +40,7 @@ struct Run<'a, D: Desk, C, G: Gate> {
 impl<'a, D: Desk, C, G: Gate> Model for Run<'a, D, C, G> {
     ghost use Rattle.th_session.specs.Run.{Progress};
 
-    ghost Value = { Progress G };
+    ghost Value = { Progress };
 
     ghost view = { λ r. record {
       kept = r.session;
@@ -82,8 +82,8 @@ fn answer_in_time<C: Clock, G: Gate, D: Desk, W: Write>(
     answered: u64,
     line: Option<&[u8]>,
 ) -> Result<Answer, Stop>
-    ensures answers { AnswersInTime D.says (strictness G.holds_back G.gives_up replies.old.gate)
-        answered (line_given line.entry) (session.old, desk.old) (session.new, desk.new)
+    ensures answers { AnswersInTime D.says replies.old.gate
+        (line_given line.entry) (session.old, desk.old) (session.new, desk.new)
         (output W.contents writer.old replies.old.text)
         (output W.contents writer.new replies.new.text) result }
     ensures gate { replies.new.gate ≡ replies.old.gate }
@@ -114,7 +114,7 @@ fn serve<C: Clock, G: Gate, D: Desk, W: Write>(
     answered: u64,
     line: Option<&[u8]>,
 ) -> Result<(), Stop>
-    ensures serves { Serves keeping D.says (strictness G.holds_back G.gives_up replies.old.gate)
+    ensures serves { Serves keeping D.says replies.old.gate
         answered (line_given line.entry)
         ((session.old, desk.old), output W.contents writer.old replies.old.text)
         ((session.new, desk.new), output W.contents writer.new replies.new.text) result }
@@ -160,6 +160,8 @@ fn serve_row<C: Clock, G: Gate, D: Desk, W: Write>(
         result.count result.end
         ((session.new, desk.new), output W.contents writer.new replies.new.text) }
     ensures gate { replies.new.gate ≡ replies.old.gate }
+    ensures let_through { AreLet replies.old.gate
+        answered result.count }
 {
     let count = rows.carry_out(session, replies, alloc, desk, answered, most, intake);
     if count > 0 {
@@ -178,13 +180,13 @@ fn serve_row<C: Clock, G: Gate, D: Desk, W: Write>(
 
 impl<'a, D: Desk, C: Clock, G: Gate, W: Write> TakesLines<D, Counted<W>> for Run<'a, D, C, G> {
     ghost use Rattle.std.specs.Prelude.{◌≡◌, []};
-    ghost use Rattle.th_session.specs.Run.{IsOver, Took, strictness};
+    ghost use Rattle.th_session.specs.Run.{IsOver, Took};
 
     type Stop = Stop;
 
-    ghost took = { Took D.says (strictness G.holds_back G.gives_up) W.contents };
+    ghost took = { Took D.says W.contents };
 
-    ghost halts = { IsOver D.says (strictness G.holds_back G.gives_up) W.contents };
+    ghost halts = { IsOver D.says W.contents };
 
     ghost is_settled = { λ p. p.0.waiting ≡ [] };
 
@@ -253,7 +255,8 @@ impl<'a, D: Desk, C: Clock, G: Gate> Run<'a, D, C, G> {
         number: u64,
         keeping: Keeping,
     ) -> Result<Run<'a, D, C, G>, AllocError>
-        ensures { IfOk result (λ r. r ≡ beginning keeping (gate.now, number)) }
+        ensures { IfOk result (λ r.
+            r ≡ beginning keeping (strictness G.holds_back G.lets G.gives_up gate.now number)) }
     {
         let waiting = WriteBuffer::new(alloc)?;
         Ok(Run {
@@ -285,7 +288,7 @@ impl<'a, D: Desk, C: Clock, G: Gate> Run<'a, D, C, G> {
         requires feeder { feeder.old ≡ feeding.beginning feeder.old.limit }
         requires run { self.old ≡ beginning self.old.keeping self.old.gate }
         ensures ran { Ran self.old.keeping D.says
-            (strictness G.holds_back G.gives_up self.old.gate) feeder.old.limit reads
+            self.old.gate feeder.old.limit reads
             (devices R.remaining reader.old W.contents writer.old)
             (devices R.remaining reader.new W.contents writer.new)
             desk.old (self.new.kept, desk.new) result
@@ -380,7 +383,7 @@ pub fn run_session<C: Clock, R: Read, W: Write, D: Desk, G: Gate>(
     bounds: Bounds,
 ) -> (Session<D>, Option<SessionFault>)
     ensures served { Served keeping D.says
-        (strictness G.holds_back G.gives_up (gate.now, number)) bounds.lines bounds.reads
+        (strictness G.holds_back G.lets G.gives_up gate.now number) bounds.lines bounds.reads
         (devices R.remaining reader.old W.contents writer.old)
         (devices R.remaining reader.new W.contents writer.new)
         desk.old desk.new result.0 result.1 }

@@ -13,7 +13,7 @@ returns-in-Ok-clause-serves g c =
     let after : Output = output contents c.put_row-put.new.writer c.put_row-put.new.replies.text in
     rw (c.let_go.ensures.desk, c.in-Ok.ensures.desk) (row_put g.D.Desk.says c.args.keeping c.args.intake.now c.args.most
     (c.args.session.now, c.args.desk.now) (c.carry_out-count.new.session, c.carry_out-count.new.desk) c.let_go.new.self
-    c.carry_out-count.result before after c.if-count-gt0.true c.let_go.ensures.session c.carry_out-count.ensures c.in-Ok.ensures.told)
+    c.carry_out-count.result before after c.if-count-gt0.true c.let_go.ensures.session c.carry_out-count.ensures.row c.in-Ok.ensures.told)
 
 pub returns-in-Err-clause-serves : goal.returns-in-Err-clause-serves
 returns-in-Err-clause-serves g c =
@@ -22,4 +22,4 @@ returns-in-Err-clause-serves g c =
     let after : Output = output contents c.put_row-put.new.writer c.put_row-put.new.replies.text in
     rw (c.let_go.ensures.desk, c.in-Err.ensures.desk) (row_broken g.D.Desk.says c.args.keeping c.args.intake.now c.args.most
     (c.args.session.now, c.args.desk.now) (c.carry_out-count.new.session, c.carry_out-count.new.desk) c.let_go.new.self
-    c.carry_out-count.result before after c.if-count-gt0.true c.let_go.ensures.session c.carry_out-count.ensures c.in-Err.ensures.told)
+    c.carry_out-count.result before after c.if-count-gt0.true c.let_go.ensures.session c.carry_out-count.ensures.row c.in-Err.ensures.told)
