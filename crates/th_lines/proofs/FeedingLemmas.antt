@@ -36,11 +36,11 @@ pub passed_row : (f f' : Feeding) (count : ℕ) (row : List Line) → f.came.beg
 passed_row f f' count row b some r p e =
     let line : Line = line_of true f.line in
     let there : (ended : Bool) (more : List ℕ) → line ∷ lines_after ended f.came more ≡ (line ∷ p.passed) ++ lines_after ended f'.came more =
-        λ ended more. ap (λ (l : List Line). line ∷ l) (p.lines ended more) in
+    λ ended more. ap (λ (l : List Line). line ∷ l) (p.lines ended more) in
     let n : length row ≡ length (line ∷ p.passed) = omega (arith, r.counted, p.counted, some) in
     let all = r.first false [] in
     let same : row ≡ line ∷ p.passed = same_front row (line ∷ p.passed) all.0 (lines_after false f'.came []) n
-        (sym all.1 ∙ line_and_ahead f b false [] ∙ there false []) in
+    (sym all.1 ∙ line_and_ahead f b false [] ∙ there false []) in
     record {
       some = omega (arith, r.counted, some);
       lines = λ ended more. there ended more ∙ ap (λ (l : List Line). l ++ lines_after ended f'.came more) (sym same);
@@ -78,7 +78,7 @@ module _ (k : ℕ) (first here : Came) (p : Passes k first here) (there : k < le
   }
   passes_on false f =
       let all : lines_after false first [] ≡ p.passed =
-          p.lines false [] ∙ ap (λ (l : List Line). p.passed ++ l) (f.1 false [] ∙ none_whole f.0) ∙ append-nil p.passed in
+      p.lines false [] ∙ ap (λ (l : List Line). p.passed ++ l) (f.1 false [] ∙ none_whole f.0) ∙ append-nil p.passed in
       let n = ap length all in
       absurd (omega (arith, n, p.counted, there))
 
@@ -146,8 +146,13 @@ module _ {P E : Type 0} {took : P → List Line → P → Type 0} {halts : P →
           ∙ sym (append_assoc u.done row (lines_after ended last.came more))
 
       counted : last.taken ≡ length (u.done ++ row)
-      counted = omega (arith, ap (λ (f : Feeding). f.taken) p.same, ap (λ (f : Feeding). f.taken) h.2, u.counted,
-          length-append u.done row)
+      counted = omega (
+        arith,
+        ap (λ (f : Feeding). f.taken) p.same,
+        ap (λ (f : Feeding). f.taken) h.2,
+        u.counted,
+        length-append u.done row,
+      )
 
       still : last.ended ≡ false
       still = ap (λ (f : Feeding). f.ended) p.same ∙ ap (λ (f : Feeding). f.ended) h.2 ∙ u.more

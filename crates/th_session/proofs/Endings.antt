@@ -1,5 +1,5 @@
 -- What a run comes to, by what was fed to it and what was written of the answers.
-use Rattle.std.proofs.Common.{◌≡◌, Bool, ◌+◌, ℕ, ◌<◌, ◌≤◌, true, false, List, [], ◌++◌, length, take, refl, sym, ap, ◌∙◌, append_assoc, append-nil, arith, Option, subst, length-append}
+use Rattle.std.proofs.Common.{◌≡◌, Bool, ◌+◌, ℕ, ◌<◌, ◌≤◌, true, false, List, [], ◌∷◌, ◌++◌, length, take, refl, sym, ap, ◌∙◌, append_assoc, append-nil, arith, Option, subst, length-append}
 use Rattle.std.specs.Io.KnownBytes.{Appends}
 use Rattle.std.proofs.Math.Seq.{take-append_seam}
 use Rattle.std.proofs.lemmas.Bool.{false≢true}
@@ -155,4 +155,6 @@ module _ {P E : Type 0} {took : P → List Line → P → Type 0} {halts : P →
         (g : FirstAnswered answers f.limit old new writes) × IsFirst (May (length g.first)) g.later
     unfolding first_halted
     held_back May may =
-        let more = s.lines f.ended [] (λ e. (e, refl)) in (first_halted, first_of_more (May (length first)) later more.0 may)
+        let more = s.lines f.ended [] (λ e. (e, refl)) in
+        let so_many : 0 + length first ≡ length first = omega arith in
+        (first_halted, first_of_more (May (length first)) later more.0 (subst (λ (n : ℕ). IsFirst (May n) later) so_many may))

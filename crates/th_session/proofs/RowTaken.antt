@@ -37,7 +37,7 @@ last_ones receipts n added count many =
     let f : ChannelReceipt → TopicId × ChannelReceipt = λ r. (record { 0 = n }, r) in
     let k = length-map added f in
     let at : length (receipts ++ on_topic n added) - count ≡ length receipts =
-        omega (arith, length-append receipts (on_topic n added), k, many) in
+    omega (arith, length-append receipts (on_topic n added), k, many) in
     ap (λ (i : ℕ). drop i (receipts ++ on_topic n added)) at ∙ drop-append_seam receipts (on_topic n added)
 
 -- the last ones of a list, as a slice has them
@@ -66,49 +66,71 @@ module _ {D : Type 0} (says : D → (q : Query) → Said q → D → Type 0) (ke
   are_kept old new count (inr (lines, is, within, carried)) =
       let n = ap (λ (k : Kept). length k.receipts) carried.kept in
       let f : ChannelReceipt → TopicId × ChannelReceipt = λ r. (record { 0 = carried.topic }, r) in
-      omega (arith, n, length-append old.0.receipts (on_topic carried.topic carried.added),
-          length-map carried.added f, carried.many, is.counted, length-map lines (λ l. Good l))
+      omega (
+        arith,
+        n,
+        length-append old.0.receipts (on_topic carried.topic carried.added),
+        length-map carried.added f,
+        carried.many,
+        is.counted,
+        length-map lines (λ l. Good l),
+      )
 
   module _ (old mid : Kept × D) (left : Kept) (count : ℕ) (before after : Output) (some : 0 < count) (is : left ≡ kept_by keeping mid.0)
-      where
-    abbrev told : List ℕ
-    told = concat (map (λ r. told_by r.1) (drop (length mid.0.receipts - count) mid.0.receipts))
+    where
+      abbrev told : List ℕ
+      told = concat (map (λ r. told_by r.1) (drop (length mid.0.receipts - count) mid.0.receipts))
 
-    told_is : (lines : List (List ℕ)) (r : IsRow there count (map (λ l. Good l) lines)) (c : Carried says lines old mid) →
-        told ≡ concat (map told_by c.added)
-    told_is lines r c =
-        let many : length c.added ≡ count = omega (arith, c.many, r.counted, length-map lines (λ l. Good l)) in
-        let at = ap (λ (k : Kept). k.receipts) c.kept in
-        ap concat (ap (λ (rs : List (TopicId × ChannelReceipt)). map (λ r. told_by r.1) (drop (length rs - count) rs)) at
-            ∙ ap (λ (rs : List (TopicId × ChannelReceipt)). map (λ r. told_by r.1) rs)
-                (last_ones old.0.receipts c.topic c.added count many)
-            ∙ texts_on c.topic c.added)
+      told_is : (lines : List (List ℕ)) (r : IsRow there count (map (λ l. Good l) lines)) (c : Carried says lines old mid) →
+          told ≡ concat (map told_by c.added)
+      told_is lines r c =
+          let many : length c.added ≡ count = omega (arith, c.many, r.counted, length-map lines (λ l. Good l)) in
+          let at = ap (λ (k : Kept). k.receipts) c.kept in
+          ap concat (ap (λ (rs : List (TopicId × ChannelReceipt)). map (λ r. told_by r.1) (drop (length rs - count) rs)) at
+          ∙ ap (λ (rs : List (TopicId × ChannelReceipt)). map (λ r. told_by r.1) rs)
+          (last_ones old.0.receipts c.topic c.added count many)
+          ∙ texts_on c.topic c.added)
 
-    turned : (lines : List (List ℕ)) (c : Carried says lines old mid) →
-        Turned (line_turn keeping says) (map (λ l. Good l) lines) (old, false) (map told_by c.added) ((left, mid.1), false)
-    turned lines c = subst (λ (k : Kept). Turned (line_turn keeping says) (map (λ l. Good l) lines) (old, false) (map told_by c.added)
-        ((k, mid.1), false)) (sym is) (c.turned keeping)
+      turned : (lines : List (List ℕ)) (c : Carried says lines old mid) →
+          Turned (line_turn keeping says) (map (λ l. Good l) lines) (old, false) (map told_by c.added) ((left, mid.1), false)
+      turned lines c = subst (λ (k : Kept). Turned (line_turn keeping says) (map (λ l. Good l) lines) (old, false) (map told_by c.added)
+          ((k, mid.1), false)) (sym is) (c.turned keeping)
 
-    pub row_put : CarriesOut says there most old count mid → Adds told before after →
-        ServesRow says keeping there most (old, before) count (Ok tt) ((left, mid.1), after)
-    row_put (inl none) put = absurd (omega (arith, some, none.0))
-    row_put (inr (lines, r, within, c)) put = inr (map (λ l. Good l) lines, r, within, some, record {
-      texts = map told_by c.added;
-      turned = turned lines c;
-      said = subst (λ (l : List ℕ). Adds l before after) (told_is lines r c) put;
-    })
+      pub row_put : CarriesOut says there most old count mid → Adds told before after →
+          ServesRow says keeping there most (old, before) count (Ok tt) ((left, mid.1), after)
+      row_put (inl none) put = absurd (omega (arith, some, none.0))
+      row_put (inr (lines, r, within, c)) put = inr (
+        map (λ l. Good l) lines,
+        r,
+        within,
+        some,
+        record {
+          texts = map told_by c.added;
+          turned = turned lines c;
+          said = subst (λ (l : List ℕ). Adds l before after) (told_is lines r c) put;
+        },
+      )
 
-    pub row_broken : CarriesOut says there most old count mid → WritesFront (before.waiting ++ told) before after →
-        ServesRow says keeping there most (old, before) count (Err stop.Write) ((left, mid.1), after)
-    row_broken (inl none) put = absurd (omega (arith, some, none.0))
-    row_broken (inr (lines, r, within, c)) put = inr (map (λ l. Good l) lines, r, within, some, (refl, record {
-      done = map (λ l. Good l) lines;
-      later = [];
-      texts = map told_by c.added;
-      parts = sym (append-nil (map (λ l. Good l) lines));
-      turned = turned lines c;
-      said = subst (λ (l : List ℕ). WritesFront (before.waiting ++ l) before after) (told_is lines r c) put;
-    }))
+      pub row_broken : CarriesOut says there most old count mid → WritesFront (before.waiting ++ told) before after →
+          ServesRow says keeping there most (old, before) count (Err stop.Write) ((left, mid.1), after)
+      row_broken (inl none) put = absurd (omega (arith, some, none.0))
+      row_broken (inr (lines, r, within, c)) put = inr (
+        map (λ l. Good l) lines,
+        r,
+        within,
+        some,
+        (
+          refl,
+          record {
+            done = map (λ l. Good l) lines;
+            later = [];
+            texts = map told_by c.added;
+            parts = sym (append-nil (map (λ l. Good l) lines));
+            turned = turned lines c;
+            said = subst (λ (l : List ℕ). WritesFront (before.waiting ++ l) before after) (told_is lines r c) put;
+          },
+        ),
+      )
 
 -- lines were answered, and then more
 answers_both : {S : Type 0} {turn : S → Line → List ℕ → S → Type 0} {a b c : S × Output} {xs ys : List Line} →
@@ -119,12 +141,13 @@ answers_both {S} {turn} {a} {b} {c} {xs} {ys} p q = record {
   said = subst (λ (l : List ℕ). Adds l a.1 c.1) (sym (concat-append p.texts q.texts)) (adds_both p.said q.said);
 }
 
-module _ {W D : Type 0} (says : D → (q : Query) → Said q → D → Type 0) (contents : W → Option (List ℕ)) where
+module _ {W D G : Type 0} (says : D → (q : Query) → Said q → D → Type 0) (strict : G × ℕ → Strictness)
+    (contents : W → Option (List ℕ)) where
   -- a run takes a row
-  pub row_taken : (taken most : ℕ) (there : Reading) (old new : Progress × D × Tally W) (count : ℕ) (r : Result (Unit {0}) Stop) →
-      new.0.keeping ≡ old.0.keeping → new.0.gate ≡ old.0.gate → AreLet old.0.gate taken count
+  pub row_taken : (taken most : ℕ) (there : Reading) (old new : Progress G × D × Tally W) (count : ℕ) (r : Result (Unit {0}) Stop) →
+      new.0.keeping ≡ old.0.keeping → new.0.gate ≡ old.0.gate → AreLet (strict old.0.gate) taken count
       → ServesRow says old.0.keeping there most (stands contents old) count r (stands contents new) →
-      TakesRow (Took says contents) (IsOver says contents) taken most there old count r new
+      TakesRow (Took says strict contents) (IsOver says strict contents) taken most there old count r new
   row_taken taken most there old new count (Err why) same gate these (inl none) = absurd (false≢true none.2)
   row_taken taken most there old new count (Ok x) same gate these (inl none) = record {
     row = [];
@@ -134,7 +157,7 @@ module _ {W D : Type 0} (says : D → (q : Query) → Said q → D → Type 0) (
     takes = λ from lines many t. (
       same ∙ t.0,
       gate ∙ t.1,
-      subst (λ (ls : List Line). AreLet from.0.gate 0 (length ls)) (sym (append-nil lines)) t.2,
+      subst (λ (ls : List Line). AreLet (strict from.0.gate) 0 (length ls)) (sym (append-nil lines)) t.2,
       subst (λ (ls : List Line). Answers (line_turn from.0.keeping says) (quitting false (stands contents from)) ls
           (quitting false (stands contents new))) (sym (append-nil lines))
           (subst (λ (at : (Kept × D) × Output). Answers (line_turn from.0.keeping says) (quitting false (stands contents from)) lines
@@ -149,7 +172,7 @@ module _ {W D : Type 0} (says : D → (q : Query) → Said q → D → Type 0) (
     takes = λ from lines many t. (
       same ∙ t.0,
       gate ∙ t.1,
-      more_let from.0.gate taken lines row many t.2 (row_let from.0.gate old.0.gate taken count row t.1 is.counted these),
+      more_let (strict from.0.gate) taken lines row many t.2 (row_let (strict from.0.gate) (strict old.0.gate) taken count row (ap strict t.1) is.counted these),
       answers_both t.3 (subst (λ (k : Keeping). Answers (line_turn k says) (quitting false (stands contents old)) row
           (quitting false (stands contents new))) t.0 ends),
     );
@@ -161,11 +184,13 @@ module _ {W D : Type 0} (says : D → (q : Query) → Said q → D → Type 0) (
     some = some;
     takes = λ from lines many t.
         let b = subst (λ (k : Keeping). Breaks (line_turn k says) false (quitting false (stands contents old)) row
-            (quitting false (stands contents new))) t.0 ends.1 in
+        (quitting false (stands contents new))) t.0 ends.1 in
         let fewer : length b.done ≤ length row = omega (arith, ap (λ (l : List Line). length l) b.parts, length-append b.done b.later) in
-        let let_done = first_let from.0.gate taken (length b.done) (length row) fewer
-            (row_let from.0.gate old.0.gate taken count row t.1 is.counted these) in
-        subst (λ (w : Stop). IsOver says contents from (lines ++ row) w new) (sym ends.0) (false,
-            breaks_off_after from.0.keeping says from.0.gate taken (stands contents from) (stands contents old) (stands contents new) lines row
-            many t.2 t.3 false false (b, let_done));
+        let let_done = first_let (strict from.0.gate) taken (length b.done) (length row) fewer
+        (row_let (strict from.0.gate) (strict old.0.gate) taken count row (ap strict t.1) is.counted these) in
+        subst (λ (w : Stop). IsOver says strict contents from (lines ++ row) w new) (sym ends.0) (
+          false,
+          breaks_off_after from.0.keeping says (strict from.0.gate) taken (stands contents from) (stands contents old) (stands contents new) lines row
+              many t.2 t.3 false false (b, let_done),
+        );
   }

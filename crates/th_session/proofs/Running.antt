@@ -85,7 +85,7 @@ module _ {D : Type 0} (keeping : Keeping) (says : D → (q : Query) → Said q �
       Halts keeping says gate answered (at, before) (line ∷ []) why (at, after)
   given_up line at before entered after stop.Quit p never = absurd never
   given_up line at before entered after stop.Gate p never = absurd never
-  given_up line at before entered after stop.Gone p q = held_here (MayGiveUp gate) line at before after (adds_both p q.0) q.1
+  given_up line at before entered after stop.Gone p q = held_here (MayGiveUp gate) line at before after (adds_both p q.0) (q.1, q.2)
   given_up line at before entered after stop.Write p f = broken_here line at before after (front_after [] p f)
 
   -- what is kept after a line
@@ -145,11 +145,11 @@ module _ {D : Type 0} (keeping : Keeping) (says : D → (q : Query) → Said q �
             → Halts keeping says gate answered ((s, d), before) (line ∷ []) stop.Write ((left, new.1), after)
         unfolding breaks_at
         carries_broken put =
-            let quit : Bool = tells_bye tells in (
+            let quit : Bool = tells_bye tells in
+            let broken = breaks_at false (((s, d), false), before) line (said t.0) (((left, new.1), quit), after) (turned quit refl)
+                (front_after (said t.0) p (front_after (said t.0) q (put t.0 s t.1 kept))) in (
               quit,
-              breaks_at false (((s, d), false), before) line (said t.0) (((left, new.1), quit), after) (turned quit refl)
-                  (front_after (said t.0) p (front_after (said t.0) q (put t.0 s t.1 kept))),
-              one_let gate answered enters.1,
+              (broken, one_let gate answered enters.1),
             )
 
   -- it is to end behind lines that were answered, the first ones of all
@@ -176,33 +176,34 @@ module _ {D : Type 0} (keeping : Keeping) (says : D → (q : Query) → Said q �
       halts_after stop.Gone b = held_after (MayGiveUp gate) b
       halts_after stop.Write b = (b.0, breaks_off_after false b.0 b.1)
 
-module _ {W D : Type 0} (says : D → (q : Query) → Said q → D → Type 0) (contents : W → Option (List ℕ)) where
+module _ {W D G : Type 0} (says : D → (q : Query) → Said q → D → Type 0) (strict : G × ℕ → Strictness)
+    (contents : W → Option (List ℕ)) where
   -- a run takes a line
-  pub takes_on : (taken : ℕ) (line : Line) (old new : Progress × D × Tally W) (r : Result (Unit {0}) Stop) →
+  pub takes_on : (taken : ℕ) (line : Line) (old new : Progress G × D × Tally W) (r : Result (Unit {0}) Stop) →
       new.0.keeping ≡ old.0.keeping → new.0.gate ≡ old.0.gate
-      → Serves old.0.keeping says old.0.gate taken line (stands contents old) (stands contents new) r →
-      Takes (Took says contents) (IsOver says contents) taken line old r new
+      → Serves old.0.keeping says (strict old.0.gate) taken line (stands contents old) (stands contents new) r →
+      Takes (Took says strict contents) (IsOver says strict contents) taken line old r new
   takes_on taken line old new (Ok x) same gate s = λ from lines many t.
-      let served : Strictness → Keeping → Type 0 =
-      λ g k. Serves k says g taken line (stands contents old) (stands contents new) (Ok x) in
-      let s' = subst (λ (g : Strictness). served g from.0.keeping) t.1 (subst (λ (k : Keeping). served old.0.gate k) t.0 s) in (
+      let served : G × ℕ → Keeping → Type 0 =
+      λ g k. Serves k says (strict g) taken line (stands contents old) (stands contents new) (Ok x) in
+      let s' = subst (λ (g : G × ℕ). served g from.0.keeping) t.1 (subst (λ (k : Keeping). served old.0.gate k) t.0 s) in (
         same ∙ t.0,
         gate ∙ t.1,
-        more_let from.0.gate taken lines (line ∷ []) many t.2 (one_let from.0.gate taken s'.0),
+        more_let (strict from.0.gate) taken lines (line ∷ []) many t.2 (one_let (strict from.0.gate) taken s'.0),
         answers_line t.3 line s'.1 (quitting false (stands contents new)) s'.2 s'.3,
       )
   takes_on taken line old new (Err why) same gate s = λ from lines many t.
-      let halted : Strictness → Keeping → Type 0 =
-      λ g k. Halts k says g taken (stands contents old) (line ∷ []) why (stands contents new) in
-      halts_after from.0.keeping says from.0.gate taken (stands contents from) (stands contents old) (stands contents new) lines
+      let halted : G × ℕ → Keeping → Type 0 =
+      λ g k. Halts k says (strict g) taken (stands contents old) (line ∷ []) why (stands contents new) in
+      halts_after from.0.keeping says (strict from.0.gate) taken (stands contents from) (stands contents old) (stands contents new) lines
       (line ∷ []) many t.2 t.3 why
-      (subst (λ (g : Strictness). halted g from.0.keeping) t.1 (subst (λ (k : Keeping). halted old.0.gate k) t.0 s))
+      (subst (λ (g : G × ℕ). halted g from.0.keeping) t.1 (subst (λ (k : Keeping). halted old.0.gate k) t.0 s))
 
   -- it settles
-  pub settles_on : (old new : Progress × D × Tally W) → new.0.keeping ≡ old.0.keeping → new.0.gate ≡ old.0.gate
+  pub settles_on : (old new : Progress G × D × Tally W) → new.0.keeping ≡ old.0.keeping → new.0.gate ≡ old.0.gate
       → new.0.kept ≡ old.0.kept → new.1 ≡ old.1
       → WritesAll old.0.waiting (stands contents old).1 (stands contents new).1 × (new.0.waiting ≡ [])
-      → Settles (Took says contents) (IsOver says contents) {A = Unit {0}} (λ p. p.0.waiting ≡ []) old (Ok tt) new
+      → Settles (Took says strict contents) (IsOver says strict contents) {A = Unit {0}} (λ p. p.0.waiting ≡ []) old (Ok tt) new
   settles_on old new same gate actor desk f = (
     λ from lines t. (
       same ∙ t.0,
@@ -215,30 +216,32 @@ module _ {W D : Type 0} (says : D → (q : Query) → Said q → D → Type 0) (
     f.1,
   )
 
-  pub settles_broken : (old new : Progress × D × Tally W) → new.0.kept ≡ old.0.kept → new.1 ≡ old.1
+  pub settles_broken : (old new : Progress G × D × Tally W) → new.0.kept ≡ old.0.kept → new.1 ≡ old.1
       → WritesFront old.0.waiting (stands contents old).1 (stands contents new).1
-      → (from : Progress × D × Tally W) (lines : List Line) → Took says contents from lines old →
-      IsOver says contents from lines stop.Write new
+      → (from : Progress G × D × Tally W) (lines : List Line) → Took says strict contents from lines old →
+      IsOver says strict contents from lines stop.Write new
   unfolding breaks_here
   settles_broken old new actor desk f from lines t =
       let at = (stands contents old).0 in
       let out = (stands contents new).1 in
-      let gate = from.0.gate in
+      let gate = strict from.0.gate in
       let front = waiting_front (adds_none (stands contents old).1) f in
       let b : BreaksOff from.0.keeping says gate (length lines) false false (stands contents old) [] (at, out) =
       (breaks_here false ((at, false), (stands contents old).1) [] out front, none_let gate (length lines)) in
       let over : List Line → Kept × D → Type 0 =
       λ ls x. Halts from.0.keeping says gate 0 (stands contents from) ls stop.Write (x, out) in
       subst (λ (x : Kept × D). over lines x) (λ i. (sym actor i, sym desk i))
-      (subst (λ (ls : List Line). over ls at) (append-nil lines) (false,
-          breaks_off_after from.0.keeping says gate (length lines) (stands contents from) (stands contents old) (at, out) lines [] refl t.2 t.3
-          false false b))
+      (subst (λ (ls : List Line). over ls at) (append-nil lines) (
+        false,
+        breaks_off_after from.0.keeping says gate (length lines) (stands contents from) (stands contents old) (at, out) lines [] refl t.2 t.3
+            false false b,
+      ))
 
 -- A run from its beginning on, its devices before and after it, and where it stands.
-module _ {W D : Type 0} (keeping : Keeping) (says : D → (q : Query) → Said q → D → Type 0) (gate : Strictness)
-    (contents : W → Option (List ℕ)) (old new : Devices) (d : D) (w : Tally W)
-    (before : old.contents ≡ contents w.device) (f : Feeding) (now : Progress × D × Tally W) (few : f.taken ≤ f.limit) where
-  abbrev first : Progress × D × Tally W
+module _ {W D G : Type 0} (keeping : Keeping) (says : D → (q : Query) → Said q → D → Type 0) (strict : G × ℕ → Strictness)
+    (gate : G × ℕ) (contents : W → Option (List ℕ)) (old new : Devices) (d : D) (w : Tally W)
+    (before : old.contents ≡ contents w.device) (f : Feeding) (now : Progress G × D × Tally W) (few : f.taken ≤ f.limit) where
+  abbrev first : Progress G × D × Tally W
   first = (beginning keeping gate, d, w)
 
   abbrev out : Output
@@ -249,11 +252,11 @@ module _ {W D : Type 0} (keeping : Keeping) (says : D → (q : Query) → Said q
 
   -- these lines were answered by this text, and whether the last one by BYE
   abbrev By : Bool → List Line → List ℕ → Type 0
-  By quit = AnsweredBy keeping says gate d at.0 quit
+  By quit = AnsweredBy keeping says (strict gate) d at.0 quit
 
   -- how the run has ended, and how often the writer has failed
   abbrev pub Comes : (reads failures : ℕ) → Option SessionFault → Type 0
-  Comes reads failures fault = Ran keeping says gate f.limit reads old new d at.0 fault
+  Comes reads failures fault = Ran keeping says (strict gate) f.limit reads old new d at.0 fault
       × (failures ≡ writer_failures w.failures fault)
 
   module _ (after : Output) (same : new.contents ≡ after.written) where
@@ -265,13 +268,13 @@ module _ {W D : Type 0} (keeping : Keeping) (says : D → (q : Query) → Said q
     wrote_part text g = fronts old new out after before same text g
 
     -- all replies of lines that were taken are written, or a front of them
-    shown : WritesAll at.1.waiting at.1 after → (lines : List Line) → Took says contents first lines now
+    shown : WritesAll at.1.waiting at.1 after → (lines : List Line) → Took says strict contents first lines now
         → (text : List ℕ) × By false lines text × Appends old.contents new.contents text
     shown g lines t =
         let text : List ℕ = concat t.3.texts in
         (text, (t.2, t.3.texts, t.3.turned, refl), wrote text (wrote_all refl t.3.said g))
 
-    shown_front : WritesFront at.1.waiting at.1 after → (lines : List Line) → Took says contents first lines now
+    shown_front : WritesFront at.1.waiting at.1 after → (lines : List Line) → Took says strict contents first lines now
         → (text : List ℕ) × By false lines text × AppendsFront old.contents new.contents text
     shown_front g lines t =
         let text : List ℕ = concat t.3.texts in
@@ -282,7 +285,7 @@ module _ {W D : Type 0} (keeping : Keeping) (says : D → (q : Query) → Said q
     spent = kept_count new.calls ≡ kept_count (old.calls + reads)
 
     abbrev Here : Fed Stop → Type 0
-    Here fed = Stands (Took says contents) (IsOver says contents) old.remaining new.remaining first
+    Here fed = Stands (Took says strict contents) (IsOver says strict contents) old.remaining new.remaining first
         (λ p. p.0.waiting ≡ []) spent reads fed f now
 
     -- it ended with no reply left
@@ -308,10 +311,10 @@ module _ {W D : Type 0} (keeping : Keeping) (says : D → (q : Query) → Said q
     module _ (after : Output) (same : new.contents ≡ after.written) where
       -- it ended before a line, at which the lines in front had been answered
       abbrev Before : (ℕ → Line → Type 0) → List Line → Type 0
-      Before May lines = HeldBack keeping says gate 0 May (stands contents first) lines at
+      Before May lines = HeldBack keeping says (strict gate) 0 May (stands contents first) lines at
 
       before_written : (May : ℕ → Line → Type 0) (stopped : Stop) (s : Here (why.Stopped stopped)) → Before May s.done →
-          WritesAll at.1.waiting at.1 after → EndsBefore keeping says gate f.limit reads old new d at.0 May
+          WritesAll at.1.waiting at.1 after → EndsBefore keeping says (strict gate) f.limit reads old new d at.0 May
           × (after.failures ≡ w.failures)
       before_written May stopped s h g =
           let b = h.0.0 in
@@ -343,8 +346,8 @@ module _ {W D : Type 0} (keeping : Keeping) (says : D → (q : Query) → Said q
           let ran = first_halted (By true) old new first now f few Appends stop.Quit s b.done b.later b.parts text
           (s.stands.1, b.texts, b.turned, refl) (wrote after same text all) in
           (inr ran, all.same)
-      ends_written (why.Stopped stop.Gate) s g e = before_written (MayHold gate) stop.Gate s s.stands g
-      ends_written (why.Stopped stop.Gone) s g e = before_written (MayGiveUp gate) stop.Gone s s.stands g
+      ends_written (why.Stopped stop.Gate) s g e = before_written (MayHold (strict gate)) stop.Gate s s.stands g
+      ends_written (why.Stopped stop.Gone) s g e = before_written (MayGiveUp (strict gate)) stop.Gone s s.stands g
       ends_written (why.Stopped stop.Write) s g e = absurd (false≢true e)
       ends_written why.Full s g e =
           (inl (past_lines (By false) old new first now f few reads s.0 s.1 (shown after same g)), g.same ∙ s.0.stands.3.said.same)
@@ -366,8 +369,8 @@ module _ {W D : Type 0} (keeping : Keeping) (says : D → (q : Query) → Said q
           let ran = first_halted (By true) old new first now f few AppendsFront stop.Quit s b.done b.later b.parts text
           (s.stands.1, b.texts, b.turned, refl) (wrote_part after same text front) in
           ((true, ran), front.failed)
-      ends_broken (why.Stopped stop.Gate) s g e = before_broken (MayHold gate) stop.Gate s s.stands g
-      ends_broken (why.Stopped stop.Gone) s g e = before_broken (MayGiveUp gate) stop.Gone s s.stands g
+      ends_broken (why.Stopped stop.Gate) s g e = before_broken (MayHold (strict gate)) stop.Gate s s.stands g
+      ends_broken (why.Stopped stop.Gone) s g e = before_broken (MayGiveUp (strict gate)) stop.Gone s s.stands g
       ends_broken (why.Stopped stop.Write) s g e = absurd (false≢true e)
       ends_broken why.Full s g e = (
         (false, first_within (By false) old new first now f few reads s.0 AppendsFront (shown_front after same g)),

@@ -60,26 +60,32 @@ sends_ask : (s : Handles TxId RxId) (t : TxId) (name : Bytes) (lines values : Li
 sends_ask s t name [] [] holds p = tt
 sends_ask s t name [] (v ∷ vs) holds p = absurd p
 sends_ask s t name (l ∷ ls) [] holds p = absurd p
-sends_ask s t name (l ∷ ls) (v ∷ vs) holds p = (record {
-  action = BySender (Send v);
-  spelled = p.0;
-  fits = refl;
-  asked = ap (λ (o : Option TxId). own o (λ t. Sends t (Send v))) holds;
-  stays = λ _ _ _. refl;
-}, sends_ask s t name ls vs holds p.1)
+sends_ask s t name (l ∷ ls) (v ∷ vs) holds p = (
+  record {
+    action = BySender (Send v);
+    spelled = p.0;
+    fits = refl;
+    asked = ap (λ (o : Option TxId). own o (λ t. Sends t (Send v))) holds;
+    stays = λ _ _ _. refl;
+  },
+  sends_ask s t name ls vs holds p.1,
+)
 
 -- what a receiver does
 receives_ask : (kind : Kind) (s : Handles TxId RxId) (r : RxId) (verb : ReceiverVerb) (name : Bytes) (lines : List Bytes) →
     receives kind verb ≡ true → s.receiver ≡ Some r → ReceiveEach name verb lines →
     AskEach kind s name lines (times (length lines) (Receives r verb))
 receives_ask kind s r verb name [] fits holds p = tt
-receives_ask kind s r verb name (l ∷ ls) fits holds p = (record {
-  action = ByReceiver verb;
-  spelled = p.0;
-  fits = fits;
-  asked = ap (λ (o : Option RxId). own o (λ r. Receives r verb)) holds;
-  stays = λ _ _ _. refl;
-}, receives_ask kind s r verb name ls fits holds p.1)
+receives_ask kind s r verb name (l ∷ ls) fits holds p = (
+  record {
+    action = ByReceiver verb;
+    spelled = p.0;
+    fits = fits;
+    asked = ap (λ (o : Option RxId). own o (λ r. Receives r verb)) holds;
+    stays = λ _ _ _. refl;
+  },
+  receives_ask kind s r verb name ls fits holds p.1,
+)
 
 -- the first ones of them
 record FirstAsk (kind : Kind) (s : Handles TxId RxId) (name : Bytes) (lines : List Bytes) (made : List Event) : Type 0 where
@@ -121,9 +127,9 @@ module _ {D : Type 0} (says : D → (q : Query) → Said q → D → Type 0) (fo
     played : Plays says (script had.handles (On name a.action)) old (Told n r) had.handles mid
     played =
         let P : Bool → Type 0 = λ fits. Plays says (cond fits (acting a.action n had.handles)
-            (Say (Refused Codes.WrongKind) had.handles)) old (Told n r) had.handles mid in
+        (Say (Refused Codes.WrongKind) had.handles)) old (Told n r) had.handles mid in
         let by = plays-by says a.action n had.handles had.handles (replied (Ok r)) old mid a.asked said refl
-            (sym (a.stays (replied (Ok r)).0 n had.handles)) in
+        (sym (a.stays (replied (Ok r)).0 n had.handles)) in
         (Some found, old, at, subst P (sym a.fits) by)
 
     answered : desk.Answers says had old line (Told n r) has mid
@@ -148,9 +154,11 @@ module _ {D : Type 0} (says : D → (q : Query) → Said q → D → Type 0) (fo
   turns keeping had old new at (l ∷ lines) [] rs some p q = absurd p
   turns keeping had old new at (l ∷ lines) (e ∷ es) [] some p q = absurd q
   turns keeping had old new at (l ∷ []) (e ∷ []) (r ∷ []) some p q =
-      let t = turn had old q.0 at l e r p.0 q.1 keeping in
-      (((kept_by keeping (with_more had ((record { 0 = n }, r) ∷ [])), q.0), false), t,
-      ap (λ (d : D). ((kept_by keeping (with_more had ((record { 0 = n }, r) ∷ [])), d), false)) q.3)
+      let t = turn had old q.0 at l e r p.0 q.1 keeping in (
+        ((kept_by keeping (with_more had ((record { 0 = n }, r) ∷ [])), q.0), false),
+        t,
+        ap (λ (d : D). ((kept_by keeping (with_more had ((record { 0 = n }, r) ∷ [])), d), false)) q.3,
+      )
   turns keeping had old new at (l ∷ []) (e ∷ []) (r ∷ r2 ∷ rs) some p q = absurd q.3
   turns keeping had old new at (l ∷ []) (e ∷ e2 ∷ es) (r ∷ rs) some p q = absurd p.1
   turns keeping had old new at (l ∷ l2 ∷ lines) (e ∷ es) (r ∷ rs) some p q =
@@ -158,11 +166,13 @@ module _ {D : Type 0} (says : D → (q : Query) → Said q → D → Type 0) (fo
       let has : Kept = kept_by keeping (with_more had (one ∷ [])) in
       let t = turn had old q.0 at l e r p.0 q.1 keeping in
       let asks = subst (λ (h : Holding). AskEach found.kind (handles_at h n) name (l2 ∷ lines) es)
-          (sym (same_handles keeping had (one ∷ []))) p.1 in
-      let rest = turns keeping has q.0 new (q.2 name (Some found) at) (l2 ∷ lines) es rs (omega arith) asks q.3 in
-      (((has, q.0), false), t,
-      subst (λ (k : Kept). Turned (line_turn keeping says) (map (λ l. Good l) (l2 ∷ lines)) ((has, q.0), false) (map told_by rs)
-      ((k, new), false)) (kept_more keeping had one (on_topic n rs)) rest)
+      (sym (same_handles keeping had (one ∷ []))) p.1 in
+      let rest = turns keeping has q.0 new (q.2 name (Some found) at) (l2 ∷ lines) es rs (omega arith) asks q.3 in (
+        ((has, q.0), false),
+        t,
+        subst (λ (k : Kept). Turned (line_turn keeping says) (map (λ l. Good l) (l2 ∷ lines)) ((has, q.0), false) (map told_by rs)
+            ((k, new), false)) (kept_more keeping had one (on_topic n rs)) rest,
+      )
 
   in_row-many : (events : List Event) (rs : List ChannelReceipt) (old new : D) → InRow says n events rs old new → length events ≡ length rs
   in_row-many [] [] old new q = refl
@@ -201,7 +211,7 @@ module _ {D : Type 0} (says : D → (q : Query) → Said q → D → Type 0) (fo
     carries [] later [] (r ∷ rs) count many parts p q e = absurd q
     carries (l ∷ done) later made rs count many parts p q e =
         let so_many : length (l ∷ done) ≡ count =
-            ask-many found.kind (handles_at had.handles n) (l ∷ done) made p ∙ in_row-many made rs old new q ∙ many in
+        ask-many found.kind (handles_at had.handles n) (l ∷ done) made p ∙ in_row-many made rs old new q ∙ many in
         inr (l ∷ done, later, parts, so_many, carried (l ∷ done) made rs (omega arith) p q e)
 
     -- events that lines ask for were made in a row
@@ -211,7 +221,7 @@ module _ {D : Type 0} (says : D → (q : Query) → Said q → D → Type 0) (fo
         CarriesFirst says lines (had, old) count (has, new)
     carries_row events receipts count p m e =
         let f = first_ask found.kind (handles_at had.handles n) name lines m.made m.later
-            (subst (λ (es : List Event). AskEach found.kind (handles_at had.handles n) name lines es) m.parts p) in
+        (subst (λ (es : List Event). AskEach found.kind (handles_at had.handles n) name lines es) m.parts p) in
         carries f.done f.later m.made m.added count m.counted f.parts f.ask m.row
         (e ∙ ap (λ (l : List (TopicId × ChannelReceipt)). record had { receipts = l }) m.behind)
 
@@ -233,7 +243,7 @@ module _ {D : Type 0} (says : D → (q : Query) → Said q → D → Type 0) (fo
     sends_carry values kind p (same, inl none) = none_made same none.0 none.1 none.2
     sends_carry values kind p (same, inr (t, holds, made)) =
         let asks = subst (λ (k : Kind). AskEach k (handles_at had.handles n) name lines (sends_of t values)) (sym kind)
-            (sends_ask (handles_at had.handles n) t name lines values holds p) in
+        (sends_ask (handles_at had.handles n) t name lines values holds p) in
         carries_row had has_now old new at lines (sends_of t values) receipts count asks made (same_held same)
 
     -- what a receiver does in a row
@@ -244,7 +254,7 @@ module _ {D : Type 0} (says : D → (q : Query) → Said q → D → Type 0) (fo
     receives_carry verb most fits many p (same, inl none) = none_made same none.0 none.1 none.2
     receives_carry verb most fits many p (same, inr (r, holds, made)) =
         let asks = subst (λ (k : ℕ). AskEach found.kind (handles_at had.handles n) name lines (times k (Receives r verb))) many
-            (receives_ask found.kind (handles_at had.handles n) r verb name lines fits holds p) in
+        (receives_ask found.kind (handles_at had.handles n) r verb name lines fits holds p) in
         carries_row had has_now old new at lines (times most (Receives r verb)) receipts count asks made (same_held same)
 
 -- lines that are the same

@@ -37,10 +37,10 @@ pub record Strictness : Type 0 where
   pub lets : ℕ → Bool
   pub gives_up : Bool
 
--- the same of a gate with the session of this number
+-- the same of this gate, with the session of this number
 abbrev pub strictness : {G : Type 0} → (holds_back lets : G → ℕ → ℕ → Bool) →
-    (gives_up : G → ℕ → Bool) → G → (session : ℕ) → Strictness
-strictness holds_back lets gives_up gate session =
+    (gives_up : G → ℕ → Bool) → G × ℕ → Strictness
+strictness holds_back lets gives_up (gate, session) =
     record {
       holds_back = holds_back gate session;
       lets = lets gate session;
@@ -80,30 +80,30 @@ abbrev pub IsFirst : (Line → Type 0) → List Line → Type 0
 IsFirst Is [] = ⊥
 IsFirst Is (line ∷ lines) = Is line
 
--- What is not written yet of the replies of a session; and how strict its gate is with it.
-pub record Unwritten : Type 0 where
+-- What is not written yet of the replies of a session; and its gate, with its number there.
+pub record Unwritten (G : Type 0) : Type 0 where
   pub text : List ℕ
-  pub gate : Strictness
+  pub gate : G × ℕ
 
 -- an actor that has nothing
 abbrev pub nothing_had : Kept
 nothing_had = record { handles = []; receipts = []; segments = [] }
 
--- How far a run has got: what its actor has, and the replies that wait; how strict its gate is with it; and what it keeps of
+-- How far a run has got: what its actor has, and the replies that wait; its gate, with its number there; and what it keeps of
 -- the answers.
-pub record Progress : Type 0 where
+pub record Progress (G : Type 0) : Type 0 where
   pub kept : Kept
   pub waiting : List ℕ
-  pub gate : Strictness
+  pub gate : G × ℕ
   pub keeping : Keeping
 
 -- before anything was read
-abbrev pub beginning : Keeping → Strictness → Progress
+abbrev pub beginning : {G : Type 0} → Keeping → G × ℕ → Progress G
 beginning keeping gate =
     record { kept = nothing_had; waiting = []; gate = gate; keeping = keeping }
 
 -- what a run and its desk have, and where the replies stand
-abbrev pub stands : {W D : Type 0} → (W → Option (List ℕ)) → Progress × D × Tally W →
+abbrev pub stands : {W D G : Type 0} → (W → Option (List ℕ)) → Progress G × D × Tally W →
     (Kept × D) × Output
 stands contents p = ((p.0.kept, p.1), output contents p.2 p.0.waiting)
 
@@ -261,18 +261,18 @@ module _ {D : Type 0} (keeping : Keeping) (says : D → (q : Query) → Said q �
     pub spent : Plays says (spend_all last.0.handles) last.1 (Replied Bye) [] desk'
     pub kept : left ≡ record last.0 { handles = [] }
 
-module _ {W D : Type 0} (says : D → (q : Query) → Said q → D → Type 0)
-    (contents : W → Option (List ℕ)) where
+module _ {W D G : Type 0} (says : D → (q : Query) → Said q → D → Type 0)
+    (strict : G × ℕ → Strictness) (contents : W → Option (List ℕ)) where
   -- a run took these lines, each of which was let through
-  abbrev pub Took : Progress × D × Tally W → List Line → Progress × D × Tally W → Type 0
+  abbrev pub Took : Progress G × D × Tally W → List Line → Progress G × D × Tally W → Type 0
   Took old lines new = (new.0.keeping ≡ old.0.keeping) × (new.0.gate ≡ old.0.gate)
-      × AreLet old.0.gate 0 (length lines)
+      × AreLet (strict old.0.gate) 0 (length lines)
       × Answers (line_turn old.0.keeping says)
       (quitting false (stands contents old)) lines (quitting false (stands contents new))
 
   -- or no further one is taken
-  abbrev pub IsOver : Progress × D × Tally W → List Line → Stop → Progress × D × Tally W →
+  abbrev pub IsOver : Progress G × D × Tally W → List Line → Stop → Progress G × D × Tally W →
       Type 0
   IsOver old lines why new =
-      Halts old.0.keeping says old.0.gate 0 (stands contents old) lines why
+      Halts old.0.keeping says (strict old.0.gate) 0 (stands contents old) lines why
       (stands contents new)

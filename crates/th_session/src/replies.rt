@@ -44,14 +44,11 @@ pub(crate) struct Replies<'a, C, G: Gate> {
 }
 
 impl<'a, C, G: Gate> Model for Replies<'a, C, G> {
-    ghost use Rattle.th_session.specs.Run.{Unwritten, strictness};
+    ghost use Rattle.th_session.specs.Run.{Unwritten};
 
-    ghost Value = { Unwritten };
+    ghost Value = { Unwritten G };
 
-    ghost view = { λ r. record {
-      text = r.waiting;
-      gate = strictness G.holds_back G.lets G.gives_up r.gate.now r.session;
-    } };
+    ghost view = { λ r. record { text = r.waiting; gate = (r.gate.now, r.session) } };
 }
 
 // Tells the gate of each line behind the first ones, up to the one of this number.
@@ -111,10 +108,7 @@ impl<'a, C: Clock, G: Gate> Replies<'a, C, G> {
         session: u64,
         waiting: WriteBuffer,
     ) -> Replies<'a, C, G>
-        ensures { result ≡ record {
-            text = waiting;
-            gate = strictness G.holds_back G.lets G.gives_up gate.now session;
-        } }
+        ensures { result ≡ record { text = waiting; gate = (gate.now, session) } }
     {
         Replies {
             clock,
@@ -152,7 +146,7 @@ impl<'a, C: Clock, G: Gate> Replies<'a, C, G> {
     /// Whether the gate lets the line through now that is so many behind the next one. So many lines were answered.
     pub(crate) fn lets(&self, answered: u64, ahead: usize) -> bool
         ensures { result ≡ true →
-            IsLet self.now.gate (answered + ahead) }
+            IsLet (strictness G.holds_back G.lets G.gives_up self.now.gate) (answered + ahead) }
     {
         let line = answered.saturating_add(1).saturating_add(ahead as u64);
         self.gate.may(self.session, line)
@@ -177,7 +171,7 @@ impl<'a, C: Clock, G: Gate> Replies<'a, C, G> {
         ensures session { session.new ≡ session.old }
         ensures desk { desk.new ≡ desk.old }
         ensures gate { self.new.gate ≡ self.old.gate }
-        ensures wrote { Awaits self.old.gate
+        ensures wrote { Awaits (strictness G.holds_back G.lets G.gives_up self.old.gate)
             (waits command.now ≡ true) (output W.contents writer.old self.old.text)
             (output W.contents writer.new self.new.text) result }
     {
@@ -207,7 +201,7 @@ impl<'a, C: Clock, G: Gate> Replies<'a, C, G> {
     ) -> Result<(), Stop>
         ensures desk { desk.new ≡ desk.old }
         ensures gate { self.new.gate ≡ self.old.gate }
-        ensures wrote { Enters self.old.gate answered
+        ensures wrote { Enters (strictness G.holds_back G.lets G.gives_up self.old.gate) answered
             (output W.contents writer.old self.old.text)
             (output W.contents writer.new self.new.text) result }
     {

@@ -7,7 +7,7 @@ ghost use Rattle.th_lines.specs.Output.{AddsOrFails, output};
 ghost use Rattle.th_lines.specs.declared.command.Action.TheVariants.{ByReceiver, BySender};
 ghost use Rattle.th_lines.specs.declared.command.Command.TheVariants.{On};
 ghost use Rattle.th_model.specs.declared.verb.SenderVerb.TheVariants.{Send};
-ghost use Rattle.th_session.specs.Run.{AreLet, IsLet};
+ghost use Rattle.th_session.specs.Run.{AreLet, IsLet, strictness};
 ghost use Rattle.th_session.specs.Rows.{AreThere, CarriesLines, CarriesOut, SendEach, told_by};
 ghost use Rattle.th_registry.specs.Rows.{times};
 
@@ -111,10 +111,12 @@ fn count_same<C: Clock, G: Gate>(
     most: usize,
 ) -> usize
     requires some { 0 < most }
-    requires first { IsLet replies.now.gate answered }
+    requires first { let gate = strictness G.holds_back G.lets G.gives_up replies.now.gate in
+        IsLet gate answered }
     ensures most { result ≤ most }
     ensures same { AreThere line.now ahead.now (times result line.now) }
-    ensures let_through { AreLet replies.now.gate answered result }
+    ensures let_through { let gate = strictness G.holds_back G.lets G.gives_up replies.now.gate in
+        AreLet gate answered result }
 {
     let mut rest = ahead;
     for count in 1..most {
@@ -142,7 +144,8 @@ fn read_next<'b, C: Clock, G: Gate>(
     values: &mut VecDeque<Value>,
 ) -> Option<&'b [u8]>
     ensures let_through { IfSome result
-        (λ _. IsLet replies.now.gate (answered + ahead)) }
+        (λ _. IsLet (strictness G.holds_back G.lets G.gives_up replies.now.gate)
+        (answered + ahead)) }
     ensures read { MatchOption result (values.new.items ≡ values.old.items)
         (λ behind. (line : List ℕ) × (value : List ℕ)
         × (command_of line ≡ Some (On name.now (BySender (Send value))))
@@ -174,9 +177,11 @@ fn read_sends<'l, C: Clock, G: Gate>(
 ) -> Option<NameRef<'l>>
     requires some { 0 < most }
     requires none { values.old.items ≡ [] }
-    requires first { IsLet replies.now.gate answered }
+    requires first { let gate = strictness G.holds_back G.lets G.gives_up replies.now.gate in
+        IsLet gate answered }
     ensures { IfSome result (λ name. (lines : List (List ℕ)) × (length lines ≤ most)
-        × AreLet replies.now.gate answered (length lines)
+        × AreLet (strictness G.holds_back G.lets G.gives_up replies.now.gate)
+        answered (length lines)
         × SendEach name lines values.new.items × AreThere line.now ahead.now lines) }
 {
     let (name, value) = send_of(alloc, line)?;
@@ -232,10 +237,12 @@ impl Rows {
         ahead: &[u8],
     ) -> usize
         requires some { 0 < most }
-        requires first { IsLet replies.now.gate answered }
+        requires first { let gate = strictness G.holds_back G.lets G.gives_up replies.now.gate in
+            IsLet gate answered }
         ensures row { CarriesLines D.says line.now ahead.now most
             (session.old, desk.old) result (session.new, desk.new) }
-        ensures let_through { AreLet replies.now.gate answered result }
+        ensures let_through { AreLet
+            (strictness G.holds_back G.lets G.gives_up replies.now.gate) answered result }
     {
         let Some(front) = two_words(line) else {
             return 0;
@@ -273,7 +280,8 @@ impl Rows {
     ) -> usize
         ensures row { CarriesOut D.says intake.now most
             (session.old, desk.old) result (session.new, desk.new) }
-        ensures let_through { AreLet replies.now.gate answered result }
+        ensures let_through { AreLet
+            (strictness G.holds_back G.lets G.gives_up replies.now.gate) answered result }
     {
         let most = most.min(MOST_IN_ROW as u64) as usize;
         let Some(line) = intake.line(true) else {
@@ -286,13 +294,31 @@ impl Rows {
             if !replies.lets(answered, 0) {
                 return 0;
             }
-            return self.sends(session, replies, alloc, desk, answered, most, line, intake.ahead());
+            return self.sends(
+                session,
+                replies,
+                alloc,
+                desk,
+                answered,
+                most,
+                line,
+                intake.ahead(),
+            );
         }
         if line.starts_with(b"NEXT ") || line.starts_with(b"CHANGED ") {
             if !replies.lets(answered, 0) {
                 return 0;
             }
-            return receives(session, replies, alloc, desk, answered, most, line, intake.ahead());
+            return receives(
+                session,
+                replies,
+                alloc,
+                desk,
+                answered,
+                most,
+                line,
+                intake.ahead(),
+            );
         }
         0
     }
@@ -310,10 +336,12 @@ fn receives<C: Clock, G: Gate, D: Desk>(
     ahead: &[u8],
 ) -> usize
     requires some { 0 < most }
-    requires first { IsLet replies.now.gate answered }
+    requires first { let gate = strictness G.holds_back G.lets G.gives_up replies.now.gate in
+        IsLet gate answered }
     ensures row { CarriesLines D.says line.now ahead.now most
         (session.old, desk.old) result (session.new, desk.new) }
-    ensures let_through { AreLet replies.now.gate answered result }
+    ensures let_through { let gate = strictness G.holds_back G.lets G.gives_up replies.now.gate in
+        AreLet gate answered result }
 {
     let Some((name, verb)) = wait_of(alloc, line) else {
         return 0;

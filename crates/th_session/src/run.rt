@@ -21,7 +21,9 @@ use std::alloc::{AllocError, Global};
 use std::io::{Read, Write};
 use std::marker::Model;
 use std::time::Clock;
-use th_lines::{Code, Counted, Fed, Feeder, Intake, Reply, Row, TakesLines, WriteBuffer, read_command};
+use th_lines::{
+    Code, Counted, Fed, Feeder, Intake, Reply, Row, TakesLines, WriteBuffer, read_command,
+};
 use th_registry::Desk;
 
 /// How far a session's run has got.
@@ -40,7 +42,7 @@ struct Run<'a, D: Desk, C, G: Gate> {
 impl<'a, D: Desk, C, G: Gate> Model for Run<'a, D, C, G> {
     ghost use Rattle.th_session.specs.Run.{Progress};
 
-    ghost Value = { Progress };
+    ghost Value = { Progress G };
 
     ghost view = { λ r. record {
       kept = r.session;
@@ -82,8 +84,9 @@ fn answer_in_time<C: Clock, G: Gate, D: Desk, W: Write>(
     answered: u64,
     line: Option<&[u8]>,
 ) -> Result<Answer, Stop>
-    ensures answers { AnswersInTime D.says replies.old.gate
-        (line_given line.entry) (session.old, desk.old) (session.new, desk.new)
+    ensures answers { let gate = strictness G.holds_back G.lets G.gives_up replies.old.gate in
+        AnswersInTime D.says gate (line_given line.entry)
+        (session.old, desk.old) (session.new, desk.new)
         (output W.contents writer.old replies.old.text)
         (output W.contents writer.new replies.new.text) result }
     ensures gate { replies.new.gate ≡ replies.old.gate }
@@ -114,8 +117,8 @@ fn serve<C: Clock, G: Gate, D: Desk, W: Write>(
     answered: u64,
     line: Option<&[u8]>,
 ) -> Result<(), Stop>
-    ensures serves { Serves keeping D.says replies.old.gate
-        answered (line_given line.entry)
+    ensures serves { let gate = strictness G.holds_back G.lets G.gives_up replies.old.gate in
+        Serves keeping D.says gate answered (line_given line.entry)
         ((session.old, desk.old), output W.contents writer.old replies.old.text)
         ((session.new, desk.new), output W.contents writer.new replies.new.text) result }
     ensures gate { replies.new.gate ≡ replies.old.gate }
@@ -124,9 +127,7 @@ fn serve<C: Clock, G: Gate, D: Desk, W: Write>(
         Ok(()) => {}
         Err(e) => return Err(e),
     }
-    match answer_in_time(
-        session, replies, alloc, desk, writer, answered, line,
-    ) {
+    match answer_in_time(session, replies, alloc, desk, writer, answered, line) {
         Ok(answer) => {
             let quits = tells_bye(&answer);
             let put = replies.put(session, answer, desk, writer);
@@ -160,7 +161,7 @@ fn serve_row<C: Clock, G: Gate, D: Desk, W: Write>(
         result.count result.end
         ((session.new, desk.new), output W.contents writer.new replies.new.text) }
     ensures gate { replies.new.gate ≡ replies.old.gate }
-    ensures let_through { AreLet replies.old.gate
+    ensures let_through { AreLet (strictness G.holds_back G.lets G.gives_up replies.old.gate)
         answered result.count }
 {
     let count = rows.carry_out(session, replies, alloc, desk, answered, most, intake);
@@ -180,13 +181,13 @@ fn serve_row<C: Clock, G: Gate, D: Desk, W: Write>(
 
 impl<'a, D: Desk, C: Clock, G: Gate, W: Write> TakesLines<D, Counted<W>> for Run<'a, D, C, G> {
     ghost use Rattle.std.specs.Prelude.{◌≡◌, []};
-    ghost use Rattle.th_session.specs.Run.{IsOver, Took};
+    ghost use Rattle.th_session.specs.Run.{IsOver, Took, strictness};
 
     type Stop = Stop;
 
-    ghost took = { Took D.says W.contents };
+    ghost took = { Took D.says (strictness G.holds_back G.lets G.gives_up) W.contents };
 
-    ghost halts = { IsOver D.says W.contents };
+    ghost halts = { IsOver D.says (strictness G.holds_back G.lets G.gives_up) W.contents };
 
     ghost is_settled = { λ p. p.0.waiting ≡ [] };
 
@@ -255,8 +256,7 @@ impl<'a, D: Desk, C: Clock, G: Gate> Run<'a, D, C, G> {
         number: u64,
         keeping: Keeping,
     ) -> Result<Run<'a, D, C, G>, AllocError>
-        ensures { IfOk result (λ r.
-            r ≡ beginning keeping (strictness G.holds_back G.lets G.gives_up gate.now number)) }
+        ensures { IfOk result (λ r. r ≡ beginning keeping (gate.now, number)) }
     {
         let waiting = WriteBuffer::new(alloc)?;
         Ok(Run {
@@ -288,7 +288,7 @@ impl<'a, D: Desk, C: Clock, G: Gate> Run<'a, D, C, G> {
         requires feeder { feeder.old ≡ feeding.beginning feeder.old.limit }
         requires run { self.old ≡ beginning self.old.keeping self.old.gate }
         ensures ran { Ran self.old.keeping D.says
-            self.old.gate feeder.old.limit reads
+            (strictness G.holds_back G.lets G.gives_up self.old.gate) feeder.old.limit reads
             (devices R.remaining reader.old W.contents writer.old)
             (devices R.remaining reader.new W.contents writer.new)
             desk.old (self.new.kept, desk.new) result
@@ -383,7 +383,7 @@ pub fn run_session<C: Clock, R: Read, W: Write, D: Desk, G: Gate>(
     bounds: Bounds,
 ) -> (Session<D>, Option<SessionFault>)
     ensures served { Served keeping D.says
-        (strictness G.holds_back G.lets G.gives_up gate.now number) bounds.lines bounds.reads
+        (strictness G.holds_back G.lets G.gives_up (gate.now, number)) bounds.lines bounds.reads
         (devices R.remaining reader.old W.contents writer.old)
         (devices R.remaining reader.new W.contents writer.new)
         desk.old desk.new result.0 result.1 }

@@ -388,7 +388,13 @@ impl<D: Desk> Session<D> {
         };
         match found.kind {
             Kind::Broadcast => {
-                send_row(&mut self.handles, &mut self.receipts, desk, found.topic, values)
+                send_row(
+                    &mut self.handles,
+                    &mut self.receipts,
+                    desk,
+                    found.topic,
+                    values,
+                )
             }
             Kind::Watch => 0,
         }

@@ -8,12 +8,11 @@ use crate::ended::{Ended, end_of};
 use crate::handles::{TopicReceiver, TopicSender};
 use crate::histories::{Histories, divide, name_of};
 use crate::registry::{ask, bind, end, find, open, subscribe};
+use crate::rows::Rooms;
 use crate::shared_topics::SharedTopics;
 use crate::shares::Shares;
-use crate::rows;
-use crate::rows::Rooms;
-use crate::told;
 use crate::topic_cache::TopicCache;
+use crate::{rows, told};
 use std::alloc::Global;
 use std::collections::VecDeque;
 use std::marker::Model;
@@ -21,8 +20,8 @@ use std::mem::replace;
 use std::sync::{Arc, Wait};
 use std::time::{Clock, Duration};
 use th_model::{
-    BCall, Listing, Making, Name, NameRef, Question, ReceiverVerb, RxId, SenderVerb, Short, Start, Value,
-    WCall,
+    BCall, Listing, Making, Name, NameRef, Question, ReceiverVerb, RxId, SenderVerb, Short, Start,
+    Value, WCall,
 };
 use th_registry::channel::{TopicReceipt, TopicSegment};
 use th_registry::topics::list;

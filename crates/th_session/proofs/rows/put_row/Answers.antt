@@ -43,6 +43,6 @@ returns-in-Err-clause-told g c =
     let front = subst (λ (l : List ℕ). WritesFront (before.waiting ++ l) before now) (sym is) c.in-Err.ensures.told in
     let broken = front_line lines k within c.loop-entry.invariant.told front in
     let all = all_last rs c.args.count ∙ ap (λ (l : List (TopicId × ChannelReceipt)). drop (length l - c.args.count) l)
-        c.receipts-receipts.ensures in
+    c.receipts-receipts.ensures in
     subst (λ (l : List (TopicId × ChannelReceipt)). WritesFront (c.args.replies.now.text ++ concat (map (λ r. told_by r.1) l))
     (output contents c.args.writer.now c.args.replies.now.text) now) all broken

@@ -28,10 +28,10 @@ returns g c =
     let kept = receiver-kept g.D.Desk.tx g.D.Desk.rx c.in-Some.own.now _ c.by_receiver_row.new.receiver holds c.by_receiver_row.ensures.receiver in
     let at = sym c.in-Some.ensures.value in
     let there = receiver-there g.D.Desk.tx g.D.Desk.rx c.args.handles.now.entries c.args.topic.0 (Some c.in-Some-receiver.receiver)
-        (ap (λ x. x.receiver) (at-in c.args.handles.now.entries c.args.topic.0 _ at) ∙ holds) in
+    (ap (λ x. x.receiver) (at-in c.args.handles.now.entries c.args.topic.0 _ at) ∙ holds) in
     let made = subst (λ (l : List (TopicId × ChannelReceipt)). MadeInRow g.D.Desk.says c.args.topic.0
-        (times c.args.most (Receives (g.D.Desk.rx c.in-Some-receiver.receiver) c.args.verb)) l c.by_receiver_row.new.receipts.items
-        c.args.desk.now c.by_receiver_row.new.self c.by_receiver_row.result) c.reserve.ensures.items c.by_receiver_row.ensures.row in (
+    (times c.args.most (Receives (g.D.Desk.rx c.in-Some-receiver.receiver) c.args.verb)) l c.by_receiver_row.new.receipts.items
+    c.args.desk.now c.by_receiver_row.new.self c.by_receiver_row.result) c.reserve.ensures.items c.by_receiver_row.ensures.row in (
       held-set g.D.Desk.tx g.D.Desk.rx c.args.handles.now.entries _ c.args.topic.0 c.in-Some.own.now _ at refl kept,
       inr (_, there, made),
     )

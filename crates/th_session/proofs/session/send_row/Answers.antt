@@ -27,10 +27,10 @@ returns g c =
     let kept = sender-kept g.D.Desk.tx g.D.Desk.rx c.in-Some.own.now _ c.send_row.new.sender holds c.send_row.ensures.sender in
     let at = sym c.in-Some.ensures.value in
     let there = sender-there g.D.Desk.tx g.D.Desk.rx c.args.handles.now.entries c.args.topic.0 (Some c.in-Some-sender.sender)
-        (ap (λ x. x.sender) (at-in c.args.handles.now.entries c.args.topic.0 _ at) ∙ holds) in
+    (ap (λ x. x.sender) (at-in c.args.handles.now.entries c.args.topic.0 _ at) ∙ holds) in
     let made = subst (λ (l : List (TopicId × ChannelReceipt)). MadeInRow g.D.Desk.says c.args.topic.0
-        (sends_of (g.D.Desk.tx c.in-Some-sender.sender) c.args.values.now.items) l c.send_row.new.receipts.items
-        c.args.desk.now c.send_row.new.self c.send_row.result) c.reserve.ensures.items c.send_row.ensures.row in (
+    (sends_of (g.D.Desk.tx c.in-Some-sender.sender) c.args.values.now.items) l c.send_row.new.receipts.items
+    c.args.desk.now c.send_row.new.self c.send_row.result) c.reserve.ensures.items c.send_row.ensures.row in (
       held-set g.D.Desk.tx g.D.Desk.rx c.args.handles.now.entries _ c.args.topic.0 c.in-Some.own.now _ at refl kept,
       inr (_, there, made),
     )

@@ -9,14 +9,14 @@ use Rattle.th_shared.proofs.rows.send.Goals as goal
 pub returns-clause-few : goal.returns-clause-few
 returns-clause-few g c =
     let sent = sent_of (tx c.args.sender.now) c.args.sender.now c.send_many.new.self c.args.values.now.items c.send_many.new.values.items
-        c.reserve.new.self.items c.send_many.new.receipts.items c.send_many.result c.send_many.ensures.sent in
+    c.reserve.new.self.items c.send_many.new.receipts.items c.send_many.result c.send_many.ensures.sent in
     few_sent (tx c.args.sender.now) c.args.sender.now c.send_many.new.self c.args.values.now.items sent.0 c.reserve.new.self.items
     c.send_many.new.receipts.items (c.reserve.ensures.items ∙ c.clear.ensures.items) sent.1
 
 pub returns-clause-sends : goal.returns-clause-sends
 returns-clause-sends g c =
     let sent = sent_of (tx c.args.sender.now) c.args.sender.now c.send_many.new.self c.args.values.now.items c.send_many.new.values.items
-        c.reserve.new.self.items c.send_many.new.receipts.items c.send_many.result c.send_many.ensures.sent in
+    c.reserve.new.self.items c.send_many.new.receipts.items c.send_many.result c.send_many.ensures.sent in
     inr (record {
       on = c.is_on.ensures.on c.if-not-is_on.false;
       over = sent.0;

@@ -10,7 +10,7 @@ returns-then-starts_with-clause-row g c =
     let is = sym (ap (λ (l : Option (Bor (List ℕ))). line_given l) c.in-Some.is) ∙ c.line.ensures in
     let few : c.min-most.result ≤ c.args.most = omega (arith, c.min-most.ensures) in
     let lines = subst (λ (l : List ℕ). CarriesLines g.D.Desk.says c.in-Some.line.now l c.min-most.result
-        (c.args.session.now, c.args.desk.now) c.sends.result (c.sends.new.session, c.sends.new.desk)) c.ahead.ensures c.sends.ensures.row in
+    (c.args.session.now, c.args.desk.now) c.sends.result (c.sends.new.session, c.sends.new.desk)) c.ahead.ensures c.sends.ensures.row in
     carries_out g.D.Desk.says c.args.intake.now c.in-Some.line.now c.min-most.result c.args.most (c.args.session.now, c.args.desk.now)
     c.sends.result (c.sends.new.session, c.sends.new.desk) is few lines
 
@@ -19,6 +19,6 @@ returns-then-starts_with-2-clause-row g c =
     let is = sym (ap (λ (l : Option (Bor (List ℕ))). line_given l) c.in-Some.is) ∙ c.line.ensures in
     let few : c.min-most.result ≤ c.args.most = omega (arith, c.min-most.ensures) in
     let lines = subst (λ (l : List ℕ). CarriesLines g.D.Desk.says c.in-Some.line.now l c.min-most.result
-        (c.args.session.now, c.args.desk.now) c.receives.result (c.receives.new.session, c.receives.new.desk)) c.ahead-then-starts_with-2.ensures c.receives.ensures.row in
+    (c.args.session.now, c.args.desk.now) c.receives.result (c.receives.new.session, c.receives.new.desk)) c.ahead-then-starts_with-2.ensures c.receives.ensures.row in
     carries_out g.D.Desk.says c.args.intake.now c.in-Some.line.now c.min-most.result c.args.most (c.args.session.now, c.args.desk.now)
     c.receives.result (c.receives.new.session, c.receives.new.desk) is few lines
