@@ -111,7 +111,9 @@ module _ {S C R : Type 0} (p : Piece S C R) where
 
   -- so diaries with as many are an account of the whole
   pub account : (ds : List (List (Told C R))) → AreGood p ds → length p.entries - length (all_of ds) ≡ 0 → IsAccount p ds
-  account ds g none = record { good = g; all = λ k lt. untold ds g (omega (arith, none, no_more ds g)) k lt }
+  account ds g none =
+      let count : length (all_of ds) ≡ length p.entries = omega (arith, none, no_more ds g) in
+      record { good = g; count = count; all = untold ds g count }
 
   -- and with fewer they are none
   pub no_account : (ds : List (List (Told C R))) (n : ℕ) → AreGood p ds → length p.entries - length (all_of ds) ≡ n → n ≢ 0

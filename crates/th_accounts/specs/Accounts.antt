@@ -25,10 +25,11 @@ pub record WasTold {S C R : Type 0} (p : Piece S C R) (diaries : List (List (Tol
   pub place : receipt.place ≡ p.first + k
   pub entry : slice_get p.entries k ≡ Some (receipt.call, receipt.reply)
 
--- the audit says yes, and somebody was told of each entry
+-- the audit says yes, there are as many receipts as entries, and somebody was told of each entry
 pub record IsAccount {S C R : Type 0} (p : Piece S C R) (diaries : List (List (Told C R))) :
     Type 0 where
   pub good : AreGood p diaries
+  pub count : length (all_of diaries) ≡ length p.entries
   pub all : (k : ℕ) → k < length p.entries → WasTold p diaries k
 
 -- why it is none: the audit's fault; or so many entries more than receipts

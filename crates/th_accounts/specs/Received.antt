@@ -42,17 +42,25 @@ module _ {T : Type 0} where
   told_in rx [] = []
   told_in rx (t ∷ d) = told_to rx t.call t.reply ++ told_in rx d
 
--- What stands in the diaries `d` and `others` is good and as much as the history has, and every receive of the receiver rx
--- is among the calls that `d` alone may tell of. Then what `d` tells of it is the values sent from its first place on, in
--- order, with a gap for each that it missed, and as many as its place rose.
+  -- Of these diaries `d` alone tells of the calls `mine`, and of no other call. Every receive of the receiver rx is among
+  -- these calls.
+  pub record TellsAlone (rx : ℕ) (diaries : List (List (Told (BCall T) (BReply T))))
+      (d : List (Told (BCall T) (BReply T))) : Type 0 where
+    pub mine : BCall T → Bool
+    pub reads : (c : BCall T) → receives rx c ≡ true → mine c ≡ true
+    pub before : List (List (Told (BCall T) (BReply T)))
+    pub behind : List (List (Told (BCall T) (BReply T)))
+    pub among : diaries ≡ before ++ d ∷ behind
+    pub own : AllByRecursion (λ t. mine t.call ≡ true) d
+    pub others : AllByRecursion (λ t. mine t.call ≡ false) (all_of (before ++ behind))
+
+-- What stands in the diaries is good and as much as the history has, and `d` alone tells of the receives of the receiver rx.
+-- Then what `d` tells of it is the values sent from its first place on, in order, with a gap for each that it missed, and as
+-- many as its place rose.
 abbrev pub AuditedDiariesDeliver : Type 0 → Type 0 → Type 0
 AuditedDiariesDeliver S T = (p : Piece S (BCall T) (BReply T)) (e : Endless T) (rx first : ℕ)
-    (mine : BCall T → Bool)
-    (d : List (Told (BCall T) (BReply T))) (others : List (List (Told (BCall T) (BReply T))))
+    (diaries : List (List (Told (BCall T) (BReply T)))) (d : List (Told (BCall T) (BReply T)))
     → IsProper e → IsRun e p.entries → place_of e.index rx ≡ Some first
     → AllByRecursion (λ x. Spares rx x.0) p.entries
-    → AreGood p (d ∷ others) → length (all_of (d ∷ others)) ≡ length p.entries
-    → ((c : BCall T) → receives rx c ≡ true → mine c ≡ true)
-    → AllByRecursion (λ t. mine t.call ≡ true) d
-    → AllByRecursion (λ t. mine t.call ≡ false) (all_of others)
+    → AreGood p diaries → length (all_of diaries) ≡ length p.entries → TellsAlone rx diaries d
     → Delivers e rx first (told_in rx d) (end_of e p.entries)

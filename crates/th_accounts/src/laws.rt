@@ -1,5 +1,5 @@
 //! Laws of diaries.
-ghost use Rattle.th_accounts.specs.Clients.{ClientsWereTold};
+ghost use Rattle.th_accounts.specs.Clients.{ClientsWereTold, ClientsWereToldFromTheirMaking};
 ghost use Rattle.th_accounts.specs.Joined.{JoinedAreCounted};
 ghost use Rattle.th_accounts.specs.Received.{AuditedDiariesDeliver};
 ghost use Rattle.std.specs.Prelude.{Bool};
@@ -29,10 +29,16 @@ pub fn audited_diaries_deliver<S, T>()
     ensures { AuditedDiariesDeliver S T }
 {}
 
-/// Where an audit said yes to diaries that tell of a whole part of a channel's history, each receiver was told exactly what
-/// was sent from its first place on, in order, with a gap for each value that it missed.
+/// Where an audit said yes to diaries that tell of a whole part of a channel's history, each receiver that is live throughout
+/// was told exactly what was sent from its first place on, in order, with a gap for each value that it missed.
 pub fn clients_were_told<T>()
     ensures { ClientsWereTold T }
+{}
+
+/// The same of each receiver that is made within the part, from its making on: it was told what it found, and then what was
+/// sent since.
+pub fn clients_were_told_from_their_making<T>()
+    ensures { ClientsWereToldFromTheirMaking T }
 {}
 
 /// Once the shares of a channel settle, the parts of its history from the opening to the end, joined, have an entry for each event
