@@ -39,9 +39,9 @@
  * are bytes have calls of their own (below).
  *
  * Who keeps something for each value learns from each reply how many of them the channel lets go of (let_go, below),
- * oldest first. Values are kept in the order in which they were sent. So a queue is enough: append what is sent when
- * the answer is TOPICHUB_SENT, and take let_go entries from its front after each call. A value that is refused was
- * never kept.
+ * oldest first: what is kept after a call is what was kept and then what was sent, in the order sent, without the first
+ * let_go of them. So a queue is enough: append what is sent when the answer is TOPICHUB_SENT, and take let_go entries
+ * from its front after each call. A value that is refused was never kept.
  *
  *
  * SENDERS AND RECEIVERS
@@ -149,7 +149,7 @@ typedef struct topichub_reply {
     uint32_t status;  /* One of enum topichub_status. */
     uint32_t let_go;  /* How many of the values that the channel kept it lets go of by this call, the oldest ones.
                          Most calls let go of none; each says below when it does. With TOPICHUB_VALUE, 1 says that
-                         this was the last read of the value. */
+                         this was the last read of the value, which was the oldest one. */
     uint64_t number;  /* What the status says; 0 where it says nothing of a number. */
 } topichub_reply;
 
@@ -183,8 +183,8 @@ typedef struct topichub_trace {
 /*
  * BROADCAST CHANNELS
  *
- * Every call below may also come to TOPICHUB_NOT_OPEN, and in a recorded channel to TOPICHUB_LOG_FULL. A drop of a
- * live sender or receiver never comes to TOPICHUB_LOG_FULL or TOPICHUB_NO_MEMORY. A call takes time at most
+ * Every call below may also come to TOPICHUB_NOT_OPEN, and in a recorded channel to TOPICHUB_LOG_FULL or
+ * TOPICHUB_NO_MEMORY. A drop of a live sender or receiver comes to neither of the last two. A call takes time at most
  * logarithmic in the number of senders and receivers, and now and then the growth of the history. Only
  * topichub_broadcast_subscribe_oldest and topichub_broadcast_drop_rx also go through the kept values that the
  * receiver has still to read.
@@ -220,16 +220,16 @@ void topichub_broadcast_free(topichub_broadcast *channel);
 /*
  * Sends a value to every live receiver.
  *
- * TOPICHUB_SENT; TOPICHUB_NO_RECEIVERS, TOPICHUB_EXHAUSTED, TOPICHUB_NO_HANDLE, each with the value;
- * TOPICHUB_NO_MEMORY. let_go: 1 where the oldest value made room for it, else 0.
+ * TOPICHUB_SENT; TOPICHUB_NO_RECEIVERS, TOPICHUB_EXHAUSTED, TOPICHUB_NO_HANDLE, each with the value. let_go: 1 where
+ * the oldest value made room for it, else 0.
  */
 topichub_reply topichub_broadcast_send(topichub_broadcast *channel, uint64_t tx, uint64_t value);
 
 /*
  * Receives the next value, in the order sent.
  *
- * TOPICHUB_VALUE, TOPICHUB_LAGGED, TOPICHUB_EMPTY, TOPICHUB_CLOSED, TOPICHUB_NO_HANDLE, TOPICHUB_NO_MEMORY.
- * let_go: 1 where no other receiver has still to read the value, else 0.
+ * TOPICHUB_VALUE, TOPICHUB_LAGGED, TOPICHUB_EMPTY, TOPICHUB_CLOSED, TOPICHUB_NO_HANDLE; and TOPICHUB_NO_MEMORY where
+ * another receiver has still to read the value too. let_go: 1 where no other receiver has, else 0.
  */
 topichub_reply topichub_broadcast_try_recv(topichub_broadcast *channel, uint64_t rx);
 

@@ -81,7 +81,7 @@ low-pushed n c low len ps all some room is whole false e =
     omega (arith, least_same n ps all some)
 
 -- a receiver reads the value at its place
-low-read : (n c i : ℕ) (ps : Places) (rx : ℕ) → place_of ps rx ≡ Some i → n - c ≤ i → i < n
+pub low-read : (n c i : ℕ) (ps : Places) (rx : ℕ) → place_of ps rx ≡ Some i → n - c ≤ i → i < n
     → low_of n c (with_place ps rx (i + 1)) ≡ low_of n c ps + cond (nat_lt i (low_of n c (with_place ps rx (i + 1)))) 1 0
 unfolding low_of
 low-read n c i ps rx here inside before =
@@ -116,7 +116,7 @@ low-joined n c i ps rx free above =
 
 -- ---- the window
 -- whether a position that was sent is kept
-one-if-gone : {T : Type 0} (w : Window T) → IsWindow w → (i : ℕ) → i < w.tail → gone_at w i ≡ cond (nat_lt i w.low) 1 0
+pub one-if-gone : {T : Type 0} (w : Window T) → IsWindow w → (i : ℕ) → i < w.tail → gone_at w i ≡ cond (nat_lt i w.low) 1 0
 one-if-gone w s i before = elim (nat_lt i w.low) as
     (λ b. nat_lt i w.low ≡ b → one_if_none (cond b None (slice_get w.kept (i - w.low))) ≡ cond b 1 0) [
       | true ↦ λ e. refl
@@ -126,7 +126,7 @@ one-if-gone w s i before = elim (nat_lt i w.low) as
 
 -- ---- the calls
 -- how many values are let go of, where this is the answer
-abbrev let_go_of : {T : Type 0} → Picture T → BReply T × Picture T → ℕ
+abbrev pub let_go_of : {T : Type 0} → Picture T → BReply T × Picture T → ℕ
 let_go_of p a = length p.window.kept + sent_by a.0 - length a.1.window.kept
 
 abbrev Finds : {T : Type 0} → Picture T → Note → BReply T × Picture T → Type 0
@@ -171,13 +171,13 @@ module _ {T : Type 0} (p : Picture T) (s : IsSound p) where
 
   -- ---- a receive
   module _ (rx i : ℕ) (here : place_of p.window.places rx ≡ Some i) where
-    there : IsSome (place_of p.window.places rx)
+    pub there : IsSome (place_of p.window.places rx)
     there = rw here refl
 
-    abbrev lagged : BReply T × Picture T
+    abbrev pub lagged : BReply T × Picture T
     lagged = (Lagged (first_of p.window - i), with_window p (placed p.window rx (first_of p.window)))
 
-    abbrev received : BReply T × Picture T
+    abbrev pub received : BReply T × Picture T
     received = (value_reply (slice_get p.window.kept (i - p.window.low)), with_window p (placed p.window rx (i + 1)))
 
     skipping : i < first_of p.window → Finds p (Place (Some i)) lagged
@@ -194,7 +194,7 @@ module _ {T : Type 0} (p : Picture T) (s : IsSound p) where
         )
 
     -- what is read is there
-    stands : first_of p.window ≤ i → i < p.window.tail → (v : T) × (slice_get p.window.kept (i - p.window.low) ≡ Some v)
+    pub stands : first_of p.window ≤ i → i < p.window.tail → (v : T) × (slice_get p.window.kept (i - p.window.low) ≡ Some v)
     stands inside before =
         let low = low_of-at p.window.tail p.window.capacity p.window.places rx i here in
         slice_get-some p.window.kept (i - p.window.low) (omega (arith, s.window.low, s.window.kept))
@@ -214,7 +214,7 @@ module _ {T : Type 0} (p : Picture T) (s : IsSound p) where
       | false ↦ omega arith
     ]
 
-    in-each-case : (Holds : BReply T × Picture T → Type 0) → Holds (end_reply p.senders, p)
+    pub in-each-case : (Holds : BReply T × Picture T → Type 0) → Holds (end_reply p.senders, p)
         → (i < first_of p.window → Holds lagged)
         → (first_of p.window ≤ i → i < p.window.tail → Holds received)
         → Holds (receive p rx i)

@@ -3,6 +3,8 @@ pub mod Filling
 pub mod Judging
 pub mod Kept
 pub mod LetGo
+pub mod OldestFirst
+pub mod Refusals
 pub mod Powers
 pub mod Printed
 pub mod Telling

@@ -5,7 +5,7 @@ use Rattle.th_model.specs.declared.broadcast.BReply.{BReply}
 use Rattle.th_model.specs.declared.broadcast.BReply.TheVariants.{Sent, NoReceivers, Exhausted, Value, Empty, Closed, Lagged, NewRx, NewTx, Count, Done, TooMany, NoHandle}
 use Rattle.th_model.specs.declared.broadcast.BCall.TheVariants as of
 use Rattle.th_traces.specs.Spelled.{Bytes}
-use Rattle.th_model.specs.BroadcastPicture.{Picture, TakesNoMemory, answer}
+use Rattle.th_model.specs.BroadcastPicture.{Picture, TakesNoneIfSure, answer}
 use Rattle.th_log.specs.Machines.{broadcast}
 use Rattle.th_c.specs.declared.content.Content.{Content}
 use Rattle.th_c.specs.declared.content.Content.TheVariants as content
@@ -79,7 +79,7 @@ without_value call = None
 abbrev pub AnswersSame : Option (BCall Bytes) → Picture Bytes → Result Reply Refusal → Picture Bytes
     → Type 0
 AnswersSame (Some call) before told after =
-    Answers broadcast (tells length) TakesNoMemory before call told after
+    Answers broadcast (tells length) TakesNoneIfSure before call told after
 AnswersSame None before told after = (told ≡ Err OtherValues) × (after ≡ before)
 
 -- and of one that keeps its history
@@ -108,7 +108,7 @@ abbrev pub Answered : Content → BCall ℕ → Result Reply Refusal → Content
 Answered (content.Broadcast before) call told next =
     (after : Picture ℕ)
     × (next ≡ content.Broadcast after)
-    × Answers broadcast (tells (λ n. n)) TakesNoMemory before call told after
+    × Answers broadcast (tells (λ n. n)) TakesNoneIfSure before call told after
 Answered (content.RecordedBroadcast before) call told next =
     (after : History (Picture ℕ) (Picture ℕ) (BCall ℕ) (BReply ℕ))
     × (next ≡ content.RecordedBroadcast after)

@@ -3,7 +3,7 @@ use Rattle.std.specs.Prelude.{◌≡◌, ℕ, Bool, true, false, ◌++◌, List,
 use Rattle.th_model.specs.declared.broadcast.BCall.{BCall}
 use Rattle.th_model.specs.declared.broadcast.BReply.{BReply}
 use Rattle.th_model.specs.declared.broadcast.BReply.TheVariants.{Value}
-use Rattle.th_model.specs.BroadcastPicture.{Picture, TakesNoMemory, answer}
+use Rattle.th_model.specs.BroadcastPicture.{Picture, TakesNoneIfSure, answer}
 use Rattle.th_model.specs.Names.{is_value}
 use Rattle.th_log.specs.Machines.{broadcast}
 use Rattle.th_traces.specs.Spelled.{Bytes}
@@ -18,16 +18,18 @@ use Rattle.th_c.specs.Outcomes.{Answers, Records, reply_of}
 -- what comes of a call of a channel of bytes; a reply tells how many bytes its value has
 abbrev pub AnswersOfBytes : Picture Bytes → BCall Bytes → Result Reply Refusal → Picture Bytes → Type 0
 AnswersOfBytes before call told after =
-    Answers broadcast (tells length) TakesNoMemory before call told after
+    Answers broadcast (tells length) TakesNoneIfSure before call told after
 
 -- and of one that keeps its history
 abbrev pub RecordsOfBytes : BytesHistory → BCall Bytes → Result Reply Refusal → BytesHistory
     → Type 0
 RecordsOfBytes before call told after = Records broadcast (tells length) before call told after
 
--- what comes of a call with these bytes, which are a value or are not
+-- What comes of a call with these bytes, which are a value or are not. Memory is asked for to make
+-- the value.
 abbrev pub SendsValue : Bool → Picture Bytes → BCall Bytes → Result Reply Refusal → Picture Bytes
     → Type 0
+SendsValue true before call (Err NoMemory) after = after ≡ before
 SendsValue true before call told after = AnswersOfBytes before call told after
 SendsValue false before call told after = (told ≡ Err BadValue) × (after ≡ before)
 

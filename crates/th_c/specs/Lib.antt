@@ -10,3 +10,5 @@ pub mod WatchBytes
 pub mod Checking
 pub mod SpelledValues
 pub mod Cutting
+pub mod OldestFirst
+pub mod Statuses

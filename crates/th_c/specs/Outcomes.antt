@@ -28,9 +28,9 @@ reply_of (Ok reply) = reply
 reply_of (Err why) = record { status = code_of why; let_go = 0; number = 0 }
 
 -- What a call of a channel with no history comes to: it is the machine's step; or it would wait; or
--- memory was refused, which is never so of a call that takes none.
+-- memory was refused, which is never so of a call that takes none in a channel that looks so.
 abbrev pub Answers : {E S C R : Type 0} → Machine E S C R → (S → C → Reply)
-    → (C → Type 0) → S → C → Result Reply Refusal → S → Type 0
+    → (S → C → Type 0) → S → C → Result Reply Refusal → S → Type 0
 Answers m tells takes_none before call (Ok reply) after =
     (m.ready before call ≡ true)
     × (reply ≡ tells before call)
@@ -38,7 +38,7 @@ Answers m tells takes_none before call (Ok reply) after =
 Answers m tells takes_none before call (Err WouldWait) after =
     (m.ready before call ≡ false) × (after ≡ before)
 Answers m tells takes_none before call (Err NoMemory) after =
-    (m.ready before call ≡ true) × (takes_none call → ⊥) × (after ≡ before)
+    (m.ready before call ≡ true) × (takes_none before call → ⊥) × (after ≡ before)
 Answers m tells takes_none before call (Err why) after = ⊥
 
 -- a call after which fewer handles are live

@@ -7,8 +7,7 @@ use Rattle.th_model.specs.declared.watch.WCall.TheVariants.{Send, Replace, EditB
 use Rattle.th_model.specs.declared.watch.WCall.TheVariants as of
 use Rattle.th_model.specs.declared.watch.WReply.{WReply}
 use Rattle.th_model.specs.declared.watch.WReply.TheVariants.{Done, NoReceivers, Exhausted, Was, Modified, Shown, Changed, Marked, NotYet, Closed, Gone, NewRx, NewTx, Count, TooMany, NoHandle}
-use Rattle.th_model.specs.Live.{TakesNone}
-use Rattle.th_model.specs.WatchPicture.{Picture, answer}
+use Rattle.th_model.specs.WatchPicture.{Picture, TakesNoMemory, answer}
 use Rattle.th_log.specs.Machines.{watch}
 use Rattle.th_c.specs.declared.content.Content.{Content}
 use Rattle.th_c.specs.declared.content.Content.TheVariants as content
@@ -71,6 +70,10 @@ tells eq number before call =
       number = number_of number reply;
     }
 
+-- the calls that take no memory, whatever the channel looks like
+abbrev pub takes_none : {T : Type 0} → Picture T → WCall T → Type 0
+takes_none before call = TakesNoMemory call
+
 -- what comes of a call of a channel of bytes, and of one that keeps its history; a reply tells how
 -- many bytes its value has
 abbrev pub same_bytes : Bytes → Bytes → Bool
@@ -79,7 +82,7 @@ same_bytes = pointwise nat_eq
 abbrev pub AnswersOfBytes : Picture Bytes → WCall Bytes → Result Reply Refusal → Picture Bytes
     → Type 0
 AnswersOfBytes before call told after =
-    Answers (watch same_bytes) (tells same_bytes length) TakesNone before call told after
+    Answers (watch same_bytes) (tells same_bytes length) takes_none before call told after
 
 abbrev pub BytesHistory : Type 0
 BytesHistory = History (Picture Bytes) (Picture Bytes) (WCall Bytes) (WReply Bytes)
@@ -134,7 +137,7 @@ abbrev pub Answered : Content → WCall ℕ → Result Reply Refusal → Content
 Answered (content.Watch before) call told next =
     (after : Picture ℕ)
     × (next ≡ content.Watch after)
-    × Answers (watch nat_eq) (tells nat_eq (λ n. n)) TakesNone before call told after
+    × Answers (watch nat_eq) (tells nat_eq (λ n. n)) takes_none before call told after
 Answered (content.RecordedWatch before) call told next =
     (after : History (Picture ℕ) (Picture ℕ) (WCall ℕ) (WReply ℕ))
     × (next ≡ content.RecordedWatch after)

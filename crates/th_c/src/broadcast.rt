@@ -12,7 +12,7 @@ use crate::reply::Reply;
 use crate::status;
 use crate::tells::{Tells, answered, recorded};
 use std::alloc::Global;
-use th_model::{BCall, BReply, Value};
+use th_model::{BCall, BReply, Short, Value};
 use th_registry::recorded::Recorded;
 
 // The status of a reply, and the number that it speaks of.
@@ -39,6 +39,7 @@ fn status_and_number<T: Payload>(reply: &BReply<T>) -> (u32, u64)
 }
 
 impl<T: Payload> Tells for RingBroadcast<T> {
+    ghost use Rattle.th_model.specs.BroadcastPicture.{TakesNoneIfSure};
     ghost use Rattle.th_c.specs.Broadcast.{tells};
     ghost use Rattle.th_c.specs.LetGo.{noted};
 
@@ -47,6 +48,13 @@ impl<T: Payload> Tells for RingBroadcast<T> {
     ghost tells = { tells T.number };
 
     ghost noted = { noted };
+
+    ghost takes_none_now = { TakesNoneIfSure };
+
+    #[inline(always)]
+    fn make(&mut self, call: BCall<T>) -> Result<BReply<T>, Short<BCall<T>>> {
+        self.apply(call)
+    }
 
     #[inline(always)]
     fn note(&self, call: &BCall<T>) -> Note {

@@ -129,7 +129,7 @@ fn answered_into(channel: &mut BytesBroadcast, call: BCall<Value>, buffer: &mut 
     // Its contract says that the picture is sound.
     let _live = channel.live();
     let note = channel.note(&call);
-    match channel.apply(call) {
+    match channel.make(call) {
         Ok(reply) => {
             put_value(&reply, buffer);
             Ok(channel.told(note, &reply))

@@ -14,6 +14,7 @@ pub mod checking;
 mod content;
 pub mod cutting;
 mod handle;
+pub mod laws;
 mod let_go;
 mod making;
 mod outcome;

@@ -1,11 +1,12 @@
 //! Calls of a channel of either kind, with their replies as C sees them.
-ghost use Rattle.std.specs.Prelude.{◌≡◌};
+ghost use Rattle.std.specs.Prelude.{◌≡◌, IfOk, IsOk, OnErr};
 ghost use Rattle.th_c.specs.Outcomes.{Answers, Records};
 ghost use Rattle.th_c.specs.declared.reply.Reply.{Reply};
 
 use crate::outcome::{Refusal, Told};
 use crate::reply::Reply;
 use th_log::Kind;
+use th_model::Short;
 use th_registry::NoEvent;
 use th_registry::recorded::Recorded;
 
@@ -19,6 +20,17 @@ pub trait Tells: Kind {
 
     /// The note of a call in a channel that looks so.
     ghost noted: { Self.State → Self.Call → Self.Note };
+
+    /// The calls that are answered without memory, in a channel that looks so.
+    ghost takes_none_now: { Self.State → Self.Call → Type 0 };
+
+    /// Makes the call. Where memory is refused, nothing has changed.
+    fn make(&mut self, call: Self::Call) -> Result<Self::Reply, Short<Self::Call>>
+        requires { Self.lawful }
+        ensures step { IfOk result (λ reply.
+            Self.machine.answer (Self.shows self.old) call ≡ (reply, Self.shows self.new)) }
+        ensures short { OnErr result (Self.shows self.new ≡ Self.shows self.old) }
+        ensures always { takes_none_now (Self.shows self.old) call → IsOk result };
 
     /// What has to be known before the call.
     fn note(&self, call: &Self::Call) -> Self::Note
@@ -36,7 +48,7 @@ pub trait Tells: Kind {
 #[inline(always)]
 pub(crate) fn answered<O: Tells>(channel: &mut O, call: O::Call) -> Told
     requires { O.lawful }
-    ensures { Answers O.machine O.tells O.takes_none
+    ensures { Answers O.machine O.tells O.takes_none_now
         (O.shows channel.old) call result (O.shows channel.new) }
 {
     if !channel.ready(&call) {
@@ -45,7 +57,7 @@ pub(crate) fn answered<O: Tells>(channel: &mut O, call: O::Call) -> Told
     // Its contract says that the picture is sound.
     let _live = channel.live();
     let note = channel.note(&call);
-    match channel.apply(call) {
+    match channel.make(call) {
         Ok(reply) => Ok(channel.told(note, &reply)),
         Err(_) => Err(Refusal::NoMemory),
     }

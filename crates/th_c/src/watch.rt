@@ -12,7 +12,7 @@ use crate::reply::Reply;
 use crate::status;
 use crate::tells::{Tells, answered, recorded};
 use std::alloc::Global;
-use th_model::{Edit, Value, WCall, WReply};
+use th_model::{Edit, Short, Value, WCall, WReply};
 use th_registry::recorded::Recorded;
 use th_watch::Watch;
 
@@ -66,7 +66,7 @@ fn puts_at<T: Payload>(call: &WCall<T>) -> u32
 }
 
 impl<T: Payload> Tells for Watch<T> {
-    ghost use Rattle.th_c.specs.Watch.{puts_at, tells};
+    ghost use Rattle.th_c.specs.Watch.{puts_at, takes_none, tells};
 
     // The status with which the call puts its value in the place of the newest one.
     type Note = u32;
@@ -74,6 +74,13 @@ impl<T: Payload> Tells for Watch<T> {
     ghost tells = { tells T.eq T.number };
 
     ghost noted = { λ p call. puts_at call };
+
+    ghost takes_none_now = { takes_none };
+
+    #[inline(always)]
+    fn make(&mut self, call: WCall<T>) -> Result<WReply<T>, Short<WCall<T>>> {
+        self.apply(call)
+    }
 
     #[inline(always)]
     fn note(&self, call: &WCall<T>) -> u32 {
