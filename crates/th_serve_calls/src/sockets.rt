@@ -4,7 +4,7 @@ use std::os::unix::net::UnixListener;
 use std::sync::Wait;
 use std::thread::Threads;
 use std::time::Clock;
-use th_session::{Keeping, OpenGate};
+use th_session::{Bounds, Keeping, OpenGate};
 use th_sockets::{Observer, ServeFault, Served, Unheard, serve_on};
 
 pub fn serve<R: Threads + Wait + Clock + Clone + Send + Sync>(
@@ -20,6 +20,7 @@ pub fn serve<R: Threads + Wait + Clock + Clone + Send + Sync>(
         &OpenGate,
         &Unheard,
         Keeping::Nothing,
+        Bounds::usual(),
     )
 }
 

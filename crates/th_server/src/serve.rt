@@ -15,7 +15,7 @@ use std::sync::Wait;
 use std::thread::Threads;
 use std::time::Clock;
 use th_program::End;
-use th_session::{Keeping, OpenGate, SessionFault};
+use th_session::{Bounds, Keeping, OpenGate, SessionFault};
 use th_sockets::{Observer, ServeFault, serve_on};
 
 /// Says as an error which session was stopped, and by what.
@@ -54,6 +54,7 @@ fn attend<R: Threads + Wait + Clock + Clone + Send + Sync + Print + Eprint>(
         &OpenGate,
         &teller,
         Keeping::Nothing,
+        Bounds::usual(),
     ) {
         Ok(_) => End::Done,
         Err(ServeFault::Short(_)) => End::Short,

@@ -1,32 +1,21 @@
 //! A thread for each connection.
-ghost use Rattle.std.specs.Prelude.{◌≡◌, ◌≤◌, IfOk, None, vec_capacity, vec_len};
+ghost use Rattle.std.specs.Prelude.{◌≡◌, ◌≤◌, IfOk, IfSome, None, vec_capacity, vec_len};
+ghost use Rattle.std.specs.PromisedHandle.{KeepsEach};
+ghost use Rattle.th_session.specs.Run.{strictness};
+ghost use Rattle.th_sockets.specs.Serve.{EachHasEnded, ended_in};
+ghost use Rattle.th_sockets.specs.Terms.{AreOnTerms, HasEndedBy};
 
+use crate::attended::{Attended, attend};
 use crate::observer::Observer;
+use crate::terms::Terms;
 use std::alloc::Global;
 use std::os::unix::net::{UnixListener, UnixStream};
 use std::sync::Wait;
 use std::thread;
-use std::thread::{JoinHandle, Scope, Threads};
+use std::thread::{Promise, PromisedHandle, Scope, Threads};
 use std::time::Clock;
-use th_lines::Counted;
-use th_registry::TopicId;
-use th_registry::channel::{TopicReceipt, TopicSegment};
-use th_seats::Share;
-use th_session::{Bounds, Gate, Keeping, SessionFault, run_session};
+use th_session::{Bounds, Gate, Keeping};
 use th_shared::SharedDesk;
-
-/// A session that has ended. It holds no handle.
-#[derive(Drop)]
-pub struct Attended {
-    /// The receipts that it was answered, each with its topic, if they were kept.
-    pub receipts: Vec<(TopicId, TopicReceipt)>,
-    /// The segments that it was answered, each with its topic, if they were kept.
-    pub segments: Vec<(TopicId, TopicSegment)>,
-    /// The shares of the handles that it held, each with its topic.
-    pub shares: Vec<(TopicId, Share)>,
-    /// Why it ended before its input did, and before it was answered `BYE`.
-    pub fault: Option<SessionFault>,
-}
 
 /// What is left once all sessions have ended.
 #[derive(Drop)]
@@ -56,54 +45,31 @@ enum Stop {
     Short,
 }
 
-// A connection that is to be served, as the session of this number.
+// A connection that is to be served.
 #[derive(Drop)]
 struct Connection<'r, 'g, 'o, R, G, O> {
     rt: &'r R,
     alloc: Global,
     stream: UnixStream,
-    gate: &'g G,
+    terms: Terms<'g, G>,
     observer: &'o O,
-    number: u64,
-    keeping: Keeping,
 }
 
 // Its session.
-fn attend<R: Wait + Clock + Clone, G: Gate, O: Observer>(
+fn serve<R: Wait + Clock + Clone, G: Gate, O: Observer>(
     connection: Connection<'_, '_, '_, R, G, O>,
     desk: SharedDesk<R>,
-) -> Attended {
-    let mut desk = desk;
+) -> Attended
+    ensures { HasEndedBy G.holds_back G.gives_up connection.entry.terms result }
+{
     let Connection {
         rt,
         alloc,
         stream,
-        gate,
+        terms,
         observer,
-        number,
-        keeping,
     } = connection;
-    let mut reader = Counted::new(&stream);
-    let mut writer = Counted::new(&stream);
-    let (session, fault) = run_session(
-        rt,
-        alloc,
-        &mut reader,
-        &mut writer,
-        &mut desk,
-        gate,
-        number,
-        keeping,
-        Bounds::usual(),
-    );
-    observer.ended(number, fault);
-    let (receipts, segments) = session.parts();
-    Attended {
-        receipts,
-        segments,
-        shares: desk.into_shares(),
-        fault,
-    }
+    attend(rt, alloc, &stream, &stream, desk, &terms, observer)
 }
 
 // Its session in a thread of this scope, where one can be started.
@@ -111,8 +77,11 @@ fn start<'s, E, R: Wait + Clock + Clone + Send + Sync, G: Gate + Sync, O: Observ
     scope: &Scope<'s, E>,
     connection: Connection<'s, 's, 's, R, G, O>,
     desk: SharedDesk<R>,
-) -> Option<JoinHandle<Attended>> {
-    match scope.spawn(move || attend(connection, desk)) {
+) -> Option<PromisedHandle<Attended, Terms<'s, G>>>
+    ensures terms { IfSome result (λ handle. handle.promise ≡ connection.entry.terms) }
+{
+    let promise = connection.terms.again();
+    match scope.spawn_with(promise, move || serve(connection, desk)) {
         Ok(handle) => Some(handle),
         Err(_) => None,
     }
@@ -135,9 +104,11 @@ fn start_all<
     gate: &'s G,
     observer: &'s O,
     keeping: Keeping,
-) -> (Vec<JoinHandle<Attended>>, Option<Stop>)
+    bounds: Bounds,
+) -> (Vec<PromisedHandle<Attended, Terms<'s, G>>>, Option<Stop>)
     ensures all { result.1 ≡ None → vec_len result.0 ≡ sessions }
     ensures most { vec_len result.0 ≤ sessions }
+    ensures terms { AreOnTerms gate.now keeping bounds result.0.items }
 {
     let Ok(mut threads) = Vec::with_capacity(alloc, sessions as usize) else {
         return (Vec::new(alloc), Some(Stop::Short));
@@ -153,10 +124,13 @@ fn start_all<
             rt,
             alloc,
             stream,
-            gate,
+            terms: Terms {
+                gate,
+                number: before + 1,
+                keeping,
+                bounds,
+            },
             observer,
-            number: before + 1,
-            keeping,
         };
         let Some(handle) = start(scope, connection, theirs) else {
             return (threads, Some(Stop::Start));
@@ -166,15 +140,16 @@ fn start_all<
     (threads, None)
 }
 
-// Waits until all of these have ended. There is room for what they leave.
-fn join_all<R: Threads>(
+// Waits until all of these threads have ended. There is room for what they leave.
+fn join_all<R: Threads, T: Drop, P: Promise<T>>(
     rt: &R,
-    threads: Vec<JoinHandle<Attended>>,
-    ended: Vec<Attended>,
-) -> Vec<Attended>
+    threads: Vec<PromisedHandle<T, P>>,
+    ended: Vec<T>,
+) -> Vec<T>
     requires room { vec_len threads ≤ vec_capacity ended }
     requires none { vec_len ended ≡ 0 }
-    ensures { vec_len result ≡ vec_len threads }
+    ensures all { vec_len result ≡ vec_len threads }
+    ensures each { KeepsEach P.Promise (vec_len threads) threads.items result.items }
 {
     let mut ended = ended;
     for handle in threads {
@@ -200,21 +175,25 @@ fn serve_all<
     gate: &'s G,
     observer: &'s O,
     keeping: Keeping,
+    bounds: Bounds,
 ) -> (Vec<Attended>, Option<Stop>)
     ensures all { result.1 ≡ None → vec_len result.0 ≡ sessions }
     ensures most { vec_len result.0 ≤ sessions }
+    ensures each { EachHasEnded (λ number. strictness G.holds_back G.gives_up (gate.now, number))
+        keeping bounds result.0.items }
 {
     let Ok(ended) = Vec::with_capacity(alloc, sessions as usize) else {
         return (Vec::new(alloc), Some(Stop::Short));
     };
     let (threads, stop) = start_all(
-        scope, rt, alloc, shared, listener, sessions, gate, observer, keeping,
+        scope, rt, alloc, shared, listener, sessions, gate, observer, keeping, bounds,
     );
     (join_all(rt, threads, ended), stop)
 }
 
 /// Accepts so many connections, 1 to 64, one after another, and serves each as a session in a thread of its own: they are
-/// numbered from 1, each line waits at the gate, and the observer hears of each end. It ends when all have ended. Where
+/// numbered from 1, each line waits at the gate, none is longer than these bounds, and the observer hears of each end. It ends when
+/// all have ended. Where
 /// nothing is kept of what sessions are answered, a session takes no more memory as it goes on, but for its handles, the names of
 /// the topics that they are on, and 24 bytes with each handle that it spends.
 ///
@@ -234,10 +213,13 @@ pub fn serve_on<
     gate: &G,
     observer: &O,
     keeping: Keeping,
+    bounds: Bounds,
 ) -> Result<Served<R>, ServeFault<R>>
     requires least { 1 ≤ sessions }
     requires most { sessions ≤ 64 }
     ensures all { IfOk result (λ served. vec_len served.sessions ≡ sessions) }
+    ensures each { EachHasEnded (λ number. strictness G.holds_back G.gives_up (gate.now, number))
+        keeping bounds (ended_in result) }
 {
     let Ok(own) = rt.clone() else {
         return Err(ServeFault::Short(None));
@@ -248,7 +230,7 @@ pub fn serve_on<
     let shared = &desk;
     let (ended, stop) = thread::scope(thread::scope_env(), rt, |scope| {
         serve_all(
-            scope, rt, alloc, shared, listener, sessions, gate, observer, keeping,
+            scope, rt, alloc, shared, listener, sessions, gate, observer, keeping, bounds,
         )
     });
     let served = Served {

@@ -1,0 +1,3 @@
+pub mod Attended
+pub mod Serve
+pub mod Terms
