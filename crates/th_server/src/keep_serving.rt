@@ -1,4 +1,7 @@
 //! Serves any number of connections, so many at a time.
+ghost use Rattle.std.specs.Prelude.{◌≡◌, ◌≢◌, ◌≤◌, IfErr, IsSome, IsTrue, vec_capacity, vec_len};
+ghost use Rattle.th_program.specs.declared.end.End.TheVariants.{Done};
+
 use crate::client::Client;
 use crate::connections::Connections;
 use crate::parts::{Keeper, Store, folder};
@@ -13,7 +16,7 @@ use std::os::unix::net::{UnixListener, UnixStream};
 use std::rt::Files;
 use std::sync::{Arc, Wait};
 use std::thread;
-use std::thread::{Scope, Threads, sleep};
+use std::thread::{JoinHandle, Scope, Threads, sleep};
 use std::time::{Clock, Duration};
 use th_lines::Counted;
 use th_model::Kind;
@@ -115,6 +118,31 @@ fn work<R: Wait + Clock + Clone + Eprint>(
     }
 }
 
+// Starts so many workers, for whom there is room, and says whether all of them were started.
+fn start_workers<'s, E, R: Threads + Wait + Clock + Clone + Send + Sync + Eprint>(
+    scope: &Scope<'s, E>,
+    rt: &'s R,
+    alloc: Global,
+    listener: &'s UnixListener,
+    shared: &'s SharedDesk<R>,
+    connections: &'s Connections,
+    workers: Vec<JoinHandle<()>>,
+    at_once: u64,
+) -> (Vec<JoinHandle<()>>, bool)
+    requires room { at_once ≤ vec_capacity workers }
+    requires none { vec_len workers ≡ 0 }
+    ensures all { IsTrue result.1 → vec_len result.0 ≡ at_once }
+{
+    let mut workers = workers;
+    for place in 0..at_once {
+        match scope.spawn(move || work(rt, alloc, shared, listener, connections, place)) {
+            Ok(worker) => workers.push_reserved(worker),
+            Err(_) => return (workers, false),
+        }
+    }
+    (workers, true)
+}
+
 // Waits until standard input has ended.
 fn read_to_end<R: Input + Wait>(rt: &R) {
     let mut input = rt.reader();
@@ -158,7 +186,7 @@ fn serve_all<
     how: &Standing,
 ) -> End {
     let listener = &made.listener;
-    let Ok(mut workers) = Vec::with_capacity(alloc, how.at_once as usize) else {
+    let Ok(workers) = Vec::with_capacity(alloc, how.at_once as usize) else {
         return End::Short;
     };
     let Some(histories) = shared.histories() else {
@@ -166,23 +194,23 @@ fn serve_all<
     };
     let one = scope.spawn(move || keeper.keep_all(rt, alloc, shared, histories, Kind::Broadcast));
     let other = scope.spawn(move || keeper.keep_all(rt, alloc, shared, histories, Kind::Watch));
-    let mut end = if one.is_ok() && other.is_ok() {
+    let are_kept = one.is_ok() && other.is_ok();
+    let at_once = if are_kept { how.at_once } else { 0 };
+    let (workers, all) = start_workers(
+        scope,
+        rt,
+        alloc,
+        listener,
+        shared,
+        connections,
+        workers,
+        at_once,
+    );
+    let mut end = if are_kept && all {
         End::Done
     } else {
         End::Short
     };
-    let at_once = if end == End::Done { how.at_once } else { 0 };
-    for place in 0..at_once {
-        match scope.spawn(move || work(rt, alloc, shared, listener, connections, place)) {
-            Ok(worker) => {
-                let _ = workers.push(worker);
-            }
-            Err(_) => {
-                end = End::Short;
-                break;
-            }
-        }
-    }
     if end == End::Done && println!(rt; "listening").is_err() {
         end = End::Write;
     }
@@ -227,7 +255,9 @@ fn serve_on<R: Threads + Wait + Clock + Clone + Send + Sync + Print + Eprint + S
     made: &Socket,
     folder: Option<&str>,
     how: &Standing,
-) -> Result<u64, End> {
+) -> Result<u64, End>
+    ensures { IfErr result (λ end. end ≢ Done) }
+{
     let Ok(own) = rt.clone() else {
         return Err(End::Short);
     };
@@ -264,7 +294,9 @@ pub(crate) fn keep_serving<
         + Store
         + Net
         + Input,
->(rt: &R, alloc: Global, path: &str, how: &Standing) -> (End, Option<SocketFault>) {
+>(rt: &R, alloc: Global, path: &str, how: &Standing) -> (End, Option<SocketFault>)
+    ensures fault { IsSome result.1 → result.0 ≢ Done }
+{
     let made = match socket::find(rt, alloc, path, how) {
         Ok(made) => made,
         Err(fault) => return (End::Socket, Some(fault)),

@@ -3,18 +3,21 @@
 //!
 //! ```text
 //! // with the words `topichub serve hub.sock --sessions 2`: `listening`, both sessions, `done 2`
-//! let status = serve_by_words(&rt, words.as_slice());
-//! // `None` where the words ask for something else
+//! let outcome = serve_by_words(&rt, words.as_slice(), false);
+//! // `None` where the words ask for something else; and `status` of what came of it
 //! ```
 #![tactic(auto)]
 
 mod client;
 mod connections;
 mod keep_serving;
+mod outcome;
+mod part;
 mod parts;
 mod serve;
 mod socket;
 mod words;
 
+pub use outcome::Outcome;
 pub use parts::Store;
 pub use words::serve_by_words;

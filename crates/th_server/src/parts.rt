@@ -1,4 +1,5 @@
 //! The parts of histories that a hub has cut: they go to files of a folder, or are let go.
+use crate::part::{Part, entries_of, file_of, put_trace};
 use std::alloc::Global;
 use std::fs;
 use std::io::{Eprint, ErrorKind};
@@ -6,12 +7,10 @@ use std::rt::Files;
 use std::sync::Wait;
 use std::sync::atomic::{AtomicBool, Ordering};
 use std::time::{Clock, Duration, SystemTime, UNIX_EPOCH};
-use th_lines::{Counted, WriteBuffer};
+use th_lines::Counted;
 use th_model::{Kind, Name};
-use th_program::part_name;
+use th_registry::Channel;
 use th_registry::channel::TopicSegment;
-use th_registry::{Channel, TopicId};
-use th_session::append_trace_lines;
 use th_shared::{Ended, Histories, SharedDesk};
 
 // How many folders are tried, where the first names are taken.
@@ -71,29 +70,13 @@ pub(crate) fn folder<R: Files + Clock>(
     }
 }
 
-// The number of a part's first event, counted from 1, and how many entries the part has.
-fn span(part: &TopicSegment) -> (u64, u64) {
-    match part {
-        Channel::Broadcast(part) => (part.first().saturating_add(1), part.len()),
-        Channel::Watch(part) => (part.first().saturating_add(1), part.len()),
-    }
-}
-
-// The topic that a part is of: a channel's key is its topic's number, counted from 1.
-fn topic_of(part: &TopicSegment) -> TopicId {
-    let key = match part {
-        Channel::Broadcast(part) => part.key(),
-        Channel::Watch(part) => part.key(),
-    };
-    TopicId(key.saturating_sub(1))
-}
-
 // The next part of a topic of this kind. It waits until there is one, or none is to come.
-fn next_part<R: Wait>(rt: &R, histories: &Histories, kind: Kind) -> Option<TopicSegment> {
-    match kind {
-        Kind::Broadcast => Some(Channel::Broadcast(histories.broadcast.take(rt)?)),
-        Kind::Watch => Some(Channel::Watch(histories.watch.take(rt)?)),
-    }
+fn next_part<R: Wait>(rt: &R, histories: &Histories, kind: Kind) -> Option<Part> {
+    let part = match kind {
+        Kind::Broadcast => Channel::Broadcast(histories.broadcast.take(rt)?),
+        Kind::Watch => Channel::Watch(histories.watch.take(rt)?),
+    };
+    Some(Part::new(part))
 }
 
 // Writes the trace of a part to a new file.
@@ -101,11 +84,7 @@ fn write_trace<R: Files>(rt: &R, alloc: Global, path: &str, part: &TopicSegment)
     let Ok(file) = fs::create(rt, path) else {
         return false;
     };
-    let mut writer = Counted::new(file);
-    let Ok(mut out) = WriteBuffer::new(alloc) else {
-        return false;
-    };
-    append_trace_lines(part, &mut out, &mut writer).is_ok() && out.flush(&mut writer).is_ok()
+    put_trace(alloc, part, &mut Counted::new(file))
 }
 
 // Writes a part to a file of this folder. It has its name once it is whole, and until then a name that ends otherwise.
@@ -116,11 +95,10 @@ fn write_part<R: Files>(
     topic: &Name,
     part: &TopicSegment,
 ) -> bool {
-    let (number, entries) = span(part);
-    if entries == 0 {
+    if entries_of(part) == 0 {
         return true;
     }
-    let Ok(name) = part_name(alloc, topic.as_bytes(), number) else {
+    let Ok(name) = file_of(alloc, topic, part) else {
         return false;
     };
     let name = name.as_str();
@@ -149,8 +127,8 @@ impl<'a> Keeper<'a> {
         }
     }
 
-    // Says once that parts are missing, and why.
-    fn say_failed<R: Eprint>(&self, rt: &R) {
+    /// Says once that parts are missing.
+    pub(crate) fn say_failed<R: Eprint>(&self, rt: &R) {
         if !self.has_failed.swap(true, Ordering::Relaxed) {
             let folder = self.folder.unwrap_or("");
             let _ = eprintln!(rt;
@@ -171,23 +149,10 @@ impl<'a> Keeper<'a> {
         }
     }
 
-    // Keeps a part of a topic whose name may be unknown for want of memory.
-    fn keep<R: Eprint + Store>(
-        &self,
-        rt: &R,
-        alloc: Global,
-        topic: Option<Name>,
-        part: &TopicSegment,
-    ) {
-        let Some(folder) = self.folder else {
-            return;
-        };
-        let is_written = match &topic {
-            Some(topic) => rt.store(alloc, folder, topic, part),
-            None => false,
-        };
-        if !is_written {
-            self.say_failed(rt);
+    // Keeps a part of a topic whose name may be unknown for want of memory, or tells that it is missing.
+    fn keep<R: Eprint + Store>(&self, rt: &R, alloc: Global, topic: Option<Name>, part: Part) {
+        if let Some(missing) = part.store(rt, alloc, self.folder, topic.as_ref()) {
+            missing.tell(rt, self);
         }
     }
 
@@ -205,11 +170,11 @@ impl<'a> Keeper<'a> {
                 break;
             };
             let name = if self.folder.is_some() {
-                desk.name_of(topic_of(&part))
+                desk.name_of(part.topic())
             } else {
                 None
             };
-            self.keep(rt, alloc, name, &part);
+            self.keep(rt, alloc, name, part);
             self.say_lost(rt, histories);
         }
         self.say_lost(rt, histories);
@@ -233,11 +198,11 @@ impl<'a> Keeper<'a> {
             match topic {
                 Ended::Broadcast(name, log, _) => {
                     let (_, part) = log.finish();
-                    self.keep(rt, alloc, Some(name), &Channel::Broadcast(part));
+                    self.keep(rt, alloc, Some(name), Part::new(Channel::Broadcast(part)));
                 }
                 Ended::Watch(name, log, _) => {
                     let (_, part) = log.finish();
-                    self.keep(rt, alloc, Some(name), &Channel::Watch(part));
+                    self.keep(rt, alloc, Some(name), Part::new(Channel::Watch(part)));
                 }
                 Ended::Held(_, _) => self.say_failed(rt),
             }

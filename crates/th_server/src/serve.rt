@@ -1,5 +1,7 @@
 //! What the program serves on a socket.
-ghost use Rattle.std.specs.Prelude.{◌≤◌};
+ghost use Rattle.std.specs.Prelude.{◌≡◌, ◌≢◌, ◌≤◌, IfErr, IfOk, vec_len};
+ghost use Rattle.th_program.specs.declared.end.End.TheVariants.{Done};
+ghost use Rattle.th_server.specs.Serving.{sessions_of};
 
 use crate::socket;
 use crate::socket::{MODE, SocketFault};
@@ -16,7 +18,7 @@ use std::thread::Threads;
 use std::time::Clock;
 use th_program::End;
 use th_session::{Bounds, Keeping, OpenGate, SessionFault};
-use th_sockets::{Observer, ServeFault, serve_on};
+use th_sockets::{Attended, Observer, ServeFault, Served, serve_on};
 
 /// Says as an error which session was stopped, and by what.
 #[derive(Drop)]
@@ -32,21 +34,40 @@ impl<'a, R: Eprint> Observer for Teller<'a, R> {
     }
 }
 
+// The sessions, once all of them have ended; or what ended the server before.
+fn sessions_of<R: Wait + Clone>(
+    served: Result<Served<R>, ServeFault<R>>,
+) -> Result<Vec<Attended>, End>
+    ensures { result ≡ sessions_of served }
+{
+    match served {
+        Ok(served) => {
+            let Served { sessions, .. } = served;
+            Ok(sessions)
+        }
+        Err(ServeFault::Accept(_)) => Err(End::Socket),
+        Err(ServeFault::Start(_)) => Err(End::Socket),
+        Err(ServeFault::Short(_)) => Err(End::Short),
+    }
+}
+
 // Serves so many connections of the listener, and says when clients can connect.
 fn attend<R: Threads + Wait + Clock + Clone + Send + Sync + Print + Eprint>(
     rt: &R,
     alloc: Global,
     listener: &UnixListener,
     sessions: u64,
-) -> End
+) -> Result<Vec<Attended>, End>
     requires least { 1 ≤ sessions }
     requires most { sessions ≤ 64 }
+    ensures all { IfOk result (λ ended. vec_len ended ≡ sessions) }
+    ensures fault { IfErr result (λ end. end ≢ Done) }
 {
     if println!(rt; "listening").is_err() {
-        return End::Write;
+        return Err(End::Write);
     }
     let teller = Teller { rt };
-    match serve_on(
+    let served = serve_on(
         rt,
         alloc,
         listener,
@@ -55,34 +76,45 @@ fn attend<R: Threads + Wait + Clock + Clone + Send + Sync + Print + Eprint>(
         &teller,
         Keeping::Nothing,
         Bounds::usual(),
-    ) {
-        Ok(_) => End::Done,
-        Err(ServeFault::Short(_)) => End::Short,
-        Err(_) => End::Socket,
+    );
+    sessions_of(served)
+}
+
+// Says that so many sessions have ended.
+fn say_done<R: Print>(rt: &R, ended: Vec<Attended>) -> Result<Vec<Attended>, End>
+    ensures same { IfOk result (λ sessions. sessions ≡ ended) }
+    ensures fault { IfErr result (λ end. end ≢ Done) }
+{
+    let count = ended.len();
+    match println!(rt; "done {count}") {
+        Ok(()) => Ok(ended),
+        Err(_) => Err(End::Write),
     }
 }
 
-/// Makes a socket at the path, serves so many connections, and removes the socket. Where something stands at the path already it
-/// stays, and nobody is served. Where it could not be made, why.
+/// Makes a socket at the path, serves so many connections, and removes the socket. The sessions, once all of them have ended; or what
+/// ended the server. Where something stands at the path already it stays, and nobody is served. Where it could not be made, why.
 pub fn serve<R: Threads + Wait + Clock + Clone + Send + Sync + Print + Eprint + Files + Net>(
     rt: &R,
     alloc: Global,
     path: &str,
     sessions: u64,
-) -> (End, Option<SocketFault>)
+) -> (Result<Vec<Attended>, End>, Option<SocketFault>)
     requires least { 1 ≤ sessions }
     requires most { sessions ≤ 64 }
+    ensures all { IfOk result.0 (λ ended. vec_len ended ≡ sessions) }
+    ensures fault { IfErr result.0 (λ end. end ≢ Done) }
 {
     let Ok(listener) = UnixListener::bind(rt, path) else {
-        return (End::Socket, Some(socket::why_unbound(rt, path)));
+        return (Err(End::Socket), Some(socket::why_unbound(rt, path)));
     };
-    let end = match fs::set_permissions(rt, path, Permissions::from_mode(MODE)) {
+    let served = match fs::set_permissions(rt, path, Permissions::from_mode(MODE)) {
         Ok(()) => attend(rt, alloc, &listener, sessions),
-        Err(_) => End::Socket,
+        Err(_) => Err(End::Socket),
     };
     let _ = fs::remove_file(rt, path);
-    match end {
-        End::Done if println!(rt; "done {sessions}").is_err() => (End::Write, None),
-        end => (end, None),
+    match served {
+        Ok(ended) => (say_done(rt, ended), None),
+        Err(end) => (Err(end), None),
     }
 }

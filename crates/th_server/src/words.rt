@@ -1,9 +1,12 @@
 //! The words that ask to serve.
-ghost use Rattle.std.specs.Prelude.{◌≡◌, ℕ, IfOk, IfSome, IsSome, IsTrue, codes, map, string_bytes};
-ghost use Rattle.th_program.specs.Words.{AreServe, IsWithin, ServesBy, arguments_by, text_of};
+ghost use Rattle.std.specs.Prelude.{◌≡◌, ℕ, IfOk, IfSome, IsSome, IsTrue, None, Some, map, string_bytes};
+ghost use Rattle.th_program.specs.Words.{AreServe, IsWithin};
+ghost use Rattle.th_program.specs.declared.end.End.TheVariants.{Done, Short};
+ghost use Rattle.th_server.specs.Serving.{Asks, HaveEnded, Serves};
 ghost use Rattle.th_server.specs.Words.{asks_to_serve};
 
 use crate::keep_serving::keep_serving;
+use crate::outcome::Outcome;
 use crate::parts::Store;
 use crate::serve::serve;
 use crate::socket::SocketFault;
@@ -11,12 +14,11 @@ use std::alloc::{AllocError, Global};
 use std::fs::File;
 use std::io::{Eprint, Input, Print};
 use std::net::Net;
-use std::process::ExitCode;
 use std::rt::Files;
 use std::sync::Wait;
 use std::thread::Threads;
 use std::time::Clock;
-use th_program::{End, Mode, ModeFault, Serving, explanation, mode, status, texts};
+use th_program::{End, Mode, ModeFault, Serving, explanation, mode, texts};
 
 // Whether the words ask to serve.
 fn asks_to_serve(words: &[String]) -> bool
@@ -30,9 +32,8 @@ fn asks_to_serve(words: &[String]) -> bool
 
 // The path, and how many sessions are served there, where the words say it rightly.
 fn asked_to_serve(alloc: Global, words: &[String]) -> Result<Option<(String, Serving)>, AllocError>
-    ensures asked { let rows = arguments_by (map string_bytes words.now) in
-        IfOk result (λ found. IfSome found (λ asked.
-        (string_bytes asked.0 ≡ text_of (codes "PATH") rows) × ServesBy rows asked.1)) }
+    ensures asked { IfOk result (λ found.
+        IfSome found (Asks (map string_bytes words.now))) }
     ensures within { IfOk result (λ found. IfSome found (λ asked. IsWithin asked.1)) }
     ensures rightly { (n : ℕ) → AreServe (map string_bytes words.now) n →
         IfOk result (λ found. IsSome found) }
@@ -49,16 +50,9 @@ fn asked_to_serve(alloc: Global, words: &[String]) -> Result<Option<(String, Ser
     }
 }
 
-// The exit status of a server that ended so at the path. What stopped it goes to standard error; and what was wrong there, where
-// that is wanted.
-fn ended<R: Eprint>(
-    rt: &R,
-    path: &str,
-    end: End,
-    fault: Option<SocketFault>,
-    wanted: bool,
-) -> ExitCode {
-    if let Some(line) = explanation(&end) {
+// Says what stopped a server on standard error; and what was wrong at the path, where that is wanted.
+fn explain<R: Eprint>(rt: &R, path: &str, end: &End, fault: Option<SocketFault>, wanted: bool) {
+    if let Some(line) = explanation(end) {
         let _ = eprintln!(rt; "{line}");
     }
     if let Some(fault) = fault {
@@ -66,10 +60,66 @@ fn ended<R: Eprint>(
             let _ = eprintln!(rt; "topichub: {path}: {fault}");
         }
     }
-    ExitCode::from(status(&end))
 }
 
-/// Serves where the words of the command line ask for it, and answers the exit status; `None` where they ask for
+// Where there was no memory to read the words.
+fn unread<R: Eprint>(rt: &R, alloc: Global) -> Outcome
+    ensures asked { result.asked ≡ None }
+    ensures end { result.end ≡ Short }
+{
+    explain(rt, "", &End::Short, None, false);
+    Outcome {
+        asked: None,
+        sessions: Vec::new(alloc),
+        end: End::Short,
+    }
+}
+
+// Serves what was asked for.
+fn serve_asked<
+    R: Threads
+        + Wait
+        + Clock
+        + Clone
+        + Send
+        + Sync
+        + Print
+        + Eprint
+        + Input
+        + Files<File = File>
+        + Store
+        + Net
+        + AllocGlobal,
+>(rt: &R, path: String, serving: Serving, people: bool) -> Outcome
+    requires within { IsWithin serving }
+    ensures asked { result.asked ≡ Some (path, serving) }
+    ensures done { result.end ≡ Done → HaveEnded result.asked result.sessions.items }
+{
+    let alloc = rt.alloc();
+    let (end, sessions) = match &serving {
+        Serving::Sessions(count) => {
+            let (served, fault) = serve(rt, alloc, path.as_str(), *count);
+            let (end, sessions) = match served {
+                Ok(sessions) => (End::Done, sessions),
+                Err(end) => (end, Vec::new(alloc)),
+            };
+            explain(rt, path.as_str(), &end, fault, people);
+            (end, sessions)
+        }
+        Serving::Standing(how) => {
+            let (end, fault) = keep_serving(rt, alloc, path.as_str(), how);
+            explain(rt, path.as_str(), &end, fault, people || how.is_verbose);
+            (end, Vec::new(alloc))
+        }
+    };
+    Outcome {
+        asked: Some((path, serving)),
+        sessions,
+        end,
+    }
+}
+
+/// Serves where the words of the command line ask for it, and answers what came of it; `None` where they ask for
 /// something else, or are wrong. `listening` and `done` go to standard output, and what stopped it to standard error, for
 /// people at a terminal also what was wrong at the path.
 pub fn serve_by_words<
@@ -86,28 +136,18 @@ pub fn serve_by_words<
         + Store
         + Net
         + AllocGlobal,
->(rt: &R, words: &[String], people: bool) -> Option<ExitCode>
+>(rt: &R, words: &[String], people: bool) -> Option<Outcome>
     ensures only { IfSome result (λ _. IsTrue (asks_to_serve (map string_bytes words.now))) }
     ensures rightly { IsTrue (asks_to_serve (map string_bytes words.now)) → (n : ℕ)
         → AreServe (map string_bytes words.now) n → IsSome result }
+    ensures serves { IfSome result (Serves (map string_bytes words.now)) }
 {
     if !asks_to_serve(words) {
         return None;
     }
-    let (path, serving) = match asked_to_serve(rt.alloc(), words) {
-        Ok(Some(asked)) => asked,
-        Ok(None) => return None,
-        Err(_) => return Some(ended(rt, "", End::Short, None, false)),
-    };
-    let path = path.as_str();
-    Some(match serving {
-        Serving::Sessions(sessions) => {
-            let (end, fault) = serve(rt, rt.alloc(), path, sessions);
-            ended(rt, path, end, fault, people)
-        }
-        Serving::Standing(how) => {
-            let (end, fault) = keep_serving(rt, rt.alloc(), path, &how);
-            ended(rt, path, end, fault, people || how.is_verbose)
-        }
-    })
+    match asked_to_serve(rt.alloc(), words) {
+        Ok(Some((path, serving))) => Some(serve_asked(rt, path, serving, people)),
+        Ok(None) => None,
+        Err(_) => Some(unread(rt, rt.alloc())),
+    }
 }

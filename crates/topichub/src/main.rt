@@ -9,7 +9,7 @@ use th_server::serve_by_words;
 fn main(rt: HostRuntime) -> ExitCode {
     match given_words(&rt) {
         Ok(words) => match serve_by_words(&rt, words.as_slice(), rt.stderr().is_terminal()) {
-            Some(status) => status,
+            Some(outcome) => outcome.status(),
             None => run_on_streams(&rt, Ok(words.as_slice())),
         },
         Err(why) => run_on_streams(&rt, Err(why)),
