@@ -1,6 +1,7 @@
 -- What a handle's event does under the lock, and why it is refused there.
 use Rattle.std.specs.Prelude.{◌≡◌, ◌≢◌, ◌⊎◌, ℕ, ◌+◌, ◌≤◌, ◌<◌, Bool, false, Option, None, Some, List, [], ◌∷◌, ◌++◌, length, take, slice_get, MatchOption}
 use Rattle.std.specs.List.{AllByRecursion}
+use mathlib.Core.List.{IsPrefix}
 use Rattle.th_seats.specs.Tally.{Part, Tally}
 use Rattle.th_glance.specs.declared.glance.Glance.{Glance}
 use Rattle.th_glance.specs.Lists.{glance_of, last_of, IsCounted}
@@ -100,6 +101,42 @@ RefusesEvent l k call live (Short c) = (c ≡ call) × Fits k l.tally × (IsFull
 abbrev pub GoesOn : {S C R : Type 0} → (old new : Log S C R) → Type 0
 GoesOn old new = (new.tally ≡ old.tally) × (new.limit ≡ old.limit)
     × ((new.piece ≡ old.piece) ⊎ (new.piece ≡ next_of old.piece old.tally.total))
+
+-- the parts that are to be handed on once the lock is free
+abbrev pub parts_of : {P : Type 0} → Option (List P) → List P
+parts_of None = []
+parts_of (Some parts) = parts
+
+-- the part behind a part
+abbrev pub next_part : {S C R : Type 0} → Piece S C R → Piece S C R
+next_part p = next_of p (p.first + length p.entries)
+
+-- No part was cut, and it is so of the one that was there; or that one was cut, and is to be handed
+-- on whole behind those that are already, and it is so of the next one.
+abbrev pub HandsOn : {S C R : Type 0} → Piece S C R → (cut cut' : Option (List (Piece S C R)))
+    → (Piece S C R → Type 0) → Type 0
+HandsOn old cut cut' P = ((cut' ≡ cut) × P old)
+    ⊎ ((parts_of cut' ≡ parts_of cut ++ old ∷ []) × P (next_part old))
+
+-- the same part, with entries behind those that it had
+pub record Extends {S C R : Type 0} (a b : Piece S C R) : Type 0 where
+  pub key : b.key ≡ a.key
+  pub first : b.first ≡ a.first
+  pub start : b.start ≡ a.start
+  pub entries : IsPrefix a.entries b.entries
+
+-- part a went on to be the first of these, each of which is followed by the next one, and b goes on
+-- behind the last
+abbrev pub RunsOn : {S C R : Type 0} → List (Piece S C R) → (a b : Piece S C R) → Type 0
+RunsOn [] a b = Extends a b
+RunsOn (p ∷ ps) a b = Extends a p × RunsOn ps (next_part p) b
+
+-- The part that was there has gone on, over parts that were cut meanwhile, if any were. These are to
+-- be handed on whole, behind those that are already.
+abbrev pub HandsOnAll : {S C R : Type 0} → (old new : Piece S C R)
+    → (cut cut' : Option (List (Piece S C R))) → Type 0
+HandsOnAll {S} {C} {R} old new cut cut' = (parts : List (Piece S C R))
+    × (parts_of cut' ≡ parts_of cut ++ parts) × RunsOn parts old new
 
 -- a part that has no entries yet has no room for so many beside those that spend the handles live
 -- then, or the channel has had nearly 2^63 events

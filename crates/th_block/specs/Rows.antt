@@ -1,11 +1,13 @@
 -- Calls of a handle that are made together, with nothing between them.
-use Rattle.std.specs.Prelude.{◌≡◌, ℕ, ◌+◌, ◌≤◌, Bool, true, false, List, [], ◌∷◌, ◌++◌, length}
+use Rattle.std.specs.Prelude.{◌≡◌, ℕ, ◌+◌, ◌≤◌, List, [], ◌∷◌, ◌++◌, length}
 use Rattle.std.specs.List.{AllByRecursion}
 use Rattle.th_seats.specs.Tally.{Part, Tally}
 use Rattle.th_log.specs.History.{Machine}
 use Rattle.th_log.specs.Outcome.{IsAnswered, Told, ticked}
 use Rattle.th_block.specs.Handles.{Holder, Known, Looked, Tells, seen_of}
 use Rattle.th_block.specs.Locked.{Entered}
+use Rattle.th_block.specs.declared.more.More.{More}
+use Rattle.th_block.specs.declared.more.More.TheVariants.{Made}
 
 -- a share with so many events more
 abbrev pub counted_by : ℕ → Part → Part
@@ -38,12 +40,12 @@ module _ {C R : Type 0} where
     pub ticks : book' ≡ ticked book
     pub behind : receipts' ≡ receipts ++ receipt ∷ []
 
-  -- the same, or nothing has changed
-  abbrev pub AddsReady : Bool → (old new : Known) → C → (book book' : Tally)
+  -- the same, where a try made one; else nothing has changed
+  abbrev pub AddsMore : More → (old new : Known) → C → (book book' : Tally)
       → (receipts receipts' : List (Told C R)) → Type 0
-  AddsReady true old new call book book' receipts receipts' =
+  AddsMore Made old new call book book' receipts receipts' =
       AddsOne old new call book book' receipts receipts'
-  AddsReady false old new call book book' receipts receipts' =
+  AddsMore _ old new call book book' receipts receipts' =
       (new ≡ old) × (book' ≡ book) × (receipts' ≡ receipts)
 
   -- a receipt of this call that is right (docs/HISTORIES.md, "Receipts")

@@ -3,12 +3,27 @@ use Rattle.std.specs.Prelude.{◌≡◌, ℕ, ◌+◌, ◌≤◌, ◌<◌, Bool,
 use Rattle.th_log.specs.Outcome.{Told}
 use Rattle.th_log.specs.declared.receipt.Refused.{Refused}
 use Rattle.th_block.specs.Handles.{Holder, IsBack, Known, Looked, Tells, call_of, seen_of}
+use Rattle.th_block.specs.declared.more.More.{More}
+use Rattle.th_block.specs.declared.more.More.TheVariants.{Made, Waits}
+use Rattle.th_block.specs.declared.more.More.TheVariants.{Refused as WasRefused}
 use Rattle.th_block.specs.Rows.{CallsInRow, EnteredInRow, counted_by}
 
 -- no call is made of the first of these, since it would wait in some state; or there is none
 abbrev pub StopsAt : {S V C : Type 0} → (ready : S → C → Bool) → (call : V → C) → List V → Type 0
 StopsAt ready call [] = Unit {0}
 StopsAt {S} ready call (v ∷ vs) = (p : S) × (ready p (call v) ≡ false)
+
+-- the call of the first of these would wait as things stand; or there is none
+abbrev pub WaitsAt : {V C : Type 0} → (ready : C → Bool) → (call : V → C) → List V → Type 0
+WaitsAt ready call [] = Unit {0}
+WaitsAt ready call (v ∷ vs) = ready (call v) ≡ false
+
+-- How a row of tries ended: with one that made an event, and then all were made; with one that would
+-- wait; or with one that was refused.
+abbrev pub EndsAs : More → (all waits : Type 0) → Type 0
+EndsAs Made all waits = all
+EndsAs Waits all waits = waits
+EndsAs WasRefused all waits = Unit {0}
 
 -- what is over once calls were made: what is left in the queue, and before it what was refused
 abbrev pub LeavesOver : {X V C : Type 0} → (call : V → C) → Result X (Refused C) → (left : List V)

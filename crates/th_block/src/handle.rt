@@ -3,10 +3,10 @@ ghost use Rattle.std.specs.Prelude.{◌≡◌, ◌≤◌, ◌↔◌, [], length,
 ghost use Rattle.std.specs.Sync.Mutex.{mutex_guard_value};
 ghost use Rattle.th_glance.specs.Lists.{last_of};
 ghost use Rattle.th_log.specs.History.{IsLimit};
-ghost use Rattle.th_log.specs.Outcome.{IsAnswered, counted};
+ghost use Rattle.th_log.specs.Outcome.{IsAnswered, added, counted};
 ghost use Rattle.th_log.specs.Replies.{made_by};
 ghost use Rattle.th_block.specs.Handles.{Calls, CallsFor, Glances, IsBack, IsFirst, IsMade, IsNext, IsNextTold, Tells, seen_of, tx, unused};
-ghost use Rattle.th_block.specs.Locked.{Entered, Fits, IsSeated, Spends};
+ghost use Rattle.th_block.specs.Locked.{Entered, Fits, HandsOn, IsSeated, Spends};
 ghost use Rattle.th_block.specs.Rows.{CallsInRow};
 
 use crate::account::Account;
@@ -112,6 +112,7 @@ fn seated<O: Kind>(held: &mut Held<O>, receipt: &Receipt<O>) -> Option<Seat>
     ensures piece { held.new.log.piece ≡ held.old.log.piece }
     ensures key { held.new.log.tally.key ≡ held.old.log.tally.key }
     ensures total { held.new.log.tally.total ≡ held.old.log.tally.total }
+    ensures rest { held.new ≡ record held.old { log = held.new.log } }
 {
     let number = made::<O>(receipt.reply())?;
     let share = held.split();
@@ -134,8 +135,12 @@ pub(crate) fn seated_event<O: Kind>(
     ensures step { IfOk result (λ r.
         O.machine.answer held.old.log.piece.last call ≡ (r.0.reply, held.new.log.piece.last)) }
     ensures fits { OnOk result (Fits account.new held.new.log.tally) }
+    ensures part { HandsOn held.old.log.piece cut.old cut.new (λ p. MatchResult result
+        (λ r. held.new.log.piece ≡ added p call r.0.reply held.new.log.piece.last)
+        (λ _. held.new.log.piece ≡ p)) }
+    ensures rest { held.new ≡ record held.old { log = held.new.log } }
 {
-    match held.enter(account, call, cut) {
+    match held.enter(account, call, false, cut) {
         Ok(receipt) => {
             let seat = seated(held, &receipt);
             Ok((receipt, seat))
@@ -401,7 +406,7 @@ impl<O: Kind, S: Side<O>> Handle<O, S> {
         let mut cut = None;
         let mut held = shared.room.lock(rt);
         held.spare(most, &mut cut);
-        let total = all_ready(&mut *held, account, call, most, receipts);
+        let (total, _) = all_ready(&mut *held, account, call, most, receipts, &mut cut);
         drop(held);
         hand_over(rt, &mut cut);
         see_all(rt, account, total);
@@ -495,7 +500,7 @@ fn rolled_event<O: Kind, R: Wait>(
         (IsBack account.old account.new call) }
 {
     let mut cut = None;
-    let answer = held.enter(account, call, &mut cut);
+    let answer = held.enter(account, call, false, &mut cut);
     room.unlock_after(held, &answer, wakes);
     hand_over(rt, &mut cut);
     answer

@@ -1,20 +1,24 @@
 //! What a channel's lock keeps.
-ghost use Rattle.std.specs.Prelude.{◌≡◌, ◌⊎◌, ◌↔◌, ◌||◌, ◌+◌, ◌-◌, ◌^◌, ◌<◌, ◌≤◌, if◌then◌else◌, min, not, true, false, IfOk, IfErr, IfSome, IsNone, IsOk, None, IsSome, IsTrue, OnOk, OnErr, MatchOption, MatchResult};
+ghost use Rattle.std.specs.Prelude.{◌≡◌, ◌⊎◌, [], ◌∷◌, ◌++◌, ◌↔◌, ◌||◌, ◌+◌, ◌-◌, ◌^◌, ◌<◌, ◌≤◌, if◌then◌else◌, min, not, true, false, IfOk, IfErr, IfSome, IsNone, IsOk, None, IsSome, IsTrue, OnOk, OnErr, MatchOption, MatchResult};
 ghost use Rattle.th_log.specs.History.{IsLegal, live_after, next_of};
 ghost use Rattle.th_log.specs.Outcome.{IsFull, IsSame, added, ticked, with_share};
 ghost use Rattle.th_block.specs.Handles.{IsBack, unused};
 ghost use Rattle.th_block.specs.Few.{IsWornOut};
-ghost use Rattle.th_block.specs.Locked.{Entered, Fits, GoesOn, HasNoPlace, IsDue, RefusesEvent, Spends};
+ghost use Rattle.th_block.specs.Locked.{Entered, Fits, GoesOn, HandsOn, HasNoPlace, IsDue, RefusesEvent, Spends, parts_of};
 ghost use Rattle.th_block.specs.Returned.{TakesBack};
 
 use crate::account::Account;
 use crate::cuts::{Cut, Cuts};
 use crate::posted::Posted;
+use crate::wake::Wake;
 use std::marker::Model;
 use std::sync::Arc;
 use th_log::{Kind, Logged, MOST_ENTRIES, Object, Receipt, Refused, Segment};
 use th_model::Short;
 use th_seats::Share;
+
+// Groups of so many events have room in one part.
+const UNPARTED: u64 = 1_024;
 
 /// A channel with its log and its pen, and whether anyone waits for it. Contracts see the log, and how many wait: what
 /// the pen says of the log is kept by `Posted`.
@@ -89,43 +93,47 @@ impl<O: Kind> Held<O> {
         self.rolling.is_some()
     }
 
-    /// Cuts the log, where calls do so, if it is as long as it is to grow, or has no room for so many events more, after which so
-    /// many handles are live. So a part with no room for them is left only where a new one has none. Nothing has changed where
-    /// there was no memory. What was cut is lent a place by the caller: handed back by value it would be moved through memory
-    /// at each call, and hardly any call cuts.
+    /// Whether calls cut the log, and it is as long as it is to grow.
     #[inline(always)]
-    pub(crate) fn make_room(
+    fn is_long(&self) -> bool {
+        match &self.rolling {
+            Some(rolling) => self.posted.log().len() >= rolling.most,
+            None => false,
+        }
+    }
+
+    /// Cuts the log, where calls do so, if it is to be cut, or has no room for so many events more, after which so many handles
+    /// are live. So a part with no room for them is left only where a new one has none. Nothing has changed where there was no
+    /// memory. What was cut is lent a place by the caller: handed back by value it would be moved through memory at each call,
+    /// and hardly any call cuts. What lies there already stays, before it.
+    #[inline(always)]
+    fn make_room(
         &mut self,
+        is_long: bool,
         count: u64,
         live: u64,
         cut: &mut Option<Cut<O>>,
     ) -> Result<(), Short<()>>
         requires { O.lawful }
         ensures goes_on { GoesOn self.old.log self.new.log }
-        ensures cut { OnOk result ((self.new ≡ self.old) ⊎ (IfSome cut.new (λ cut.
-            cut.part ≡ self.old.log.piece) × (self.new.log.piece
-            ≡ next_of self.old.log.piece self.old.log.tally.total))) }
+        ensures part { HandsOn self.old.log.piece cut.old cut.new (λ p. self.new.log.piece ≡ p) }
         ensures room { OnOk result (self.old.rolls ≡ true → self.old.log.limit ≡ 1000000
             → IsFull self.new.log count live → HasNoPlace self.old.log count live) }
         ensures same { OnErr result (self.new ≡ self.old) }
         ensures last { self.new.log.piece.last ≡ self.old.log.piece.last }
         ensures waiting { self.new.waiting ≡ self.old.waiting }
         ensures rolls { self.new.rolls ≡ self.old.rolls }
+        ensures gone { self.new.gone ≡ self.old.gone }
     {
         let Some(rolling) = &self.rolling else {
             return Ok(());
         };
         let entries = self.posted.log().len();
         let room = MOST_ENTRIES.saturating_sub(live).saturating_sub(count);
-        if entries < rolling.most && entries <= room {
+        if !is_long && entries <= room {
             return Ok(());
         }
-        let Ok(cuts) = Arc::try_clone(&rolling.cuts) else {
-            return Err(Short { call: () });
-        };
-        let part = self.posted.cut()?;
-        *cut = Some(Cut { part, cuts });
-        Ok(())
+        cut_into(&mut self.posted, &rolling.cuts, cut)
     }
 
     /// The log, once nobody waits any more.
@@ -142,6 +150,8 @@ impl<O: Kind> Held<O> {
         ensures log { self.new.log ≡ self.old.log }
         ensures waiting { self.new.waiting ≡ (if result
             then min (self.old.waiting + 1) (2 ^ 64 - 1) else self.old.waiting) }
+        ensures rolls { self.new.rolls ≡ self.old.rolls }
+        ensures gone { self.new.gone ≡ self.old.gone }
     {
         let waits = !self.posted.log().ready(call);
         if waits {
@@ -160,14 +170,32 @@ impl<O: Kind> Held<O> {
 
     /// Whether there is anyone to wake. They count as woken then.
     #[inline(always)]
-    pub(crate) fn wakes(&mut self) -> bool
+    pub(crate) fn wakes(&mut self) -> Wake
         ensures wakes { IsTrue result ↔ 0 < self.old.waiting }
         ensures log { self.new.log ≡ self.old.log }
         ensures waiting { self.new.waiting ≡ 0 }
+        ensures rolls { self.new.rolls ≡ self.old.rolls }
+        ensures gone { self.new.gone ≡ self.old.gone }
     {
         let wakes = self.waiting > 0;
         self.waiting = 0;
-        wakes
+        Wake::new(wakes)
+    }
+
+    /// The same, where there is news for them; else they wait on.
+    #[inline(always)]
+    pub(crate) fn wakes_if(&mut self, is_news: bool) -> Wake
+        ensures wakes { IsTrue result ↔ (IsTrue is_news × (0 < self.old.waiting)) }
+        ensures log { self.new.log ≡ self.old.log }
+        ensures waiting { self.new.waiting ≡ (if result then 0 else self.old.waiting) }
+        ensures rolls { self.new.rolls ≡ self.old.rolls }
+        ensures gone { self.new.gone ≡ self.old.gone }
+    {
+        // Mostly nobody waits.
+        if self.waiting > 0 && is_news {
+            return self.wakes();
+        }
+        Wake::new(false)
     }
 
     /// Whether this event, the last one, is what callers may wait for: it is news, or no sender is left.
@@ -182,17 +210,22 @@ impl<O: Kind> Held<O> {
     /// Whether there is anyone to wake for what this call has changed: always where somebody waits, and the call made ready
     /// what another handle waits for. They count as woken then.
     #[inline(always)]
-    pub(crate) fn wakes_after(&mut self, answer: &Result<Receipt<O>, Refused<O::Call>>) -> bool
+    pub(crate) fn wakes_after(&mut self, answer: &Result<Receipt<O>, Refused<O::Call>>) -> Wake
         ensures due { IfOk answer.now (λ r.
             IsDue O.machine O.is_sound O.handle_of self.old r → IsTrue result) }
         ensures log { self.new.log ≡ self.old.log }
         ensures waiting { self.new.waiting ≡ (if result then 0 else self.old.waiting) }
+        ensures rolls { self.new.rolls ≡ self.old.rolls }
+        ensures gone { self.new.gone ≡ self.old.gone }
     {
         let Ok(receipt) = answer else {
-            return false;
+            return Wake::new(false);
         };
         // Mostly nobody waits.
-        self.waiting > 0 && self.is_awaited(receipt) && self.wakes()
+        if self.waiting > 0 && self.is_awaited(receipt) {
+            return self.wakes();
+        }
+        Wake::new(false)
     }
 
     /// One event of a handle, and its store; the handle's eye looks later. `Foreign` where the handle is of another
@@ -220,7 +253,10 @@ impl<O: Kind> Held<O> {
         ensures spends { Fits account.old self.old.log.tally
             → Spends O.machine self.old.log.piece.last call → IsOk result }
         ensures same { OnErr result (IsSame self.old.log self.new.log) }
+        ensures limit { self.new.log.limit ≡ self.old.log.limit }
         ensures waiting { self.new.waiting ≡ self.old.waiting }
+        ensures rolls { self.new.rolls ≡ self.old.rolls }
+        ensures gone { self.new.gone ≡ self.old.gone }
     {
         if self.posted.log().total() < account.seen() {
             return Err(Refused::Foreign(call));
@@ -228,27 +264,34 @@ impl<O: Kind> Held<O> {
         self.posted.apply(&mut account.share, call)
     }
 
-    /// Makes room as `make_room` does for so many events that make no handle, if there is memory.
+    /// Before so many events that are made together, cuts the log if that is due, and there is memory. A group of no more than
+    /// `UNPARTED` events that make no handle is one part's then.
     #[inline(always)]
     pub(crate) fn spare(&mut self, count: usize, cut: &mut Option<Cut<O>>)
         requires { O.lawful }
         ensures goes_on { GoesOn self.old.log self.new.log }
+        ensures part { HandsOn self.old.log.piece cut.old cut.new (λ p. self.new.log.piece ≡ p) }
         ensures last { self.new.log.piece.last ≡ self.old.log.piece.last }
         ensures waiting { self.new.waiting ≡ self.old.waiting }
+        ensures rolls { self.new.rolls ≡ self.old.rolls }
+        ensures gone { self.new.gone ≡ self.old.gone }
     {
         if self.is_rolling() {
             let live = self.posted.log().object().live();
-            let _ = self.make_room(count as u64, live, cut);
+            let is_long = self.is_long();
+            let _ = self.make_room(is_long, (count as u64).min(UNPARTED), live, cut);
         }
     }
 
     /// One event of a handle as `event` makes it, on a log that was cut before where that is due. Where calls cut the log it is
-    /// never full before the channel has had nearly 2^63 events: a channel has few handles (`laws::few_handles`).
+    /// never full before the channel has had nearly 2^63 events: a channel has few handles (`laws::few_handles`). An event of a
+    /// group goes on in a long part, and cuts one that has no room.
     #[inline(always)]
     pub(crate) fn enter(
         &mut self,
         account: &mut Account,
         call: O::Call,
+        is_grouped: bool,
         cut: &mut Option<Cut<O>>,
     ) -> Result<Receipt<O>, Refused<O::Call>>
         requires lawful { O.lawful }
@@ -261,15 +304,24 @@ impl<O: Kind> Held<O> {
         ensures sound { OnOk result (O.is_sound self.old.log.piece.last) }
         ensures tally { OnOk result (self.new.log.tally ≡ ticked self.old.log.tally) }
         ensures fits { OnOk result (Fits account.old self.old.log.tally) }
+        ensures last { OnErr result (self.new.log.piece.last ≡ self.old.log.piece.last) }
+        ensures book { OnErr result (self.new.log.tally ≡ self.old.log.tally) }
+        ensures limit { self.new.log.limit ≡ self.old.log.limit }
         ensures full { IfErr result (λ e. e ≡ Refused.LogFull call → self.old.rolls ≡ true
             → self.old.log.limit ≡ 1000000
             → live_after O.machine self.old.log.piece.last call ≤ 131070
             → IsWornOut self.old.log) }
+        ensures part { HandsOn self.old.log.piece cut.old cut.new (λ p. MatchResult result
+            (λ r. self.new.log.piece ≡ added p call r.reply self.new.log.piece.last)
+            (λ _. self.new.log.piece ≡ p)) }
         ensures waiting { self.new.waiting ≡ self.old.waiting }
+        ensures rolls { self.new.rolls ≡ self.old.rolls }
+        ensures gone { self.new.gone ≡ self.old.gone }
     {
         if self.is_rolling() {
             let live = self.posted.log().object().live_after(&call);
-            if self.make_room(1, live, cut).is_err() {
+            let is_long = !is_grouped && self.is_long();
+            if self.make_room(is_long, 1, live, cut).is_err() {
                 return Err(Refused::Short(call));
             }
         }
@@ -299,7 +351,10 @@ impl<O: Kind> Held<O> {
             × Spends O.machine self.old.log.piece.last call) }
         ensures foreign { IfErr result (λ e. e ≡ Refused.Foreign call) }
         ensures same { OnErr result (IsSame self.old.log self.new.log) }
+        ensures limit { self.new.log.limit ≡ self.old.log.limit }
         ensures waiting { self.new.waiting ≡ self.old.waiting }
+        ensures rolls { self.new.rolls ≡ self.old.rolls }
+        ensures gone { self.new.gone ≡ self.old.gone }
     {
         let object = self.posted.log().object();
         if object.live_after(&call) >= object.live() {
@@ -319,6 +374,8 @@ impl<O: Kind> Held<O> {
         ensures piece { self.new.log.piece ≡ self.old.log.piece }
         ensures tally { self.new.log.tally ≡ with_share self.old.log.tally }
         ensures waiting { self.new.waiting ≡ self.old.waiting }
+        ensures rolls { self.new.rolls ≡ self.old.rolls }
+        ensures gone { self.new.gone ≡ self.old.gone }
     {
         self.posted.split()
     }
@@ -358,6 +415,7 @@ impl<O: Kind> Held<O> {
         ensures gone { self.new.gone ≡ None }
         ensures log { self.new.log ≡ self.old.log }
         ensures waiting { self.new.waiting ≡ self.old.waiting }
+        ensures rolls { self.new.rolls ≡ self.old.rolls }
     {
         self.gone.take()
     }
@@ -378,6 +436,8 @@ impl<O: Kind> Held<O> {
             (self.new.log.piece ≡ next_of self.old.log.piece self.old.log.tally.total) }
         ensures tally { self.new.log.tally ≡ self.old.log.tally }
         ensures waiting { self.new.waiting ≡ self.old.waiting }
+        ensures rolls { self.new.rolls ≡ self.old.rolls }
+        ensures gone { self.new.gone ≡ self.old.gone }
         ensures same { OnErr result (self.new ≡ self.old) }
     {
         let segment = self.posted.cut()?;
@@ -394,10 +454,45 @@ impl<O: Kind> Held<O> {
         ensures other { IsNone result → self.new ≡ self.old }
         ensures tally { self.new.log.tally ≡ self.old.log.tally }
         ensures waiting { self.new.waiting ≡ self.old.waiting }
+        ensures rolls { self.new.rolls ≡ self.old.rolls }
+        ensures gone { self.new.gone ≡ self.old.gone }
     {
         if self.posted.log().key() != key {
             return None;
         }
         Some(self.cut())
     }
+}
+
+// Cuts the log, and lays the part behind those that were cut under the same lock.
+#[inline(never)]
+fn cut_into<O: Kind>(
+    posted: &mut Posted<O>,
+    cuts: &Arc<Cuts<O>>,
+    cut: &mut Option<Cut<O>>,
+) -> Result<(), Short<()>>
+    requires { O.lawful }
+    ensures part { OnOk result (parts_of cut.new ≡ parts_of cut.old ++ posted.old.log.piece ∷ []) }
+    ensures next { OnOk result
+        (posted.new.log.piece ≡ next_of posted.old.log.piece posted.old.log.tally.total) }
+    ensures tally { posted.new.log.tally ≡ posted.old.log.tally }
+    ensures limit { posted.new.log.limit ≡ posted.old.log.limit }
+    ensures same { OnErr result ((posted.new ≡ posted.old) × (cut.new ≡ cut.old)) }
+{
+    let Some(before) = cut else {
+        let Ok(cuts) = Arc::try_clone(cuts) else {
+            return Err(Short { call: () });
+        };
+        let part = posted.cut()?;
+        *cut = Some(Cut::new(part, cuts));
+        return Ok(());
+    };
+    let Ok(()) = before.more.reserve(1) else {
+        return Err(Short { call: () });
+    };
+    let part = posted.cut()?;
+    let Ok(()) = before.more.push(part) else {
+        unreachable!()
+    };
+    Ok(())
 }

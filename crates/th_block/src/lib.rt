@@ -86,6 +86,7 @@ pub mod cuts;
 pub mod handle;
 mod held;
 pub mod laws;
+mod more;
 mod posted;
 mod queued;
 mod ready;
@@ -96,6 +97,7 @@ mod seat;
 pub mod shared;
 pub mod side;
 pub mod together;
+mod wake;
 pub mod watch_handles;
 
 pub use broadcast_handles::{BReceiver, BSender, Resub, RingBroadcast, broadcast, broadcast_at};

@@ -1,12 +1,15 @@
 //! Events that are made together on the locked log, as many as have their answer at once.
-ghost use Rattle.std.specs.Prelude.{◌≡◌, ◌<◌, ◌≤◌, [], false, length, true, IfErr, IfOk, OnErr, OnOk};
+ghost use Rattle.std.specs.Prelude.{◌≡◌, ◌⊎◌, ◌<◌, ◌≤◌, [], false, length, min, true, vec_capacity, IfErr, IfOk, OnErr, OnOk};
+ghost use Rattle.th_block.specs.Few.{IsFullAtLast};
 ghost use Rattle.th_block.specs.Handles.{IsBack, Looked, call_of, seen_of};
-ghost use Rattle.th_block.specs.Locked.{KeepsAllWaiting, KeepsWaiting};
-ghost use Rattle.th_block.specs.Rows.{AddsOne, AddsReady, EachBehind, EnteredInRow, IsAnswerTo};
-ghost use Rattle.th_block.specs.Together.{EnteredMany, EnteredOf, LeavesOver, StopsAt, has_ended};
+ghost use Rattle.th_block.specs.Locked.{Extends, HandsOn, HandsOnAll, KeepsAllWaiting, KeepsWaiting};
+ghost use Rattle.th_block.specs.Rows.{AddsMore, AddsOne, EachBehind, EnteredInRow, IsAnswerTo};
+ghost use Rattle.th_block.specs.Together.{EndsAs, EnteredMany, EnteredOf, LeavesOver, WaitsAt, has_ended};
 
 use crate::account::Account;
+use crate::cuts::Cut;
 use crate::held::Held;
+use crate::more::More;
 use crate::queued::Queued;
 use std::collections::VecDeque;
 use std::sync::Wait;
@@ -20,6 +23,7 @@ fn one_moved<O: Kind>(
     account: &mut Account,
     call: O::Call,
     receipts: &mut Vec<Receipt<O>>,
+    cut: &mut Option<Cut<O>>,
 ) -> Result<bool, Refused<O::Call>>
     requires lawful { O.lawful }
     requires ready { O.machine.ready held.old.log.piece.last call ≡ true }
@@ -32,12 +36,16 @@ fn one_moved<O: Kind>(
     ensures back { IfErr result (λ e. call_of e ≡ call) }
     ensures same { OnErr result ((account.new ≡ account.old)
         × (held.new.log.tally ≡ held.old.log.tally) × (receipts.new.items ≡ receipts.old.items)) }
-    ensures piece { OnErr result (held.new.log.piece ≡ held.old.log.piece) }
+    ensures last { OnErr result (held.new.log.piece.last ≡ held.old.log.piece.last) }
+    ensures full { IfErr result (IsFullAtLast O.machine held.new) }
+    ensures part { HandsOn held.old.log.piece cut.old cut.new
+        (λ p. Extends p held.new.log.piece) }
+    ensures rest { held.new ≡ record held.old { log = held.new.log } }
 {
     let Ok(()) = receipts.reserve(1) else {
         return Err(Refused::Short(call));
     };
-    match held.event(account, call) {
+    match held.enter(account, call, true, cut) {
         Ok(receipt) => {
             let awaited = held.is_awaited(&receipt);
             // What every receipt says.
@@ -51,64 +59,68 @@ fn one_moved<O: Kind>(
     }
 }
 
-// One event of a copy of this call, if it has its answer now: whether it was made.
+// One event of a copy of this call, if it has its answer now.
 fn one_more<O: Kind>(
     held: &mut Held<O>,
     account: &mut Account,
     call: &O::Call,
     receipts: &mut Vec<Receipt<O>>,
-) -> bool
+    cut: &mut Option<Cut<O>>,
+) -> More
     requires { O.lawful }
-    ensures made { AddsReady result account.old account.new call.now
+    ensures made { AddsMore result account.old account.new call.now
         held.old.log.tally held.new.log.tally receipts.old.items receipts.new.items }
     ensures answered { EachBehind (IsAnswerTo O.machine O.is_sound call.now)
         receipts.old.items receipts.new.items }
+    ensures stop { result ≡ More.Waits
+        → O.machine.ready held.new.log.piece.last call.now ≡ false }
+    ensures part { HandsOn held.old.log.piece cut.old cut.new
+        (λ p. Extends p held.new.log.piece) }
+    ensures rest { held.new ≡ record held.old { log = held.new.log } }
 {
     if !held.is_ready(call) {
-        return false;
+        return More::Waits;
     }
     let Ok(copy) = O::copy_call(call) else {
-        return false;
+        return More::Refused;
     };
-    one_moved(held, account, copy, receipts).is_ok()
-}
-
-// One event of this call, if it has its answer now and there is room for its receipt: whether it was made.
-fn one_ready<O: Kind>(
-    held: &mut Held<O>,
-    account: &mut Account,
-    call: &O::Call,
-    receipts: &mut Vec<Receipt<O>>,
-) -> bool
-    requires { O.lawful }
-    ensures { AddsReady result account.old account.new call.now
-        held.old.log.tally held.new.log.tally receipts.old.items receipts.new.items }
-{
-    receipts.len() < receipts.capacity() && one_more(held, account, call, receipts)
+    match one_moved(held, account, copy, receipts, cut) {
+        Ok(_) => More::Made,
+        Err(_) => More::Refused,
+    }
 }
 
 /// Events of this call as long as it has its answer, at most so many, and at most as there is room for their receipts.
-/// It ends too where the log refuses one. Answers how many events the channel has then.
+/// It ends too where the log refuses one. Answers how many events the channel has then, and what came of the last try.
 pub(crate) fn all_ready<O: Kind>(
     held: &mut Held<O>,
     account: &mut Account,
     call: &O::Call,
     most: usize,
     receipts: &mut Vec<Receipt<O>>,
-) -> u64
+    cut: &mut Option<Cut<O>>,
+) -> (u64, More)
     requires lawful { O.lawful }
     requires none { receipts.old.items ≡ [] }
     ensures most { length receipts.new.items ≤ most }
     ensures row { EnteredInRow account.old account.new call.now
         held.old.log.tally.total held.new.log.tally.total receipts.new.items }
-    ensures total { result ≡ held.new.log.tally.total }
+    ensures total { result.0 ≡ held.new.log.tally.total }
+    ensures stop { EndsAs result.1
+        (length receipts.new.items ≡ min most (vec_capacity receipts.old))
+        (O.machine.ready held.new.log.piece.last call.now ≡ false) }
+    ensures part { HandsOnAll held.old.log.piece held.new.log.piece cut.old cut.new }
+    ensures rest { held.new ≡ record held.old { log = held.new.log } }
 {
+    let most = most.min(receipts.capacity());
     for _ in 0..most {
-        if !one_ready(held, account, call, receipts) {
-            break;
+        match one_more(held, account, call, receipts, cut) {
+            More::Made => {}
+            More::Waits => return (held.total(), More::Waits),
+            More::Refused => return (held.total(), More::Refused),
         }
     }
-    held.total()
+    (held.total(), More::Made)
 }
 
 /// Calls of what stands in this queue, from its front on, one behind the other, up to one that would wait. What a call was
@@ -120,14 +132,19 @@ pub(crate) fn each_ready<O: Kind, Q: Queued<O>>(
     number: u64,
     queue: &mut VecDeque<Q::Item>,
     receipts: &mut Vec<Receipt<O>>,
+    cut: &mut Option<Cut<O>>,
 ) -> (bool, Result<(), Refused<O::Call>>)
     requires { O.lawful }
     ensures row { LeavesOver (Q.call number) result.1 queue.new.items (λ over.
         EnteredOf (Q.call number) account.old account.new held.old.log.tally.total
         held.new.log.tally.total queue.old.items over receipts.old.items receipts.new.items) }
-    ensures stop { OnOk result.1 (StopsAt O.machine.ready (Q.call number) queue.new.items) }
+    ensures stop { OnOk result.1
+        (WaitsAt (O.machine.ready held.new.log.piece.last) (Q.call number) queue.new.items) }
+    ensures full { IfErr result.1 (IsFullAtLast O.machine held.new) }
     ensures waits { result.0 ≡ false → KeepsAllWaiting O.machine O.handle_of (Q.call number)
         queue.old.items held.old.log.piece.last held.new.log.piece.last }
+    ensures part { HandsOnAll held.old.log.piece held.new.log.piece cut.old cut.new }
+    ensures rest { held.new ≡ record held.old { log = held.new.log } }
 {
     let mut awaited = false;
     while let Some(next) = queue.front() {
@@ -137,7 +154,7 @@ pub(crate) fn each_ready<O: Kind, Q: Queued<O>>(
         let Some(item) = queue.pop_front() else {
             unreachable!()
         };
-        match one_moved(held, account, Q::call(number, item), receipts) {
+        match one_moved(held, account, Q::call(number, item), receipts, cut) {
             Ok(is_awaited) => awaited |= is_awaited,
             Err(refused) => return (awaited, Err(refused)),
         }
@@ -157,39 +174,50 @@ fn ended<O: Kind>(receipts: &Vec<Receipt<O>>) -> bool
 
 /// Events of this call, whose answer is there: one, and further ones up to the limit, as long as they have their answers
 /// too and the one before does not say that nothing comes any more. It ends too where the log refuses one. How many were
-/// made; or the first comes back.
+/// made, and what came of the last try; or the first comes back.
 pub(crate) fn many_ready<O: Kind>(
     held: &mut Held<O>,
     account: &mut Account,
     call: O::Call,
     limit: usize,
     receipts: &mut Vec<Receipt<O>>,
-) -> Result<usize, Refused<O::Call>>
+    cut: &mut Option<Cut<O>>,
+) -> Result<(usize, More), Refused<O::Call>>
     requires lawful { O.lawful }
     requires ready { O.machine.ready held.old.log.piece.last call ≡ true }
     requires some { 0 < limit }
-    ensures made { IfOk result (λ count.
+    ensures made { IfOk result (λ r.
         EnteredMany O.ends account.old account.new call limit held.old.log.tally.total
-        held.new.log.tally.total receipts.old.items receipts.new.items count) }
+        held.new.log.tally.total receipts.old.items receipts.new.items r.0) }
+    ensures stop { IfOk result (λ r. EndsAs r.1
+        ((r.0 ≡ limit) ⊎ (has_ended O.ends receipts.new.items ≡ true))
+        (O.machine.ready held.new.log.piece.last call ≡ false)) }
     ensures answered { EachBehind (IsAnswerTo O.machine O.is_sound call)
         receipts.old.items receipts.new.items }
     ensures back { IfErr result (λ e. IsBack account.old account.new call e) }
     ensures same { OnErr result (receipts.new.items ≡ receipts.old.items) }
+    ensures full { IfErr result (IsFullAtLast O.machine held.new) }
+    ensures part { HandsOnAll held.old.log.piece held.new.log.piece cut.old cut.new }
+    ensures rest { held.new ≡ record held.old { log = held.new.log } }
 {
     let Ok(again) = O::copy_call(&call) else {
         return Err(Refused::Short(call));
     };
-    if let Err(refused) = one_moved(held, account, call, receipts) {
+    if let Err(refused) = one_moved(held, account, call, receipts, cut) {
         return Err(refused);
     }
     let mut count = 1usize;
     while count < limit {
-        if ended(receipts) || !one_more(held, account, &again, receipts) {
-            break;
+        if ended(receipts) {
+            return Ok((count, More::Made));
         }
-        count += 1;
+        match one_more(held, account, &again, receipts, cut) {
+            More::Made => count += 1,
+            More::Waits => return Ok((count, More::Waits)),
+            More::Refused => return Ok((count, More::Refused)),
+        }
     }
-    Ok(count)
+    Ok((count, More::Made))
 }
 
 /// Looks until the handle has seen so many events of its channel, which has had them.

@@ -3,7 +3,7 @@ ghost use Rattle.std.specs.Prelude.{◌≡◌, true, IfOk, IfErr, Some};
 ghost use Rattle.th_log.specs.Outcome.{counted};
 ghost use Rattle.th_log.specs.Replies.{made_by};
 ghost use Rattle.th_block.specs.Handles.{IsBack, Tells, call_of, rx};
-ghost use Rattle.th_block.specs.Locked.{Fits, IsSeated, Spends};
+ghost use Rattle.th_block.specs.Locked.{Extends, Fits, HandsOn, IsSeated, Spends};
 ghost use Rattle.th_block.specs.Pairs.{IsReplaced, counted_twice};
 
 use crate::account::Account;
@@ -26,6 +26,8 @@ fn surely_last<O: Kind>(held: &mut Held<O>, account: &mut Account, last: O::Call
     requires spends { Spends O.machine held.old.log.piece.last last }
     ensures share { account.new.share ≡ counted account.old.share }
     ensures eye { account.new.eye ≡ account.old.eye }
+    ensures part { Extends held.old.log.piece held.new.log.piece }
+    ensures rest { held.new ≡ record held.old { log = held.new.log } }
 {
     let Ok(_) = held.last_event(account, last) else {
         unreachable!()
@@ -48,6 +50,9 @@ fn make_and_last<O: Kind>(
     ensures share { IfOk result (λ r. account.new.share ≡ counted_twice r.1 account.old.share) }
     ensures eye { account.new.eye ≡ account.old.eye }
     ensures back { IfErr result (λ e. IsBack account.old account.new make e) }
+    ensures part { HandsOn held.old.log.piece cut.old cut.new
+        (λ p. Extends p held.new.log.piece) }
+    ensures rest { held.new ≡ record held.old { log = held.new.log } }
 {
     match seated_event(held, account, make, cut) {
         Ok((receipt, seat)) => match seat {

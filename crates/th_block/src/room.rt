@@ -3,6 +3,7 @@ ghost use Rattle.std.specs.Prelude.{◌≡◌, true};
 ghost use Rattle.std.specs.Sync.Mutex.{mutex_guard_value};
 
 use crate::held::Held;
+use crate::wake::Wake;
 use std::sync::{Condvar, Mutex, MutexGuard, Wait};
 use std::thread;
 use std::time::{Clock, Duration};
@@ -54,11 +55,9 @@ impl<O: Object> Room<O> {
         self.held.lock(rt)
     }
 
-    /// Wakes all who wait, if there is a need.
-    pub(crate) fn wake(&self, wakes: bool) {
-        if wakes {
-            self.news.notify_all();
-        }
+    /// Wakes all who wait, if they are to be. The lock is free.
+    pub(crate) fn wake(&self, wake: Wake) {
+        wake.give(&self.news);
     }
 }
 
@@ -123,8 +122,10 @@ impl<O: Kind> Room<O> {
         answer: &Result<Receipt<O>, Refused<O::Call>>,
         wakes: bool,
     ) {
-        let wakes = wakes && held.wakes_after(answer);
-        drop(held);
-        self.wake(wakes);
+        if wakes {
+            let wake = held.wakes_after(answer);
+            drop(held);
+            self.wake(wake);
+        }
     }
 }

@@ -1,6 +1,6 @@
 //! A channel that is owned in common by its handles.
 ghost use Rattle.std.specs.Prelude.{◌≡◌, IfErr, IfOk, IfSome};
-ghost use Rattle.th_log.specs.History.{IsLegal};
+ghost use Rattle.th_log.specs.History.{IsKept, IsLegal};
 
 use crate::cuts::{Cuts, hand_over};
 use crate::held::{Held, Rolling};
@@ -59,9 +59,13 @@ impl<O: Kind> Shared<O> {
     /// From now on the channel cuts its log by itself: the call that finds so many entries in it, or no room for its own, cuts it
     /// before its event, under the same lock, and puts the part into this queue once the lock is free. Its log is to have the
     /// largest limit, 1,000,000 entries: then a call is refused as `LogFull` only where the channel has had nearly 2^63 events.
-    /// A log that is as long already is cut now. Where memory is refused for a cut, a call that needs one is `Short`.
+    /// A log that is as long already is cut now. Where memory is refused for a cut, the call that is to make it is `Short`.
     ///
-    /// A cut costs as [`Shared::cut`] does. Calls that are made together are cut before the first of them alone.
+    /// Before calls that are made together the log is cut too where it has no room for all of them, or for 1,024 where they are
+    /// more, and in their midst only where it has no room for the next one. So up to 1,024 of them that make no handle stand in
+    /// one part. Where memory is refused they go on in the old one, and only the call for which it has no room is `Short`.
+    ///
+    /// A cut costs as [`Shared::cut`] does.
     ///
     /// # Errors
     ///
@@ -84,9 +88,9 @@ impl<O: Kind> Shared<O> {
     /// Wakes who waits, after calls that left it to their caller. It takes the lock for a moment.
     pub fn wake<R: Wait>(&self, rt: &R) {
         let mut held = self.room.lock(rt);
-        let wakes = held.wakes();
+        let wake = held.wakes();
         drop(held);
-        self.room.wake(wakes);
+        self.room.wake(wake);
     }
 
     /// Gives the channel the share of a handle that is gone. It keeps all that it was given as one, under its lock, until
@@ -109,9 +113,16 @@ impl<O: Kind> Shared<O> {
     }
 
     /// The log, for the last owner; any other one comes back. It takes neither memory nor the lock.
-    pub fn finish(self) -> Result<Logged<O>, Shared<O>> {
+    pub fn finish(self) -> Result<Logged<O>, Shared<O>>
+        ensures kept { IfOk result (IsKept O.machine O.is_sound) }
+    {
         match Arc::try_unwrap(self.room) {
-            Ok(room) => Ok(room.into_held().into_log()),
+            Ok(room) => {
+                let log = room.into_held().into_log();
+                // What a log always is.
+                let _entries = log.len();
+                Ok(log)
+            }
             Err(room) => Err(Shared { room }),
         }
     }

@@ -37,11 +37,12 @@ impl<O: Kind, S> Handle<O, S> {
         let mut held = room.lock(rt);
         let log = &mut *held;
         log.spare(queue.len(), &mut cut);
-        let (awaited, end) = each_ready::<O, Q>(log, account, *number, queue, receipts);
+        let (awaited, end) =
+            each_ready::<O, Q>(log, account, *number, queue, receipts, &mut cut);
         let total = log.total();
-        let wakes = awaited && log.wakes();
+        let wake = log.wakes_if(awaited);
         drop(held);
-        room.wake(wakes);
+        room.wake(wake);
         hand_over(rt, &mut cut);
         see_all(rt, account, total);
         end
@@ -73,11 +74,11 @@ impl<O: Kind, S> Handle<O, S> {
         let mut held = room.lock_when_ready(rt, &call);
         let log = &mut *held;
         log.spare(limit, &mut cut);
-        let answer = many_ready(log, account, call, limit, receipts);
+        let answer = many_ready(log, account, call, limit, receipts, &mut cut);
         let total = log.total();
         drop(held);
         hand_over(rt, &mut cut);
-        let count = answer?;
+        let (count, _) = answer?;
         see_all(rt, account, total);
         Ok(count)
     }

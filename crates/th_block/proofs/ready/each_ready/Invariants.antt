@@ -1,5 +1,5 @@
 use Rattle.std.proofs.Common.{◌≡◌, false, length}
-use Rattle.th_block.specs.Locked.{KeepsAllWaiting}
+use Rattle.th_block.specs.Locked.{HandsOnAll, KeepsAllWaiting}
 use Rattle.th_block.specs.Together.{EnteredOf}
 use Rattle.th_block.proofs.ready.each_ready.Given as goal
 
@@ -12,6 +12,8 @@ invariant-loop-next g l = record {
       l.awaited ≡ false
       → KeepsAllWaiting g.O.Object.machine g.O.Kind.handle_of (g.Q.Queued.call l.fn.number) l.fn.queue.items
       l.fn.held.log.piece.last l.held.log.piece.last;
+  part : HandsOnAll l.fn.held.log.piece l.held.log.piece l.fn.cut l.cut;
+  rest : l.held ≡ record l.fn.held { log = l.held.log };
 }
 
 abbrev pub decreases-loop-next : goal.decreases-loop-next
