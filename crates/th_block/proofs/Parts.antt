@@ -1,5 +1,5 @@
 -- Parts of a log that go on, and those that are cut.
-use Rattle.std.proofs.Common.{◌≡◌, Bool, ℕ, ◌∙◌, ◌⊎◌, inl, inr, Option, Some, None, List, [], ◌∷◌, ◌++◌, ap, append_assoc, append-nil, refl, sym, subst, ⊎_elim}
+use Rattle.std.proofs.Common.{◌≡◌, ◌∙◌, inl, inr, Option, List, [], ◌∷◌, ◌++◌, ap, append_assoc, append-nil, refl, sym, subst, ⊎_elim}
 use Rattle.th_glance.proofs.Prefix.{prefix_self, prefix_trans}
 use Rattle.th_log.specs.History.{Piece}
 use Rattle.th_log.specs.Outcome.{added}

@@ -37,8 +37,7 @@ impl<O: Kind, S> Handle<O, S> {
         let mut held = room.lock(rt);
         let log = &mut *held;
         log.spare(queue.len(), &mut cut);
-        let (awaited, end) =
-            each_ready::<O, Q>(log, account, *number, queue, receipts, &mut cut);
+        let (awaited, end) = each_ready::<O, Q>(log, account, *number, queue, receipts, &mut cut);
         let total = log.total();
         let wake = log.wakes_if(awaited);
         drop(held);

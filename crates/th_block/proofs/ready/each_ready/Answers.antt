@@ -43,7 +43,7 @@ loop-next-preserved g c = record {
 
 pub returns-in-Err-clause-part : goal.returns-in-Err-clause-part
 returns-in-Err-clause-part g c = hands_more c.args.held.now.log.piece c.loop-next.held.log.piece c.one_moved.new.held.log.piece
-      c.args.cut.now c.loop-next.cut c.one_moved.new.cut c.loop-next.invariant.part c.one_moved.ensures.part
+    c.args.cut.now c.loop-next.cut c.one_moved.new.cut c.loop-next.invariant.part c.one_moved.ensures.part
 
 pub returns-in-Err-clause-rest : goal.returns-in-Err-clause-rest
 returns-in-Err-clause-rest g c = rest_on c.args.held.now c.loop-next.held c.one_moved.new.held c.loop-next.invariant.rest c.one_moved.ensures.rest
