@@ -147,7 +147,7 @@ module _ {D : Type 0} (keeping : Keeping) (says : D → (q : Query) → Said q �
         carries_broken put =
             let quit : Bool = tells_bye tells in
             let broken = breaks_at false (((s, d), false), before) line (said t.0) (((left, new.1), quit), after) (turned quit refl)
-                (front_after (said t.0) p (front_after (said t.0) q (put t.0 s t.1 kept))) in (
+            (front_after (said t.0) p (front_after (said t.0) q (put t.0 s t.1 kept))) in (
               quit,
               (broken, one_let gate answered enters.1),
             )

@@ -10,10 +10,10 @@ use Rattle.th_sockets.specs.declared.attended.Attended.{Attended}
 use Rattle.th_sockets.specs.declared.terms.Terms.{Terms}
 
 -- by what gates may say: a session has ended that was run so
-abbrev pub HasEndedBy : {G : Type 0} → (holds_back : G → ℕ → ℕ → Bool) →
+abbrev pub HasEndedBy : {G : Type 0} → (holds_back lets : G → ℕ → ℕ → Bool) →
     (gives_up : G → ℕ → Bool) → Terms G → Attended → Type 0
-HasEndedBy holds_back gives_up t left = HasEnded Says
-    (strictness holds_back gives_up (t.gate.now, t.number)) t.keeping t.bounds left
+HasEndedBy holds_back lets gives_up t left = HasEnded Says
+    (strictness holds_back lets gives_up (t.gate.now, t.number)) t.keeping t.bounds left
 
 -- the terms of the session behind so many
 pub record IsBehind {G : Type 0} (gate : G) (keeping : Keeping) (bounds : Bounds) (before : ℕ)

@@ -51,7 +51,7 @@ pub(crate) fn attend<
     observer: &O,
 ) -> Attended
     ensures { WasRun Says
-        (strictness G.holds_back G.gives_up (terms.now.gate.now, terms.now.number))
+        (strictness G.holds_back G.lets G.gives_up (terms.now.gate.now, terms.now.number))
         terms.now.keeping terms.now.bounds
         (devices I.remaining (record { device = input; calls = 0; failures = 0 })
         W.contents (record { device = output; calls = 0; failures = 0 }))

@@ -60,7 +60,7 @@ fn serve<R: Wait + Clock + Clone, G: Gate, O: Observer>(
     connection: Connection<'_, '_, '_, R, G, O>,
     desk: SharedDesk<R>,
 ) -> Attended
-    ensures { HasEndedBy G.holds_back G.gives_up connection.entry.terms result }
+    ensures { HasEndedBy G.holds_back G.lets G.gives_up connection.entry.terms result }
 {
     let Connection {
         rt,
@@ -179,7 +179,8 @@ fn serve_all<
 ) -> (Vec<Attended>, Option<Stop>)
     ensures all { result.1 ≡ None → vec_len result.0 ≡ sessions }
     ensures most { vec_len result.0 ≤ sessions }
-    ensures each { EachHasEnded (λ number. strictness G.holds_back G.gives_up (gate.now, number))
+    ensures each { EachHasEnded
+        (λ number. strictness G.holds_back G.lets G.gives_up (gate.now, number))
         keeping bounds result.0.items }
 {
     let Ok(ended) = Vec::with_capacity(alloc, sessions as usize) else {
@@ -218,7 +219,8 @@ pub fn serve_on<
     requires least { 1 ≤ sessions }
     requires most { sessions ≤ 64 }
     ensures all { IfOk result (λ served. vec_len served.sessions ≡ sessions) }
-    ensures each { EachHasEnded (λ number. strictness G.holds_back G.gives_up (gate.now, number))
+    ensures each { EachHasEnded
+        (λ number. strictness G.holds_back G.lets G.gives_up (gate.now, number))
         keeping bounds (ended_in result) }
 {
     let Ok(own) = rt.clone() else {

@@ -32,5 +32,5 @@ impl<'g, G> Terms<'g, G> {
 impl<'g, G: Gate> Promise<Attended> for Terms<'g, G> {
     ghost use Rattle.th_sockets.specs.Terms.{HasEndedBy};
 
-    ghost kept_by = { HasEndedBy G.holds_back G.gives_up };
+    ghost kept_by = { HasEndedBy G.holds_back G.lets G.gives_up };
 }

@@ -10,7 +10,7 @@ returns g c =
     let run = c.run_session-session in
     let terms = c.args.terms.now in
     let gate : Strictness =
-    strictness g.G.Gate.holds_back g.G.Gate.gives_up (terms.gate.now, terms.number) in
+    strictness g.G.Gate.holds_back g.G.Gate.lets g.G.Gate.gives_up (terms.gate.now, terms.number) in
     let remaining = g.I.Read.remaining in
     let contents = g.W.Write.contents in
     let after = devices remaining run.new.reader contents run.new.writer in

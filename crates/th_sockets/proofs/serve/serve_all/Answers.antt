@@ -17,5 +17,5 @@ returns-clause-each g c = λ at other below.
     let placed : IsBehind c.args.gate.now c.args.keeping c.args.bounds at kept.handle.promise =
     subst (λ (h : Handle). IsBehind c.args.gate.now c.args.keeping c.args.bounds at h.promise) (sym kept.handle_is)
     (started.ensures.terms at kept.handle (omega (arith, started.result.0.ok.0, within))) in
-    ended_behind g.G.Gate.holds_back g.G.Gate.gives_up c.args.gate.now c.args.keeping c.args.bounds at
+    ended_behind g.G.Gate.holds_back g.G.Gate.lets g.G.Gate.gives_up c.args.gate.now c.args.keeping c.args.bounds at
     kept.handle.promise (get_or (vec_items joined.result) at other) placed kept.kept
