@@ -24,9 +24,8 @@ use Rattle.th_registry.specs.Receipts.{BroadcastReceipt, ChannelReceipt, WatchRe
 use Rattle.th_seats.specs.Tally.{Part}
 use Rattle.th_shared.specs.declared.handles.TopicReceiver.{TopicReceiver}
 use Rattle.th_shared.specs.declared.handles.TopicReceiver.TheVariants.{Live, Spent}
-use Rattle.th_shared.specs.Doing.{Declines, DeclinesHub, Does, EndsHub, Enters, EntersHub, HasEnded, Moves, ReceiverMoves, TellsKind, noted_of}
-use Rattle.th_shared.specs.Reasons.{through_hub}
-use Rattle.th_shared.specs.Saying.{AtHub, IsOf, MayRefuse, MaySay, Notes, Says, first}
+use Rattle.th_shared.specs.Doing.{Declines, Does, Enters, HasEnded, Moves, ReceiverMoves, TellsKind, noted_of}
+use Rattle.th_shared.specs.Saying.{AtHub, IsOf, MayRefuse, MaySay, Notes, Says}
 
 -- of an event by a handle that stays
 module _ (n : ℕ) (e : Event) (own : is_by_hub e ≡ false) (stays : is_end e ≡ false) where
@@ -111,85 +110,6 @@ module _ (n : ℕ) (e : Event) (own : is_by_hub e ≡ false) (stays : is_end e �
         Enters n (watch_call e) old.known new.known said → Does n e (Watch old) (Watch new) noted
     watch-does said noted is enters = subst (Does n e (Watch old) (Watch new)) (sym is) (watch-did said enters)
 
--- of an event by the hub's own sender, which stays
-module _ (n : ℕ) (e : Event) (hub : is_by_hub e ≡ true) (stays : is_end e ≡ false) where
-  hub-refuses-broadcast : (why : NoEvent) → DeclinesHub (broadcast_call e) why → MayRefuse e why
-  hub-refuses-broadcast NoTopic bad = absurd bad
-  hub-refuses-broadcast WrongKind none = inl none
-  hub-refuses-broadcast NoSender there = hub
-  hub-refuses-broadcast NotLive bad = absurd bad
-  hub-refuses-broadcast Blocked bad = absurd bad
-  hub-refuses-broadcast LogFull there = stays
-  hub-refuses-broadcast Short there = stays
-
-  hub-refuses-watch : (why : NoEvent) → DeclinesHub (watch_call e) why → MayRefuse e why
-  hub-refuses-watch NoTopic bad = absurd bad
-  hub-refuses-watch WrongKind none = inr none
-  hub-refuses-watch NoSender there = hub
-  hub-refuses-watch NotLive bad = absurd bad
-  hub-refuses-watch Blocked bad = absurd bad
-  hub-refuses-watch LogFull there = stays
-  hub-refuses-watch Short there = stays
-
-  hub-told-broadcast : (old new : Option Known) (said : Result BroadcastReceipt NoEvent) →
-      EntersHub n (broadcast_call e) old new said → MaySay (On n e) (noted_of (broadcast_outcome e) (λ r. Broadcast r) said)
-  hub-told-broadcast (Some k) (Some l) (Ok r) enters = ((enters.0, refl), stays)
-  hub-told-broadcast (Some k) None (Ok r) bad = absurd bad
-  hub-told-broadcast None new (Ok r) bad = absurd bad
-  hub-told-broadcast (Some k) new (Err why) enters = (refl, hub-refuses-broadcast why enters.0)
-  hub-told-broadcast None new (Err why) enters = (refl, hub-refuses-broadcast why enters.0)
-
-  hub-told-watch : (old new : Option Known) (said : Result WatchReceipt NoEvent) →
-      EntersHub n (watch_call e) old new said → MaySay (On n e) (noted_of (watch_outcome e) (λ r. Watch r) said)
-  hub-told-watch (Some k) (Some l) (Ok r) enters = ((enters.0, refl), stays)
-  hub-told-watch (Some k) None (Ok r) bad = absurd bad
-  hub-told-watch None new (Ok r) bad = absurd bad
-  hub-told-watch (Some k) new (Err why) enters = (refl, hub-refuses-watch why enters.0)
-  hub-told-watch None new (Err why) enters = (refl, hub-refuses-watch why enters.0)
-
-  pub hub-says-broadcast : (old new : Option Known) (said : Result BroadcastReceipt NoEvent) (noted : Noted) →
-      noted ≡ noted_of (broadcast_outcome e) (λ r. Broadcast r) said →
-      EntersHub n (broadcast_call e) old new said → MaySay (On n e) noted
-  hub-says-broadcast old new said noted is enters =
-      subst (MaySay (On n e)) (sym is) (hub-told-broadcast old new said enters)
-
-  pub hub-says-watch : (old new : Option Known) (said : Result WatchReceipt NoEvent) (noted : Noted) →
-      noted ≡ noted_of (watch_outcome e) (λ r. Watch r) said →
-      EntersHub n (watch_call e) old new said → MaySay (On n e) noted
-  hub-says-watch old new said noted is enters =
-      subst (MaySay (On n e)) (sym is) (hub-told-watch old new said enters)
-
--- a call of the hub's own sender
-module _ {C R : Type 0} (n : ℕ) (call : Option C) (old new : Known) where
-  by-hub : (said : Result (Told C R) NoEvent) → Enters n call old new said →
-      EntersHub n call (Some old) (Some new) (through_hub said)
-  by-hub (Ok r) enters = enters
-  by-hub (Err NoTopic) enters = absurd enters.0
-  by-hub (Err WrongKind) enters = (enters.0, ap (λ k. Some k) enters.1)
-  by-hub (Err NoSender) enters = absurd enters.0
-  by-hub (Err NotLive) enters = (enters.0, ap (λ k. Some k) enters.1)
-  by-hub (Err Blocked) enters = absurd enters.0
-  by-hub (Err LogFull) enters = (enters.0, ap (λ k. Some k) enters.1)
-  by-hub (Err Short) enters = (enters.0, ap (λ k. Some k) enters.1)
-
-  pub goes-through-hub : (said result : Result (Told C R) NoEvent) → result ≡ through_hub said →
-      Enters n call old new said → EntersHub n call (Some old) (Some new) result
-  goes-through-hub said result is enters = subst (EntersHub n call (Some old) (Some new)) (sym is) (by-hub said enters)
-
-  first-through : {X : Type 0} (said : Result (Told C R × X) NoEvent) → through_hub (first said) ≡ first (through_hub said)
-  first-through (Ok r) = refl
-  first-through (Err why) = refl
-
-  pub makes-through-hub : {X : Type 0} (said result : Result (Told C R × X) NoEvent) → result ≡ through_hub said →
-      Enters n call old new (first said) → EntersHub n call (Some old) (Some new) (first result)
-  makes-through-hub said result is enters =
-      subst (EntersHub n call (Some old) (Some new)) (first-through said ∙ ap first (sym is)) (by-hub (first said) enters)
-
--- what is true of what came stays so
-pub if-through-hub : {A : Type 0} (P : A → Type 0) (said result : Result A NoEvent) → result ≡ through_hub said → IfOk said P → IfOk result P
-if-through-hub P (Ok a) result is here = subst (λ r. IfOk r P) (sym is) here
-if-through-hub P (Err why) result is here = subst (λ r. IfOk r P) (sym is) tt
-
 -- what is left of a broadcast receiver, once another was asked for in its place
 abbrev pub left_of : ℕ → Option Holder → TopicReceiver
 left_of n None = Spent n
@@ -225,31 +145,6 @@ module _ (n : ℕ) where
 
   pub ends-watch-rx : (r : RxId) → HasEnded {C = WCall Bytes} {R = WReply Bytes} n (WCalls.DropRx r) WReplies.Done → MaySay (On n (DropsRx r)) (Ok Ended, None)
   ends-watch-rx r h = (Watch h.0, (h.1, done-watch h.0.reply h.2), refl)
-
-  no-end : (why : NoEvent) → why ≡ NoSender → MaySay (On n (DropsTx Hub)) (Err why, None)
-  no-end why is = (refl, subst (MayRefuse (DropsTx Hub)) (sym is) refl)
-
-  pub hub-ends-broadcast : (old new : Option Known) (share : Option Part) (said : Result (Unit {0}) NoEvent) →
-      EndsHub {C = BCall Bytes} {R = BReply Bytes} n (BCalls.DropTx (tx 1)) BReplies.Done old new share said → MaySay (On n (DropsTx Hub)) (ended said)
-  hub-ends-broadcast (Some k) None (Some s) (Ok u) h = ends-broadcast-tx Hub h.1
-  hub-ends-broadcast (Some k) None None (Ok u) h = absurd h
-  hub-ends-broadcast (Some k) (Some l) share (Ok u) h = absurd h
-  hub-ends-broadcast None new share (Ok u) h = absurd h
-  hub-ends-broadcast (Some k) None (Some s) (Err why) h = no-end why h.0
-  hub-ends-broadcast (Some k) None None (Err why) h = no-end why h.0
-  hub-ends-broadcast (Some k) (Some l) share (Err why) h = no-end why h.0
-  hub-ends-broadcast None new share (Err why) h = no-end why h.0
-
-  pub hub-ends-watch : (old new : Option Known) (share : Option Part) (said : Result (Unit {0}) NoEvent) →
-      EndsHub {C = WCall Bytes} {R = WReply Bytes} n (WCalls.DropTx (tx 1)) WReplies.Done old new share said → MaySay (On n (DropsTx Hub)) (ended said)
-  hub-ends-watch (Some k) None (Some s) (Ok u) h = ends-watch-tx Hub h.1
-  hub-ends-watch (Some k) None None (Ok u) h = absurd h
-  hub-ends-watch (Some k) (Some l) share (Ok u) h = absurd h
-  hub-ends-watch None new share (Ok u) h = absurd h
-  hub-ends-watch (Some k) None (Some s) (Err why) h = no-end why h.0
-  hub-ends-watch (Some k) None None (Err why) h = no-end why h.0
-  hub-ends-watch (Some k) (Some l) share (Err why) h = no-end why h.0
-  hub-ends-watch None new share (Err why) h = no-end why h.0
 
 -- the end of a handle is never refused because a log is full
 abbrev is-full : EventResult → Type 0

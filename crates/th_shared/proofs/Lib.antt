@@ -1,3 +1,4 @@
+pub mod ByHub
 pub mod Doing
 pub mod Named
 pub mod Opened

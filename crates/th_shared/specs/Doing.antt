@@ -7,7 +7,7 @@ use Rattle.th_model.specs.declared.kind.Kind.{Kind}
 use Rattle.th_model.specs.declared.kind.Kind.TheVariants as Kinds
 use Rattle.th_registry.specs.declared.channel.Channel.TheVariants.{Broadcast, Watch}
 use Rattle.th_registry.specs.declared.outcome.NoEvent.{NoEvent}
-use Rattle.th_registry.specs.declared.outcome.NoEvent.TheVariants.{WrongKind, NoSender, NotLive, LogFull, Short}
+use Rattle.th_registry.specs.declared.outcome.NoEvent.TheVariants.{WrongKind, NotLive, LogFull, Short}
 use Rattle.th_registry.specs.Events.{Event, EventResult, Outcome, broadcast_call, watch_call}
 use Rattle.th_registry.specs.Hub.{Noted, On}
 use Rattle.th_registry.specs.Kinds.{kind_of}
@@ -33,39 +33,15 @@ Declines call LogFull = IsSome call
 Declines call Short = IsSome call
 Declines call why = ⊥
 
--- the same through the hub's own sender, which is not live once it is spent
-abbrev pub DeclinesHub : {C : Type 0} → Option C → NoEvent → Type 0
-DeclinesHub call WrongKind = call ≡ None
-DeclinesHub call NoSender = IsSome call
-DeclinesHub call LogFull = IsSome call
-DeclinesHub call Short = IsSome call
-DeclinesHub call why = ⊥
-
 module _ {C R : Type 0} where
   -- a handle's call on a topic, if its kind has it: one event, or none, and then nothing has changed
   abbrev pub Enters : ℕ → Option C → (old new : Known) → Result (Told C R) NoEvent → Type 0
   Enters n call old new (Ok r) = IsOf n call r × HasMade old new r
   Enters n call old new (Err why) = Declines call why × (new ≡ old)
 
-  -- the same through the hub's own sender, if it is there
-  abbrev pub EntersHub : ℕ → Option C → (old new : Option Known) → Result (Told C R) NoEvent
-      → Type 0
-  EntersHub n call (Some old) (Some new) (Ok r) = IsOf n call r × HasMade old new r
-  EntersHub n call old new (Ok r) = ⊥
-  EntersHub n call old new (Err why) = DeclinesHub call why × (new ≡ old)
-
   -- there was the last event of a handle, which is answered so
   abbrev pub HasEnded : ℕ → C → (done : R) → Type 0
   HasEnded n call done = (r : Told C R) × IsOf n (Some call) r × (r.reply ≡ done)
-
-  -- the last event of the hub's own sender, which is answered so: its share stays, with one event more; or there is no such
-  -- sender, and nothing has changed
-  abbrev pub EndsHub : ℕ → C → (done : R) → (old new : Option Known) → (share : Option Part)
-      → Result (Unit {0}) NoEvent → Type 0
-  EndsHub n call done (Some old) None (Some share) (Ok _) =
-      (share ≡ counted old.share) × HasEnded n call done
-  EndsHub n call done old new share (Ok _) = ⊥
-  EndsHub n call done old new share (Err why) = (why ≡ NoSender) × (new ≡ old)
 
   -- A receiver that asks for another in its place, what is left of it, and what is said. Its share has two events more, and
   -- it is no longer there; or one, and it stays, since the channel made no other; or none, and nothing has changed.

@@ -1,6 +1,8 @@
+pub mod ByHub
 pub mod Cache
 pub mod Doing
 pub mod Numbers
+pub mod OwnSender
 pub mod Reasons
 pub mod Rows
 pub mod Saying

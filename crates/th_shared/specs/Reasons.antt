@@ -11,9 +11,10 @@ reason (Refuseds.Foreign c) = NoEvents.NotLive
 reason (Refuseds.Short c) = NoEvents.Short
 reason (Refuseds.LogFull c) = NoEvents.LogFull
 
--- the same through the hub's own sender, which is no session's handle
+-- The same through the hub's own sender, which is live until its end. So none is told to have ended before: a channel that does not
+-- know it is out of order, and there is no room for the event.
 abbrev pub hub_reason : NoEvent → NoEvent
-hub_reason NoEvents.NotLive = NoEvents.NoSender
+hub_reason NoEvents.NotLive = NoEvents.Short
 hub_reason why = why
 
 abbrev pub through_hub : {A : Type 0} → Result A NoEvent → Result A NoEvent

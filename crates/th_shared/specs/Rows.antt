@@ -1,6 +1,8 @@
 -- What is said of the topics under their lock, by the hub's own definitions (th_registry, specs/Hub.antt). Of a channel that
 -- threads share nothing is seen but its kind.
-use Rattle.std.specs.Prelude.{◌≡◌, ◌++◌, ℕ, Option, Some, None, Result, Ok, Err, map}
+use Rattle.std.specs.Prelude.{◌≡◌, ◌++◌, ℕ, Option, Some, None, Result, Ok, Err, MatchOption, map, slice_get}
+use Rattle.std.specs.Map.{values_of}
+use Rattle.indexmap.specs.IndexMap.{set_value_at}
 use Rattle.th_model.specs.declared.making.Making.{Making}
 use Rattle.th_registry.specs.Calls.{Bytes}
 use Rattle.th_registry.specs.declared.channel.Channel.{Channel}
@@ -9,7 +11,7 @@ use Rattle.th_registry.specs.declared.opening.Refusal.{Refusal}
 use Rattle.th_registry.specs.declared.outcome.NoEvent.{NoEvent}
 use Rattle.th_registry.specs.declared.outcome.NoEvent.TheVariants as NoEvents
 use Rattle.th_registry.specs.Kinds.{kind_of}
-use Rattle.th_registry.specs.Hub.{Machines, Open, Says, Topics}
+use Rattle.th_registry.specs.Hub.{Machines, Noted, Open, Says, Topics}
 
 -- topics in order of opening, each with its name and its kind
 abbrev pub Rows : Type 0
@@ -40,6 +42,13 @@ module _ {B W : Type 0} where
   abbrev pub Opens : (old : Topics B W) → Bytes → Making → Result ℕ Refusal → (new : Topics B W)
       → Type 0
   Opens old name making said new = SaysOpen (rows old) name making said (rows new) × Stay old new
+
+  -- what is noted of the topic of this number, which changes so while all others stay; or there is none, and nothing changes
+  abbrev pub AtTopic : ℕ → (Noted → (old new : Channel B W) → Type 0) → Noted
+      → (old new : Topics B W) → Type 0
+  AtTopic n does noted old new = MatchOption (slice_get (values_of old) n)
+      ((noted ≡ (Err NoEvents.NoTopic, None)) × (new ≡ old))
+      (λ c. (after : Channel B W) × does noted c after × (new ≡ set_value_at old n after))
 
   -- an owner of the channel of this topic is of its kind; or there is no such topic, or there are too many owners
   abbrev pub Owns : {X Y : Type 0} → Option (Bytes × Channel B W) → Result (Channel X Y) NoEvent

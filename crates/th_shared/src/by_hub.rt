@@ -1,10 +1,8 @@
 //! The events that go through the hub's own sender of a topic, for any kind of channel.
 ghost use Rattle.std.specs.Prelude.{◌≡◌, IfErr, IfOk, OnOk, Some};
-ghost use Rattle.std.specs.Option.{option_map};
-ghost use Rattle.th_log.specs.Outcome.{counted};
 ghost use Rattle.th_log.specs.Replies.{made_by};
 ghost use Rattle.th_registry.specs.Calls.{tx};
-ghost use Rattle.th_shared.specs.Doing.{EndsHub, EntersHub};
+ghost use Rattle.th_shared.specs.ByHub.{EndsHub, EntersHub};
 ghost use Rattle.th_shared.specs.Reasons.{through_hub};
 ghost use Rattle.th_shared.specs.Saying.{IsNumbered, first};
 
@@ -21,13 +19,13 @@ use th_registry::{NoEvent, TopicId};
 /// The number of the hub's own sender.
 const OWN: TxId = TxId(1);
 
-// What is said through the hub's own sender.
+// What is said through the hub's own sender, where it has not ended.
 fn through_hub<A>(said: Result<A, NoEvent>) -> Result<A, NoEvent>
     ensures { result ≡ through_hub said }
 {
     match said {
         Ok(came) => Ok(came),
-        Err(NoEvent::NotLive) => Err(NoEvent::NoSender),
+        Err(NoEvent::NotLive) => Err(NoEvent::Short),
         Err(why) => Err(why),
     }
 }
@@ -56,8 +54,7 @@ impl<O: Kind> Topic<O> {
     ) -> Result<New<O, Sends>, NoEvent>
         requires { O.lawful }
         ensures enters { EntersHub topic.0 (Some (O.cloning (tx 1)))
-            (option_map (λ own. own.sender.known) self.old.own)
-            (option_map (λ own. own.sender.known) self.new.own) (first result) }
+            self.old self.new (first result) }
         ensures made { IfOk result (λ new.
             IsNumbered (made_by O.made_tx O.made_rx new.0.reply) new.1) }
     {
@@ -77,8 +74,7 @@ impl<O: Kind> Topic<O> {
     ) -> Result<New<O, Receives>, NoEvent>
         requires { O.lawful }
         ensures enters { EntersHub topic.0 (O.subscribing start (tx 1))
-            (option_map (λ own. own.sender.known) self.old.own)
-            (option_map (λ own. own.sender.known) self.new.own) (first result) }
+            self.old self.new (first result) }
         ensures made { IfOk result (λ new.
             IsNumbered (made_by O.made_tx O.made_rx new.0.reply) new.1) }
     {
@@ -101,9 +97,7 @@ impl<O: Kind> Topic<O> {
         question: Question,
     ) -> Result<Receipt<O>, NoEvent>
         requires { O.lawful }
-        ensures { EntersHub topic.0 (O.asked question (tx 1))
-            (option_map (λ own. own.sender.known) self.old.own)
-            (option_map (λ own. own.sender.known) self.new.own) result }
+        ensures { EntersHub topic.0 (O.asked question (tx 1)) self.old self.new result }
     {
         let Some(_call) = O::asked(question, OWN) else {
             return Err(NoEvent::WrongKind);
@@ -114,12 +108,11 @@ impl<O: Kind> Topic<O> {
         }
     }
 
-    /// The end of the hub's own sender, whose share stays with the topic. The receipt is given up.
+    /// The end of the hub's own sender, whose share stays with the topic. The receipt is given up. A sender that its channel does not
+    /// know, which none is, ends without an event.
     pub(crate) fn end<R: Wait>(&mut self, rt: &R, topic: TopicId) -> Result<(), NoEvent>
         requires { O.lawful }
-        ensures { EndsHub topic.0 (O.last_of_sender (tx 1)) O.done
-            (option_map (λ own. own.sender.known) self.old.own)
-            (option_map (λ own. own.sender.known) self.new.own) self.new.share result }
+        ensures { EndsHub topic.0 (O.last_of_sender (tx 1)) O.done self.old self.new result }
     {
         let Some(Own { sender }) = self.own.take() else {
             return Err(NoEvent::NoSender);
@@ -130,7 +123,7 @@ impl<O: Kind> Topic<O> {
                 Ok(())
             }
             Err(sender) => {
-                self.own = Some(Own { sender });
+                self.share = Some(sender.release());
                 Err(NoEvent::NoSender)
             }
         }

@@ -3,8 +3,9 @@ ghost use Rattle.std.specs.Prelude.{◌≡◌, false, is_some, slice_get};
 ghost use Rattle.th_registry.specs.Events.{Asks, Binds, DropsTx, Hub, Subscribes};
 ghost use Rattle.th_registry.specs.Hub.{On, find};
 ghost use Rattle.th_registry.specs.Typed.{ended, made_rx, made_tx, replied};
+ghost use Rattle.th_shared.specs.ByHub.{TopicDoes, TopicEnds};
 ghost use Rattle.th_shared.specs.Numbers.{receiver, sender};
-ghost use Rattle.th_shared.specs.Rows.{Opens, Owns};
+ghost use Rattle.th_shared.specs.Rows.{AtTopic, Opens, Owns};
 ghost use Rattle.th_shared.specs.Saying.{MaySay};
 
 use crate::handles::{TopicOwner, TopicReceiver, TopicSender};
@@ -116,6 +117,21 @@ pub(crate) fn open(topics: &mut Topics, name: &NameRef<'_>, making: Making) -> R
     }
 }
 
+// A new sender, by the hub's own.
+fn bind_at<R: Wait>(
+    rt: &R,
+    at: &mut AnyTopic,
+    topic: TopicId,
+    shares: &mut Shares,
+) -> Result<Made<TopicSender>, NoEvent>
+    ensures { TopicDoes topic.0 Binds (made_tx sender result) at.old at.new }
+{
+    match at {
+        Channel::Broadcast(at) => broadcast_senders(at.bind(rt, topic, shares)),
+        Channel::Watch(at) => watch_senders(at.bind(rt, topic, shares)),
+    }
+}
+
 /// A new sender, by the hub's own.
 pub(crate) fn bind<R: Wait>(
     rt: &R,
@@ -123,14 +139,29 @@ pub(crate) fn bind<R: Wait>(
     topic: TopicId,
     shares: &mut Shares,
 ) -> Result<Made<TopicSender>, NoEvent>
-    ensures { MaySay (On topic.0 Binds) (made_tx sender result) }
+    ensures says { MaySay (On topic.0 Binds) (made_tx sender result) }
+    ensures does { AtTopic topic.0 (TopicDoes topic.0 Binds) (made_tx sender result)
+        topics.old.entries topics.new.entries }
 {
     let Some(at) = topics.get_index_mut(topic.0 as usize) else {
         return Err(NoEvent::NoTopic);
     };
+    bind_at(rt, at, topic, shares)
+}
+
+// A new receiver that begins so, by the hub's own sender.
+fn subscribe_at<R: Wait>(
+    rt: &R,
+    at: &mut AnyTopic,
+    topic: TopicId,
+    start: Start,
+    shares: &mut Shares,
+) -> Result<Made<TopicReceiver>, NoEvent>
+    ensures { TopicDoes topic.0 (Subscribes start Hub) (made_rx receiver result) at.old at.new }
+{
     match at {
-        Channel::Broadcast(at) => broadcast_senders(at.bind(rt, topic, shares)),
-        Channel::Watch(at) => watch_senders(at.bind(rt, topic, shares)),
+        Channel::Broadcast(at) => broadcast_receivers(at.subscribe(rt, topic, start, shares)),
+        Channel::Watch(at) => watch_receivers(at.subscribe(rt, topic, start, shares)),
     }
 }
 
@@ -142,14 +173,29 @@ pub(crate) fn subscribe<R: Wait>(
     start: Start,
     shares: &mut Shares,
 ) -> Result<Made<TopicReceiver>, NoEvent>
-    ensures { MaySay (On topic.0 (Subscribes start Hub)) (made_rx receiver result) }
+    ensures says { MaySay (On topic.0 (Subscribes start Hub)) (made_rx receiver result) }
+    ensures does { let event = Subscribes start Hub in
+        AtTopic topic.0 (TopicDoes topic.0 event) (made_rx receiver result)
+        topics.old.entries topics.new.entries }
 {
     let Some(at) = topics.get_index_mut(topic.0 as usize) else {
         return Err(NoEvent::NoTopic);
     };
+    subscribe_at(rt, at, topic, start, shares)
+}
+
+// A question through the hub's own sender.
+fn ask_at<R: Wait>(
+    rt: &R,
+    at: &mut AnyTopic,
+    topic: TopicId,
+    question: Question,
+) -> Result<TopicReceipt, NoEvent>
+    ensures { TopicDoes topic.0 (Asks Hub question) (replied result) at.old at.new }
+{
     match at {
-        Channel::Broadcast(at) => broadcast_receivers(at.subscribe(rt, topic, start, shares)),
-        Channel::Watch(at) => watch_receivers(at.subscribe(rt, topic, start, shares)),
+        Channel::Broadcast(at) => broadcast_told(at.ask(rt, topic, question)),
+        Channel::Watch(at) => watch_told(at.ask(rt, topic, question)),
     }
 }
 
@@ -160,28 +206,36 @@ pub(crate) fn ask<R: Wait>(
     topic: TopicId,
     question: Question,
 ) -> Result<TopicReceipt, NoEvent>
-    ensures { MaySay (On topic.0 (Asks Hub question)) (replied result) }
+    ensures says { MaySay (On topic.0 (Asks Hub question)) (replied result) }
+    ensures does { AtTopic topic.0 (TopicDoes topic.0 (Asks Hub question)) (replied result)
+        topics.old.entries topics.new.entries }
 {
     let Some(at) = topics.get_index_mut(topic.0 as usize) else {
         return Err(NoEvent::NoTopic);
     };
+    ask_at(rt, at, topic, question)
+}
+
+// The end of the hub's own sender.
+fn end_at<R: Wait>(rt: &R, at: &mut AnyTopic, topic: TopicId) -> Result<(), NoEvent>
+    ensures { TopicEnds topic.0 (ended result) at.old at.new }
+{
     match at {
-        Channel::Broadcast(at) => broadcast_told(at.ask(rt, topic, question)),
-        Channel::Watch(at) => watch_told(at.ask(rt, topic, question)),
+        Channel::Broadcast(at) => at.end(rt, topic),
+        Channel::Watch(at) => at.end(rt, topic),
     }
 }
 
 /// The end of the hub's own sender.
 pub(crate) fn end<R: Wait>(rt: &R, topics: &mut Topics, topic: TopicId) -> Result<(), NoEvent>
-    ensures { MaySay (On topic.0 (DropsTx Hub)) (ended result) }
+    ensures says { MaySay (On topic.0 (DropsTx Hub)) (ended result) }
+    ensures does { AtTopic topic.0 (TopicEnds topic.0) (ended result)
+        topics.old.entries topics.new.entries }
 {
     let Some(at) = topics.get_index_mut(topic.0 as usize) else {
         return Err(NoEvent::NoTopic);
     };
-    match at {
-        Channel::Broadcast(at) => at.end(rt, topic),
-        Channel::Watch(at) => at.end(rt, topic),
-    }
+    end_at(rt, at, topic)
 }
 
 /// An owner of a topic's channel, by which its log is cut.

@@ -1,6 +1,7 @@
 //! One topic that threads share: its channel, and the hub's own sender.
-ghost use Rattle.std.specs.Prelude.{◌≡◌, is_some, not};
+ghost use Rattle.std.specs.Prelude.{◌≡◌};
 
+use std::marker::Model;
 use th_block::{Handle, Sends, Shared};
 use th_log::Object;
 use th_registry::Channel;
@@ -15,6 +16,8 @@ pub(crate) struct Own<O: Object> {
 }
 
 /// A topic's channel, and the hub's own sender of it.
+///
+/// Contracts see what is known of that sender.
 #[derive(Drop)]
 pub(crate) struct Topic<O: Object> {
     pub(crate) owner: Shared<O>,
@@ -22,7 +25,21 @@ pub(crate) struct Topic<O: Object> {
     pub(crate) own: Option<Own<O>>,
     // Its share, after its end.
     pub(crate) share: Option<Share>,
-    ghost one: { is_some share ≡ not (is_some own) },
+}
+
+impl<O: Object> Model for Topic<O> {
+    ghost use Rattle.std.specs.Option.{option_map};
+    ghost use Rattle.std.specs.Prelude.{◌≡◌, is_some, not};
+    ghost use Rattle.th_shared.specs.OwnSender.{OwnSender};
+
+    ghost Value = { OwnSender };
+
+    ghost view = { λ t. record {
+      live = option_map (λ own. own.sender.known) t.own;
+      share = t.share;
+    } };
+
+    ghost invariant = { λ t. is_some t.share ≡ not (is_some t.own) };
 }
 
 /// A topic of either kind.

@@ -1,13 +1,14 @@
-use Rattle.std.proofs.Common.{refl}
+use Rattle.std.proofs.Common.{refl, sym, ap, ◌∙◌}
+use Rattle.std.specs.Option.{option_copied_mut}
 use Rattle.th_registry.specs.Events.{Binds}
-use Rattle.th_shared.specs.Saying.{first}
-use Rattle.th_shared.proofs.Doing.{hub-says-broadcast, hub-says-watch}
+use Rattle.th_shared.specs.ByHub.{TopicDoes}
+use Rattle.th_shared.proofs.ByHub.{at-one, does-says}
 use Rattle.th_shared.proofs.registry.bind.Goals as goal
 
-pub returns-in-Broadcast : goal.returns-in-Broadcast
-returns-in-Broadcast g c =
-    hub-says-broadcast c.args.topic.0 Binds refl refl _ _ (first c.bind.result) _ c.broadcast_senders.ensures c.bind.ensures.enters
+pub returns-clause-says : goal.returns-clause-says
+returns-clause-says g c = does-says c.args.topic.0 Binds refl refl _ _ _ c.bind_at.ensures
 
-pub returns-in-Watch : goal.returns-in-Watch
-returns-in-Watch g c =
-    hub-says-watch c.args.topic.0 Binds refl refl _ _ (first c.bind-in-Watch.result) _ c.watch_senders.ensures c.bind-in-Watch.ensures.enters
+pub returns-clause-does : goal.returns-clause-does
+returns-clause-does g c =
+    at-one c.args.topic.0 (TopicDoes c.args.topic.0 Binds) _
+    (sym c.get_index_mut.ensures.value ∙ ap option_copied_mut c.in-Some.is) c.bind_at.ensures

@@ -1,8 +1,13 @@
-use Rattle.th_shared.proofs.Doing.{hub-ends-broadcast, hub-ends-watch}
+use Rattle.std.proofs.Common.{sym, ap, ◌∙◌}
+use Rattle.std.specs.Option.{option_copied_mut}
+use Rattle.th_shared.specs.ByHub.{TopicEnds}
+use Rattle.th_shared.proofs.ByHub.{at-one, ends-says}
 use Rattle.th_shared.proofs.registry.end.Goals as goal
 
-pub returns-in-Broadcast : goal.returns-in-Broadcast
-returns-in-Broadcast g c = hub-ends-broadcast c.args.topic.0 _ _ _ c.end.result c.end.ensures
+pub returns-clause-says : goal.returns-clause-says
+returns-clause-says g c = ends-says c.args.topic.0 _ _ _ c.end_at.ensures
 
-pub returns-in-Watch : goal.returns-in-Watch
-returns-in-Watch g c = hub-ends-watch c.args.topic.0 _ _ _ c.end-in-Watch.result c.end-in-Watch.ensures
+pub returns-clause-does : goal.returns-clause-does
+returns-clause-does g c =
+    at-one c.args.topic.0 (TopicEnds c.args.topic.0) _
+    (sym c.get_index_mut.ensures.value ∙ ap option_copied_mut c.in-Some.is) c.end_at.ensures
