@@ -1,4 +1,4 @@
-"""Broadcast and watch channels whose every reply is proved, and clients of `topichub serve`.
+"""Broadcast and watch channels over a core whose every reply is proved, and clients of `topichub serve`.
 
 `Broadcast` and `Watch` are channels of this process, for threads and for tasks of asyncio. What is proved is their state, in
 the library `libtopichub`: which reply each call gets, and what it leaves; `build` tells whether the library that is loaded was
