@@ -1,7 +1,5 @@
 -- Sessions whose threads kept their promises.
-use Rattle.std.proofs.Common.{◌≡◌, ◌+◌, ◌<◌, ℕ, Bool, List, length, subst, sym}
-use Rattle.std.specs.Prelude.{slice_index_or}
-use Rattle.std.specs.declared.thread.PromisedHandle.{PromisedHandle}
+use Rattle.std.proofs.Common.{◌+◌, ℕ, Bool, subst}
 use Rattle.th_session.specs.Run.{strictness}
 use Rattle.th_session.specs.declared.bounds.Bounds.{Bounds}
 use Rattle.th_session.specs.declared.keeping.Keeping.{Keeping}

@@ -1,5 +1,5 @@
 -- What is true of each element of a list, by its place.
-use Rattle.std.proofs.Common.{◌≡◌, ◌+◌, ◌<◌, ◌++◌, ◌∷◌, ℕ, List, [], arith, below_more, length, length-append, refl, subst, sym}
+use Rattle.std.proofs.Common.{◌<◌, ◌++◌, ◌∷◌, ℕ, List, [], arith, below_more, length, length-append, refl, subst, sym}
 use Rattle.std.specs.Prelude.{get_or}
 use Rattle.std.proofs.lemmas.List.{get_or_append_left, get_or_push}
 

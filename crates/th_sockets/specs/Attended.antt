@@ -1,5 +1,5 @@
 -- A session that has ended: what is left of a run.
-use Rattle.std.specs.Prelude.{◌≡◌, ℕ}
+use Rattle.std.specs.Prelude.{◌≡◌}
 use Rattle.th_registry.specs.Hub.{Query, Said}
 use Rattle.th_session.specs.Ending.{Devices}
 use Rattle.th_session.specs.Kept.{Kept}

@@ -1,5 +1,5 @@
 -- Sessions that were served, each in a thread of its own.
-use Rattle.std.specs.Prelude.{ℕ, ◌+◌, ◌<◌, List, [], Option, Some, None, Result, Ok, Err, length, slice_index_or}
+use Rattle.std.specs.Prelude.{ℕ, ◌+◌, ◌<◌, List, [], Some, None, Result, Ok, Err, length, slice_index_or}
 use Rattle.th_session.specs.Run.{Strictness}
 use Rattle.th_session.specs.declared.bounds.Bounds.{Bounds}
 use Rattle.th_session.specs.declared.keeping.Keeping.{Keeping}
