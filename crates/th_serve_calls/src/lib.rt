@@ -2,6 +2,7 @@
 //! stand apart since th_shared is the last of a long chain of crates to be proved, and th_calls need not wait for it.
 #![tactic(auto)]
 
+pub mod registry;
 pub mod server;
 pub mod shared;
 pub mod sockets;

@@ -1,11 +1,10 @@
 //! Calls of th_shared. Only `main` has a runtime that may wait, so they take one by its bounds.
 use std::alloc::Global;
 use std::sync::Wait;
-use std::time::Clock;
-use th_model::{Name, ReceiverVerb, Short};
-use th_registry::{Desk, TopicId};
+use th_model::{Name, Short};
+use th_registry::TopicId;
 use th_seats::Share;
-use th_shared::{Ended, Histories, SharedDesk, TopicReceiver};
+use th_shared::{Ended, Histories, SharedDesk};
 
 pub fn make<R: Wait + Clone>(rt: R, alloc: Global) -> Result<SharedDesk<R>, Short<()>> {
     SharedDesk::new(rt, alloc)
@@ -30,10 +29,6 @@ pub fn end_histories<R: Wait + Clone>(rt: &R, desk: &SharedDesk<R>) -> u64 {
 
 pub fn name_of<R: Wait + Clone>(desk: &SharedDesk<R>) -> Option<Name> {
     desk.name_of(TopicId(0))
-}
-
-pub fn would_wait<R: Wait + Clock + Clone>(desk: &SharedDesk<R>, reader: &TopicReceiver) -> bool {
-    desk.would_wait(TopicId(0), reader, ReceiverVerb::Recv)
 }
 
 pub fn share<R: Wait + Clone>(desk: &SharedDesk<R>) -> Result<SharedDesk<R>, Short<()>> {
