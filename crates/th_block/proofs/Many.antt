@@ -79,12 +79,13 @@ module _ {V C R : Type 0} where
       (subst (λ (l : List (Told C R)). EnteredOf call old mid first book.total queue over' rs l) (sym same.2)
       (subst (λ (l : List V). EnteredOf call old mid first book.total queue l rs rs') front so_far)))
 
-  pub calls_of : (call : V → C) (number : ℕ) (old mid new : Known) (first total seen : ℕ) (queue over : List V) (rs rs' : List (Told C R))
+  pub calls_of : (call : V → C) (number : ℕ) (rolls : Bool) (old mid new : Known) (first total seen : ℕ) (queue over : List V) (rs rs' : List (Told C R))
       → seen ≡ total → new.share ≡ mid.share → Looked mid.eye new.eye → seen ≤ seen_of new
       → EnteredOf call old mid first total queue over rs rs'
-      → CallsOf call (holder number old) (holder number new) queue over rs rs'
-  calls_of call number old mid new first total seen queue over rs rs' is share eye far entered = record {
+      → CallsOf call (holder number rolls old) (holder number rolls new) queue over rs rs'
+  calls_of call number rolls old mid new first total seen queue over rs rs' is share eye far entered = record {
     number = refl;
+    rolls = refl;
     made = entered.made;
     added = entered.added;
     first = first;
@@ -148,16 +149,16 @@ module _ {C R : Type 0} where
         last = last_on ends so_far.added r so_far.last goes;
       }
 
-  pub takes : (ends : R → Bool) (number : ℕ) (old mid new : Known) (call : C) (limit first total seen : ℕ) (rs rs' : List (Told C R))
+  pub takes : (ends : R → Bool) (number : ℕ) (rolls : Bool) (old mid new : Known) (call : C) (limit first total seen : ℕ) (rs rs' : List (Told C R))
       → (count : ℕ) → EnteredMany ends old mid call limit first total rs rs' count → seen ≡ total
       → new.share ≡ mid.share → Looked mid.eye new.eye → seen ≤ seen_of new
-      → Takes ends (holder number old) (holder number new) call limit rs rs' count
-  takes ends number old mid new call limit first total seen rs rs' count entered is share eye far = record {
+      → Takes ends (holder number rolls old) (holder number rolls new) call limit rs rs' count
+  takes ends number rolls old mid new call limit first total seen rs rs' count entered is share eye far = record {
     added = entered.added;
     behind = entered.behind;
     count_is = entered.count_is;
     some = entered.some;
     most = entered.most;
-    row = called number old mid new call first total seen entered.added entered.row is share eye far;
+    row = called number rolls old mid new call first total seen entered.added entered.row is share eye far;
     last = entered.last;
   }

@@ -1,5 +1,5 @@
 -- Receipts that stand in a row, and one more behind them.
-use Rattle.std.proofs.Common.{◌≡◌, ◌∙◌, ℕ, ◌+◌, ◌≤◌, List, [], ◌∷◌, ◌++◌, length, ap, refl, sym, subst, arith, length-append}
+use Rattle.std.proofs.Common.{◌≡◌, ◌∙◌, ℕ, Bool, ◌+◌, ◌≤◌, List, [], ◌∷◌, ◌++◌, length, ap, refl, sym, subst, arith, length-append}
 use Rattle.th_seats.specs.Tally.{Part, Tally}
 use Rattle.th_glance.specs.Lists.{last_count}
 use Rattle.th_glance.specs.Seats.{Known as Sighted}
@@ -7,8 +7,8 @@ use Rattle.th_log.specs.Outcome.{Told, counted}
 use Rattle.th_block.specs.Handles.{Holder, Known, Looked, Tells, seen_of}
 use Rattle.th_block.specs.Rows.{AddsOne, CallsInRow, EnteredInRow, IsRow}
 
-abbrev pub holder : ℕ → Known → Holder
-holder number known = record { number = number; known = known }
+abbrev pub holder : ℕ → Bool → Known → Holder
+holder number rolls known = record { number = number; known = known; rolls = rolls }
 
 module _ {C R : Type 0} where
   row_on : (old : Known) (call : C) (place : ℕ) (rs : List (Told C R)) (r : Told C R) → IsRow old call place rs
@@ -57,12 +57,13 @@ module _ {C R : Type 0} where
   pub one_longer : (rs rs' : List (Told C R)) (r : Told C R) → rs' ≡ rs ++ r ∷ [] → length rs' ≡ length rs + 1
   one_longer rs rs' r e = ap length e ∙ length-append rs (r ∷ [])
 
-  pub called : (number : ℕ) (old mid new : Known) (call : C) (first total seen : ℕ) (rs : List (Told C R))
+  pub called : (number : ℕ) (rolls : Bool) (old mid new : Known) (call : C) (first total seen : ℕ) (rs : List (Told C R))
       → EnteredInRow old mid call first total rs → seen ≡ total
       → new.share ≡ mid.share → Looked mid.eye new.eye → seen ≤ seen_of new
-      → CallsInRow (holder number old) (holder number new) call rs
-  called number old mid new call first total seen rs entered is share eye far = record {
+      → CallsInRow (holder number rolls old) (holder number rolls new) call rs
+  called number rolls old mid new call first total seen rs entered is share eye far = record {
     number = refl;
+    rolls = refl;
     first = first;
     row = entered.row;
     seen = omega (arith, far, is, entered.total_is);

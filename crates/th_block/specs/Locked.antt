@@ -14,12 +14,12 @@ use Rattle.th_log.specs.declared.receipt.Refused.TheVariants.{Foreign, Short, Lo
 use Rattle.th_block.specs.Handles.{Known, Tells, seen_of, unused}
 use Rattle.th_block.specs.declared.seat.Seat.{Seat}
 
--- what lies under a lock: the log, how many have looked in vain since they were last woken,
--- whether the log is cut by the calls that find it long or full, and the shares that came back
+-- what lies under a lock: the log, how many have looked in vain since they were last woken, from how
+-- many entries on the log is long, and the shares that came back
 pub record Guarded (S C R : Type 0) : Type 0 where
   pub log : Log S C R
   pub waiting : ℕ
-  pub rolls : Bool
+  pub most : ℕ
   pub gone : Option Part
 
 -- Somebody is to be woken after this event: some have looked in vain, and what a call of another

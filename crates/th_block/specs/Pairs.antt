@@ -1,5 +1,5 @@
 -- What became of a handle in whose place another was asked for.
-use Rattle.std.specs.Prelude.{◌≡◌, ℕ, Option, None, Some}
+use Rattle.std.specs.Prelude.{◌≡◌, ℕ, Bool, Option, None, Some}
 use Rattle.th_log.specs.Outcome.{Told, counted}
 use Rattle.th_seats.specs.Tally.{Part}
 use Rattle.th_block.specs.Handles.{Holder, Answered, Beside}
@@ -14,9 +14,10 @@ counted_twice (Some _) share = counted (counted share)
 module _ {O S A B D C R : Type 0} where
   -- A new handle stands in the old one's place, and the old one's share has two events more; or the
   -- old one was answered and none was made.
-  abbrev pub IsReplaced : (R → Option ℕ) → Holder → Told C R → Replaced O S A B D → Type 0
-  IsReplaced made_by old r (New h share) =
-      (share ≡ counted (counted old.known.share)) × Beside made_by old.known.eye r (Some h)
-  IsReplaced made_by old r (Kept h) =
-      (h.number ≡ old.number) × Answered old.known h.known r.call r
-      × Beside made_by old.known.eye r None
+  abbrev pub IsReplaced : (R → Option ℕ) → (rolls : Bool) → Holder → Told C R
+      → Replaced O S A B D → Type 0
+  IsReplaced made_by rolls old r (New h share) =
+      (share ≡ counted (counted old.known.share)) × Beside made_by rolls old.known.eye r (Some h)
+  IsReplaced made_by rolls old r (Kept h) =
+      (h.number ≡ old.number) × (h.rolls ≡ old.rolls) × Answered old.known h.known r.call r
+      × Beside made_by rolls old.known.eye r None

@@ -25,6 +25,7 @@ module _ {C R : Type 0} where
   -- its share has exactly as many events more
   pub record CallsInRow (old new : Holder) (call : C) (receipts : List (Told C R)) : Type 0 where
     pub number : new.number ≡ old.number
+    pub rolls : new.rolls ≡ old.rolls
     pub first : ℕ
     pub row : IsRow old.known call first receipts
     pub seen : first + length receipts ≤ seen_of new.known

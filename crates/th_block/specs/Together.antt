@@ -2,7 +2,7 @@
 use Rattle.std.specs.Prelude.{◌≡◌, ℕ, ◌+◌, ◌≤◌, ◌<◌, Bool, false, List, [], ◌∷◌, ◌++◌, length, Result, Ok, Err, MatchResult}
 use Rattle.th_log.specs.Outcome.{Told}
 use Rattle.th_log.specs.declared.receipt.Refused.{Refused}
-use Rattle.th_block.specs.Handles.{Holder, IsBack, Known, Looked, Tells, call_of, seen_of}
+use Rattle.th_block.specs.Handles.{Holder, IsBack, IsFullAsSeen, Known, Looked, Tells, call_of, seen_of}
 use Rattle.th_block.specs.declared.more.More.{More}
 use Rattle.th_block.specs.declared.more.More.TheVariants.{Made, Waits}
 use Rattle.th_block.specs.declared.more.More.TheVariants.{Refused as WasRefused}
@@ -48,6 +48,7 @@ module _ {V C R : Type 0} where
   pub record CallsOf (call : V → C) (old new : Holder) (queue over : List V)
       (receipts receipts' : List (Told C R)) : Type 0 where
     pub number : new.number ≡ old.number
+    pub rolls : new.rolls ≡ old.rolls
     pub made : List V
     pub added : List (Told C R)
     pub first : ℕ
@@ -108,7 +109,8 @@ module _ {C R : Type 0} where
       (receipts receipts' : List (Told C R)) → Result ℕ (Refused C) → Type 0
   TakesMany ends old new call limit receipts receipts' result =
       MatchResult result (Takes ends old new call limit receipts receipts')
-      (λ e. (new.number ≡ old.number) × IsBack old.known new.known call e
+      (λ e. (new.number ≡ old.number) × (new.rolls ≡ old.rolls)
+      × IsBack old.known new.known call e × IsFullAsSeen old.rolls old.known e
       × (receipts' ≡ receipts))
 
   -- what became of the book, before the handle's eye looks

@@ -1,13 +1,14 @@
 //! Senders and receivers of a broadcast channel.
-ghost use Rattle.std.specs.Prelude.{◌≡◌, ◌<◌, ◌↔◌, [], IfErr, IfOk, IfSome, Ok, OnOk};
+ghost use Rattle.std.specs.Prelude.{◌≡◌, ◌<◌, ◌↔◌, [], false, true, IfErr, IfOk, IfSome, Ok, OnOk};
 ghost use Rattle.th_log.specs.History.{IsLimit};
 ghost use Rattle.th_model.specs.Limits.{ClonesAreEqual};
 ghost use Rattle.th_log.specs.Replies.{IsReceived, IsTried, broadcast_ends, broadcast_made_rx, broadcast_made_tx, made_by};
-ghost use Rattle.th_block.specs.Handles.{Calls, CallsFor, IsFirst, IsNext, IsNextTold, Tells, call_of, rx, tx};
+ghost use Rattle.th_block.specs.Handles.{Calls, CallsFor, IsFirst, IsFullAsSeen, IsNext, IsNextTold, Tells, call_of, rx, tx};
 ghost use Rattle.th_block.specs.Pairs.{IsReplaced};
 ghost use Rattle.th_block.specs.Rows.{EachBehind};
 ghost use Rattle.th_block.specs.Together.{MakesEach, TakesMany};
 
+use crate::cuts::Cuts;
 use crate::handle::{Handle, is_limit, open};
 use crate::queued::Values;
 use crate::replaced::Replaced;
@@ -15,10 +16,10 @@ use crate::shared::Shared;
 use crate::side::{Receives, Sends};
 use std::alloc::Global;
 use std::collections::VecDeque;
-use std::sync::Wait;
+use std::sync::{Arc, Wait};
 use th_bcast::Broadcast;
-use th_log::{MakeFault, Receipt, Refused};
-use th_model::{BCall, Capacity, RxId, TxId};
+use th_log::{MOST_ENTRIES, MakeFault, Receipt, Refused};
+use th_model::{BCall, Capacity, RxId, Short, TxId};
 use th_ring::RingShelf;
 
 /// The channel under the lock, over the ring.
@@ -47,7 +48,7 @@ pub fn broadcast_at<T: Clone + Drop>(
     key: u64,
 ) -> Result<BSender<T>, MakeFault>
     requires { ClonesAreEqual T.is_clone }
-    ensures handle { IfOk result (IsFirst key) }
+    ensures handle { IfOk result (IsFirst false key) }
     ensures limit { OnOk result (IsLimit limit 1) }
     ensures bad { IfErr result (λ fault. fault ≡ MakeFault.BadLimit ↔ ¬ (IsLimit limit 1)) }
 {
@@ -55,7 +56,7 @@ pub fn broadcast_at<T: Clone + Drop>(
         return Err(MakeFault::BadLimit);
     }
     match Broadcast::starting_at(alloc, capacity, base) {
-        Ok(channel) => open(alloc, channel, limit, key),
+        Ok(channel) => open(alloc, channel, limit, key, u64::MAX, None),
         Err(_) => Err(MakeFault::Short),
     }
 }
@@ -68,11 +69,46 @@ pub fn broadcast<T: Clone + Drop>(
     key: u64,
 ) -> Result<BSender<T>, MakeFault>
     requires { ClonesAreEqual T.is_clone }
-    ensures handle { IfOk result (IsFirst key) }
+    ensures handle { IfOk result (IsFirst false key) }
     ensures limit { OnOk result (IsLimit limit 1) }
     ensures bad { IfErr result (λ fault. fault ≡ MakeFault.BadLimit ↔ ¬ (IsLimit limit 1)) }
 {
     broadcast_at(alloc, capacity, 0, limit, key)
+}
+
+/// A channel as `broadcast_at` makes it, that cuts its log by itself: the call that finds `most` entries in it, or no room for its
+/// own, cuts it before its event, under the same lock, and puts the part into this queue once the lock is free. Its log has the
+/// largest limit, so that it is full only once the channel has had nearly 2^63 events; a call is told `LogFull` only by a handle
+/// that has seen that many, and `Short` before. Where memory is refused for a cut, the call that is to make it is `Short`.
+///
+/// Before calls that are made together the log is cut too where it has no room for all of them, or for 1,024 where they are
+/// more, and in their midst only where it has no room for the next one. So up to 1,024 of them that make no handle stand in
+/// one part. Where memory is refused they go on in the old one, and only the call for which it has no room is `Short`.
+///
+/// A cut costs as [`Shared::cut`] does.
+///
+/// # Errors
+///
+/// There was no memory.
+#[tactic(auto, unfolding(th_model::specs::BroadcastPicture::see, th_model::specs::BroadcastMachine::opened))]
+pub fn rolling_broadcast_at<T: Clone + Drop>(
+    alloc: Global,
+    capacity: Capacity,
+    base: u64,
+    key: u64,
+    most: u64,
+    cuts: Arc<Cuts<RingBroadcast<T>>>,
+) -> Result<BSender<T>, Short<()>>
+    requires { ClonesAreEqual T.is_clone }
+    ensures { IfOk result (IsFirst true key) }
+{
+    let Ok(channel) = Broadcast::starting_at(alloc, capacity, base) else {
+        return Err(Short { call: () });
+    };
+    match open(alloc, channel, MOST_ENTRIES, key, most, Some(cuts)) {
+        Ok(sender) => Ok(sender),
+        Err(_) => Err(Short { call: () }),
+    }
 }
 
 impl<T: Clone + Drop> Handle<Broadcast<T, RingShelf<T>>, Sends> {
@@ -110,6 +146,7 @@ impl<T: Clone + Drop> Handle<Broadcast<T, RingShelf<T>>, Sends> {
         ensures sent { MakesEach (BCall.Send (tx self.old)) self.old self.new
             values.old.items values.new.items receipts.old.items receipts.new.items result }
         ensures all { OnOk result (values.new.items ≡ []) }
+        ensures full { IfErr result (IsFullAsSeen self.old.rolls self.old.known) }
     {
         self.each::<Values, R>(rt, values, receipts)
     }
@@ -289,9 +326,10 @@ impl<T: Clone + Drop> Shared<Broadcast<T, RingShelf<T>>> {
         requires { ClonesAreEqual T.is_clone }
         ensures tells { IfOk result (λ r. Tells old.known (BCall.Resubscribe (rx old)) r.0) }
         ensures replaced { IfOk result (λ r.
-            IsReplaced (made_by broadcast_made_tx broadcast_made_rx) old r.0 r.1) }
+            IsReplaced (made_by broadcast_made_tx broadcast_made_rx) self.now.rolls old r.0 r.1) }
         ensures back { IfErr result (λ e.
             (e.0 ≡ old) × (call_of e.1 ≡ BCall.Resubscribe (rx old))) }
+        ensures full { IfErr result (λ e. IsFullAsSeen self.now.rolls old.known e.1) }
     {
         let number = old.number;
         self.replace(rt, old, BCall::Resubscribe(RxId(number)))

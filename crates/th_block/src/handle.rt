@@ -1,16 +1,17 @@
 //! A caller's handle at a shared channel. One body serves senders and receivers of both channels.
-ghost use Rattle.std.specs.Prelude.{◌≡◌, ◌≤◌, ◌↔◌, [], length, true, false, IfErr, IfOk, IfSome, IsTrue, MatchOption, MatchResult, OnOk, None, Some};
+ghost use Rattle.std.specs.Prelude.{◌≡◌, ◌<◌, ◌≤◌, ◌↔◌, [], is_some, length, true, false, IfErr, IfOk, IfSome, IsTrue, MatchOption, MatchResult, OnOk, None, Some};
+ghost use Rattle.std.specs.Arc.{arc_value};
 ghost use Rattle.std.specs.Sync.Mutex.{mutex_guard_value};
 ghost use Rattle.th_glance.specs.Lists.{last_of};
 ghost use Rattle.th_log.specs.History.{IsLimit};
 ghost use Rattle.th_log.specs.Outcome.{IsAnswered, added, counted};
 ghost use Rattle.th_log.specs.Replies.{made_by};
-ghost use Rattle.th_block.specs.Handles.{Calls, CallsFor, Glances, IsBack, IsFirst, IsMade, IsNext, IsNextTold, Tells, seen_of, tx, unused};
+ghost use Rattle.th_block.specs.Handles.{Beside, Calls, CallsFor, Glances, IsBack, IsFirst, IsFullAsSeen, IsMade, IsNext, IsNextTold, Looked, Tells, seen_of, tx, unused};
 ghost use Rattle.th_block.specs.Locked.{Entered, Fits, HandsOn, IsSeated, Spends};
 ghost use Rattle.th_block.specs.Rows.{CallsInRow};
 
 use crate::account::Account;
-use crate::cuts::{Cut, hand_over};
+use crate::cuts::{Cut, Cuts, hand_over};
 use crate::held::Held;
 use crate::posted::Posted;
 use crate::ready::{all_ready, see_all};
@@ -18,9 +19,9 @@ use crate::room::Room;
 use crate::seat::Seat;
 use crate::shared::Shared;
 use crate::side::{Receives, Sends, Side};
-use std::alloc::Global;
+use std::alloc::{AllocError, Global};
 use std::marker::{Model, PhantomData};
-use std::sync::{MutexGuard, Wait};
+use std::sync::{Arc, MutexGuard, Wait};
 use std::time::{Clock, Duration};
 use th_glance::{Eye, Glance};
 use th_log::{Kind, Logged, MOST_ENTRIES, MakeFault, Object, Receipt, Refused, made};
@@ -42,7 +43,7 @@ use th_seats::Share;
 /// case, since a call is under the lock or not at all: there is no poisoning.
 #[derive(Drop)]
 pub struct Handle<O: Object, S> {
-    pub(crate) shared: Shared<O>,
+    pub(crate) room: Arc<Room<O>>,
     // The number under which the channel knows the handle. It never changes.
     pub(crate) number: u64,
     pub(crate) account: Account,
@@ -50,20 +51,30 @@ pub struct Handle<O: Object, S> {
 }
 
 impl<O: Object, S> Model for Handle<O, S> {
+    ghost use Rattle.std.specs.Arc.{arc_value};
+    ghost use Rattle.std.specs.Prelude.{is_some};
     ghost use Rattle.th_block.specs.Handles.{Holder};
 
     ghost Value = { Holder };
 
-    ghost view = { λ h. record { number = h.number; known = h.account } };
+    ghost view = { λ h. record {
+      number = h.number;
+      known = h.account;
+      rolls = is_some (arc_value h.room).cuts;
+    } };
 }
 
 impl<O: Object, S> Handle<O, S> {
     // The handle with these parts.
-    pub(crate) fn made(shared: Shared<O>, number: u64, account: Account) -> Handle<O, S>
-        ensures { result ≡ record { number = number; known = account } }
+    pub(crate) fn made(room: Arc<Room<O>>, number: u64, account: Account) -> Handle<O, S>
+        ensures { result ≡ record {
+          number = number;
+          known = account;
+          rolls = is_some (arc_value room).cuts;
+        } }
     {
         Handle {
-            shared,
+            room,
             number,
             account,
             side: PhantomData,
@@ -78,17 +89,20 @@ pub(crate) fn is_limit(limit: u64) -> bool
     0 < limit && limit <= MOST_ENTRIES
 }
 
-// The first handle of a channel, which has no other. It is a sender.
+// The first handle of a channel, which has no other. It is a sender. Where there is a queue, calls cut the log, from so many
+// entries on.
 pub(crate) fn open<O: Kind, S>(
     alloc: Global,
     object: O,
     limit: u64,
     key: u64,
+    most: u64,
+    cuts: Option<Arc<Cuts<O>>>,
 ) -> Result<Handle<O, S>, MakeFault>
     requires lawful { O.lawful }
     requires one { O.machine.live (O.shows object) ≡ 1 }
     requires open { O.machine.closed (O.shows object) ≡ false }
-    ensures handle { IfOk result (IsFirst key) }
+    ensures handle { IfOk result (IsFirst (is_some cuts) key) }
     ensures limit { OnOk result (IsLimit limit 1) }
     ensures bad { IfErr result (λ fault. fault ≡ MakeFault.BadLimit ↔ ¬ (IsLimit limit 1)) }
 {
@@ -99,8 +113,8 @@ pub(crate) fn open<O: Kind, S>(
     let Ok((posted, eye)) = Posted::open(alloc, log) else {
         return Err(MakeFault::Short);
     };
-    match Shared::new(alloc, posted) {
-        Ok(shared) => Ok(Handle::made(shared, 1, Account::new(share, eye))),
+    match Arc::new(alloc, Room::new(Held::new(posted, most), cuts)) {
+        Ok(room) => Ok(Handle::made(room, 1, Account::new(share, eye))),
         Err(_) => Err(MakeFault::Short),
     }
 }
@@ -122,6 +136,7 @@ fn seated<O: Kind>(held: &mut Held<O>, receipt: &Receipt<O>) -> Option<Seat>
 // One event of a call that may make a handle, on the locked log, which may be cut before.
 pub(crate) fn seated_event<O: Kind>(
     held: &mut Held<O>,
+    cuts: &Option<Arc<Cuts<O>>>,
     account: &mut Account,
     call: O::Call,
     cut: &mut Option<Cut<O>>,
@@ -132,6 +147,7 @@ pub(crate) fn seated_event<O: Kind>(
         (λ r. Entered account.old account.new call r.0
         × IsSeated (made_by O.made_tx O.made_rx) r.0 r.1)
         (IsBack account.old account.new call) }
+    ensures seen { IfErr result (IsFullAsSeen (is_some cuts.now) account.old) }
     ensures step { IfOk result (λ r.
         O.machine.answer held.old.log.piece.last call ≡ (r.0.reply, held.new.log.piece.last)) }
     ensures fits { OnOk result (Fits account.new held.new.log.tally) }
@@ -140,7 +156,7 @@ pub(crate) fn seated_event<O: Kind>(
         (λ _. held.new.log.piece ≡ p)) }
     ensures rest { held.new ≡ record held.old { log = held.new.log } }
 {
-    match held.enter(account, call, false, cut) {
+    match held.enter(cuts, account, call, false, cut) {
         Ok(receipt) => {
             let seat = seated(held, &receipt);
             Ok((receipt, seat))
@@ -149,21 +165,71 @@ pub(crate) fn seated_event<O: Kind>(
     }
 }
 
+// The same, once the call is ready. A part that was cut is handed over when the lock is free.
+fn seated_call<O: Kind, R: Wait>(
+    rt: &R,
+    room: &Room<O>,
+    account: &mut Account,
+    call: O::Call,
+) -> Result<(Receipt<O>, Option<Seat>), Refused<O::Call>>
+    requires { O.lawful }
+    ensures told { MatchResult result
+        (λ r. Entered account.old account.new call r.0
+        × IsSeated (made_by O.made_tx O.made_rx) r.0 r.1)
+        (IsBack account.old account.new call) }
+    ensures seen { IfErr result (IsFullAsSeen (is_some room.now.cuts) account.old) }
+{
+    let mut cut = None;
+    let mut held = room.lock_when_ready(rt, &call);
+    let answer = seated_event(&mut *held, &room.cuts, account, call, &mut cut);
+    drop(held);
+    hand_over(rt, &mut cut);
+    answer
+}
+
 // The handle that takes a seat, once its eye has seen the event by which it was made.
 pub(crate) fn sit<O: Kind, S, R: Wait>(
     rt: &R,
-    shared: Shared<O>,
+    room: Arc<Room<O>>,
     eye: Eye,
     seat: Seat,
     receipt: &Receipt<O>,
 ) -> Handle<O, S>
     requires number { made_by O.made_tx O.made_rx receipt.now.reply ≡ Some seat.number }
     requires share { seat.share ≡ unused receipt.now.key }
-    ensures { IsMade (made_by O.made_tx O.made_rx receipt.now.reply) eye receipt.now result }
+    ensures { IsMade (made_by O.made_tx O.made_rx receipt.now.reply)
+        (is_some (arc_value room).cuts) eye receipt.now result }
 {
     let mut fresh = Account::new(seat.share, eye);
     fresh.catch_up(rt, receipt.place());
-    Handle::made(shared, seat.number, fresh)
+    Handle::made(room, seat.number, fresh)
+}
+
+// What a call is told that may make a handle: if it made one, that takes its seat. Both eyes see the event before.
+fn seat_new<O: Kind, N, R: Wait>(
+    rt: &R,
+    room: Arc<Room<O>>,
+    eye: Eye,
+    account: &mut Account,
+    answer: (Receipt<O>, Option<Seat>),
+) -> (Receipt<O>, Option<Handle<O, N>>)
+    requires { IsSeated (made_by O.made_tx O.made_rx) answer.0 answer.1 }
+    ensures receipt { result.0 ≡ answer.0 }
+    ensures new { Beside (made_by O.made_tx O.made_rx) (is_some (arc_value room).cuts) eye
+        answer.0 result.1 }
+    ensures share { account.new.share ≡ account.old.share }
+    ensures eye { Looked account.old.eye account.new.eye }
+    ensures seen { answer.0.place < seen_of account.new }
+{
+    let (receipt, seat) = answer;
+    account.catch_up(rt, receipt.place());
+    match seat {
+        Some(seat) => {
+            let new = sit(rt, room, eye, seat, &receipt);
+            (receipt, Some(new))
+        }
+        None => (receipt, None),
+    }
 }
 
 impl<O: Kind, S> Handle<O, S> {
@@ -172,6 +238,13 @@ impl<O: Kind, S> Handle<O, S> {
         ensures { result ≡ self.now.number }
     {
         self.number
+    }
+
+    /// Whether the handle's channel cuts its log by itself. It never changes.
+    pub fn rolls(&self) -> bool
+        ensures { result ≡ self.now.rolls }
+    {
+        self.room.cuts.is_some()
     }
 
     /// The key of the handle's channel.
@@ -219,14 +292,14 @@ impl<O: Kind, S> Handle<O, S> {
         ensures answered { IfOk result (IsAnswered O.machine O.is_sound) }
     {
         let Handle {
-            shared,
-            account,
+            ref room,
+            ref mut account,
             ..
-        } = self;
-        let room = &*shared.room;
+        } = *self;
+        let room = &**room;
         let mut held = room.lock_when_ready(rt, &call);
         // Few logs are cut by their calls, and a place for the part would cost each call.
-        let answer = if held.is_rolling() {
+        let answer = if room.cuts.is_some() {
             rolled_event(rt, room, held, account, call, wakes)
         } else {
             let answer = held.event(account, call);
@@ -261,14 +334,14 @@ impl<O: Kind, S> Handle<O, S> {
     /// Whether a call would wait now, for news or for nothing any more. It makes no event, and takes the lock for a moment:
     /// what it says may be past when it is read, so that no clause says what it means.
     pub fn would_wait<R: Wait>(&self, rt: &R, call: &O::Call) -> bool {
-        let held = self.shared.room.lock(rt);
+        let held = self.room.lock(rt);
         !held.is_ready(call)
     }
 
     /// Waits until a call would not wait, but no longer than so: whether it would not. It makes no event. What it says may be
     /// past when it is read, but for a call that waits for what only this handle takes; so no clause says what it means.
     pub fn wait_for<R: Wait + Clock>(&self, rt: &R, call: &O::Call, longest: Duration) -> bool {
-        self.shared.room.wait_for(rt, call, longest)
+        self.room.wait_for(rt, call, longest)
     }
 
     // One event that may be the last of a loop, by a call that waits.
@@ -321,40 +394,30 @@ impl<O: Kind, S> Handle<O, S> {
         ensures { CallsFor (made_by O.made_tx O.made_rx) self.old self.new call result }
     {
         let Handle {
-            shared,
-            account,
+            ref room,
+            ref mut account,
             ..
-        } = self;
-        let Ok(theirs) = shared.another() else {
+        } = *self;
+        let Ok(theirs) = Arc::try_clone(room) else {
             return Err(Refused::Short(call));
         };
         let Ok(eye) = account.another_eye() else {
             return Err(Refused::Short(call));
         };
-        let room = &*shared.room;
-        let mut cut = None;
-        let mut held = room.lock_when_ready(rt, &call);
-        let answer = seated_event(&mut *held, account, call, &mut cut);
-        drop(held);
-        hand_over(rt, &mut cut);
-        match answer {
-            Ok((receipt, seat)) => {
-                account.catch_up(rt, receipt.place());
-                match seat {
-                    Some(seat) => {
-                        let new = sit(rt, theirs, eye, seat, &receipt);
-                        Ok((receipt, Some(new)))
-                    }
-                    None => Ok((receipt, None)),
-                }
-            }
+        match seated_call(rt, &**room, account, call) {
+            Ok(answer) => Ok(seat_new(rt, theirs, eye, account, answer)),
             Err(refused) => Err(refused),
         }
     }
 
     /// An owner of the channel, without a number. It takes no memory, and is refused only past 2^63 owners.
-    pub fn shared(&self) -> Result<Shared<O>, Short<()>> {
-        self.shared.another()
+    pub fn shared(&self) -> Result<Shared<O>, Short<()>>
+        ensures { IfOk result (λ shared. shared.rolls ≡ self.now.rolls) }
+    {
+        match Arc::try_clone(&self.room) {
+            Ok(room) => Ok(Shared { room }),
+            Err(AllocError) => Err(Short { call: () }),
+        }
     }
 
     /// Gives the share back without an event. The number stays live and unused; it takes no lock.
@@ -399,14 +462,16 @@ impl<O: Kind, S: Side<O>> Handle<O, S> {
         ensures row { CallsInRow self.old self.new call.now receipts.new.items }
     {
         let Handle {
-            shared,
-            account,
+            ref room,
+            ref mut account,
             ..
-        } = self;
+        } = *self;
+        let room = &**room;
+        let cuts = &room.cuts;
         let mut cut = None;
-        let mut held = shared.room.lock(rt);
-        held.spare(most, &mut cut);
-        let (total, _) = all_ready(&mut *held, account, call, most, receipts, &mut cut);
+        let mut held = room.lock(rt);
+        held.spare(cuts, most, &mut cut);
+        let (total, _) = all_ready(&mut *held, cuts, account, call, most, receipts, &mut cut);
         drop(held);
         hand_over(rt, &mut cut);
         see_all(rt, account, total);
@@ -441,14 +506,14 @@ impl<O: Kind, S: Side<O>> Handle<O, S> {
             (e.0 ≡ self) × (e.1 ≡ Refused.Foreign (S.last self.number))) }
     {
         let Handle {
-            shared,
+            room,
             number,
             mut account,
             side: _,
         } = self;
-        match last_call(rt, &shared, &mut account, S::last(number)) {
+        match last_call(rt, &*room, &mut account, S::last(number)) {
             Ok(receipt) => Ok((account.into_share(), receipt)),
-            Err(refused) => Err((Handle::made(shared, number, account), refused)),
+            Err(refused) => Err((Handle::made(room, number, account), refused)),
         }
     }
 }
@@ -496,11 +561,12 @@ fn rolled_event<O: Kind, R: Wait>(
 ) -> Result<Receipt<O>, Refused<O::Call>>
     requires lawful { O.lawful }
     requires ready { O.machine.ready (mutex_guard_value held).log.piece.last call ≡ true }
-    ensures { MatchResult result (Entered account.old account.new call)
+    ensures told { MatchResult result (Entered account.old account.new call)
         (IsBack account.old account.new call) }
+    ensures seen { IfErr result (IsFullAsSeen (is_some room.now.cuts) account.old) }
 {
     let mut cut = None;
-    let answer = held.enter(account, call, false, &mut cut);
+    let answer = held.enter(&room.cuts, account, call, false, &mut cut);
     room.unlock_after(held, &answer, wakes);
     hand_over(rt, &mut cut);
     answer
@@ -509,7 +575,7 @@ fn rolled_event<O: Kind, R: Wait>(
 // The last event of a handle, under the lock.
 fn last_call<O: Kind, R: Wait>(
     rt: &R,
-    shared: &Shared<O>,
+    room: &Room<O>,
     account: &mut Account,
     call: O::Call,
 ) -> Result<Receipt<O>, Refused<O::Call>>
@@ -521,7 +587,6 @@ fn last_call<O: Kind, R: Wait>(
     ensures done { IfOk result (λ r. r.reply ≡ O.done) }
     ensures foreign { IfErr result (λ e. e ≡ Refused.Foreign call) }
 {
-    let room = &*shared.room;
     let mut held = room.lock_when_ready(rt, &call);
     let answer = held.last_event(account, call);
     room.unlock_after(held, &answer, true);

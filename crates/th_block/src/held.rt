@@ -1,9 +1,9 @@
 //! What a channel's lock keeps.
-ghost use Rattle.std.specs.Prelude.{◌≡◌, ◌⊎◌, [], ◌∷◌, ◌++◌, ◌↔◌, ◌||◌, ◌+◌, ◌-◌, ◌^◌, ◌<◌, ◌≤◌, if◌then◌else◌, min, not, true, false, IfOk, IfErr, IfSome, IsNone, IsOk, None, IsSome, IsTrue, OnOk, OnErr, MatchOption, MatchResult};
+ghost use Rattle.std.specs.Prelude.{◌≡◌, ◌⊎◌, [], ◌∷◌, ◌++◌, ◌↔◌, ◌||◌, ◌+◌, ◌-◌, ◌^◌, ◌<◌, ◌≤◌, if◌then◌else◌, is_some, length, min, not, true, IfOk, IfErr, IfSome, IsNone, IsOk, None, IsSome, IsTrue, OnOk, OnErr, MatchOption, MatchResult};
 ghost use Rattle.th_log.specs.History.{IsLegal, live_after, next_of};
 ghost use Rattle.th_log.specs.Outcome.{IsFull, IsSame, added, ticked, with_share};
-ghost use Rattle.th_block.specs.Handles.{IsBack, unused};
-ghost use Rattle.th_block.specs.Few.{IsWornOut};
+ghost use Rattle.th_block.specs.Few.{IsFullAtLast};
+ghost use Rattle.th_block.specs.Handles.{IsBack, IsFullAsSeen, call_of, unused};
 ghost use Rattle.th_block.specs.Locked.{Entered, Fits, GoesOn, HandsOn, HasNoPlace, IsDue, RefusesEvent, Spends, parts_of};
 ghost use Rattle.th_block.specs.Returned.{TakesBack};
 
@@ -20,6 +20,9 @@ use th_seats::Share;
 // Groups of so many events have room in one part.
 const UNPARTED: u64 = 1_024;
 
+// From so many events on a log may be full that calls cut: 2^63 - 1 less those that end the handles, and the next one.
+const NEARLY_ALL: u64 = 9_223_372_036_854_644_737;
+
 /// A channel with its log and its pen, and whether anyone waits for it. Contracts see the log, and how many wait: what
 /// the pen says of the log is kept by `Posted`.
 ///
@@ -32,17 +35,10 @@ pub(crate) struct Held<O: Object> {
     // before he sleeps, and whoever wakes the sleepers begins to count anew: both under the lock, so that no sleeper is
     // left out.
     waiting: u64,
-    // When the log is cut by a call, and where the part goes. Where there is none, it is never.
-    rolling: Option<Rolling<O>>,
+    // From so many entries on the log is long: a call cuts it, where calls do.
+    most: u64,
     // The shares of handles that are gone, as one.
     gone: Option<Share>,
-}
-
-/// From so many entries on a call cuts the log, and the part goes into this queue.
-#[derive(Drop)]
-pub(crate) struct Rolling<O: Object> {
-    pub(crate) most: u64,
-    pub(crate) cuts: Arc<Cuts<O>>,
 }
 
 impl<O: Object> Model for Held<O> {
@@ -50,65 +46,55 @@ impl<O: Object> Model for Held<O> {
 
     ghost Value = { Guarded O.State O.Call O.Reply };
 
-    ghost use Rattle.std.specs.Prelude.{is_some};
-
     ghost view = { λ h. record {
       log = h.posted.log;
       waiting = h.waiting;
-      rolls = is_some h.rolling;
+      most = h.most;
       gone = h.gone;
     } };
 }
 
 impl<O: Kind> Held<O> {
-    /// A log for which nobody waits yet, and which no call cuts.
-    pub(crate) fn new(posted: Posted<O>) -> Held<O>
+    /// A log for which nobody waits yet, and which is long from so many entries on.
+    pub(crate) fn new(posted: Posted<O>, most: u64) -> Held<O>
         ensures { result ≡ record {
           log = posted.log;
           waiting = 0;
-          rolls = false;
+          most = most;
           gone = None;
         } }
     {
         Held {
             posted,
             waiting: 0,
-            rolling: None,
+            most,
             gone: None,
         }
     }
 
-    /// From now on the log is cut so.
-    pub(crate) fn roll(&mut self, rolling: Rolling<O>)
-        ensures { self.new ≡ record self.old { rolls = true } }
+    /// From now on the log is long from so many entries on.
+    pub(crate) fn be_long_from(&mut self, most: u64)
+        ensures { self.new ≡ record self.old { most = most } }
     {
-        self.rolling = Some(rolling);
+        self.most = most;
     }
 
-    /// Whether calls cut the log.
+    // Whether it is as long as it is to grow.
     #[inline(always)]
-    pub(crate) fn is_rolling(&self) -> bool
-        ensures { result ≡ self.now.rolls }
+    fn is_long(&self) -> bool
+        ensures { IsTrue result ↔ (self.now.most ≤ length self.now.log.piece.entries) }
     {
-        self.rolling.is_some()
+        self.posted.log().len() >= self.most
     }
 
-    /// Whether calls cut the log, and it is as long as it is to grow.
-    #[inline(always)]
-    fn is_long(&self) -> bool {
-        match &self.rolling {
-            Some(rolling) => self.posted.log().len() >= rolling.most,
-            None => false,
-        }
-    }
-
-    /// Cuts the log, where calls do so, if it is to be cut, or has no room for so many events more, after which so many handles
-    /// are live. So a part with no room for them is left only where a new one has none. Nothing has changed where there was no
-    /// memory. What was cut is lent a place by the caller: handed back by value it would be moved through memory at each call,
-    /// and hardly any call cuts. What lies there already stays, before it.
+    /// Cuts the log, and the part is to go into this queue, if it is to be cut, or has no room for so many events more, after which
+    /// so many handles are live. So a part with no room for them is left only where a new one has none. Nothing has changed where
+    /// there was no memory. What was cut is lent a place by the caller: handed back by value it would be moved through memory at
+    /// each call, and hardly any call cuts. What lies there already stays, before it.
     #[inline(always)]
     fn make_room(
         &mut self,
+        cuts: &Arc<Cuts<O>>,
         is_long: bool,
         count: u64,
         live: u64,
@@ -117,23 +103,22 @@ impl<O: Kind> Held<O> {
         requires { O.lawful }
         ensures goes_on { GoesOn self.old.log self.new.log }
         ensures part { HandsOn self.old.log.piece cut.old cut.new (λ p. self.new.log.piece ≡ p) }
-        ensures room { OnOk result (self.old.rolls ≡ true → self.old.log.limit ≡ 1000000
+        ensures room { OnOk result (self.old.log.limit ≡ 1000000
             → IsFull self.new.log count live → HasNoPlace self.old.log count live) }
+        ensures long { OnOk result (is_long ≡ true
+            → self.new.log.piece ≡ next_of self.old.log.piece self.old.log.tally.total) }
         ensures same { OnErr result (self.new ≡ self.old) }
         ensures last { self.new.log.piece.last ≡ self.old.log.piece.last }
         ensures waiting { self.new.waiting ≡ self.old.waiting }
-        ensures rolls { self.new.rolls ≡ self.old.rolls }
+        ensures most { self.new.most ≡ self.old.most }
         ensures gone { self.new.gone ≡ self.old.gone }
     {
-        let Some(rolling) = &self.rolling else {
-            return Ok(());
-        };
         let entries = self.posted.log().len();
         let room = MOST_ENTRIES.saturating_sub(live).saturating_sub(count);
         if !is_long && entries <= room {
             return Ok(());
         }
-        cut_into(&mut self.posted, &rolling.cuts, cut)
+        cut_into(&mut self.posted, cuts, cut)
     }
 
     /// The log, once nobody waits any more.
@@ -150,7 +135,7 @@ impl<O: Kind> Held<O> {
         ensures log { self.new.log ≡ self.old.log }
         ensures waiting { self.new.waiting ≡ (if result
             then min (self.old.waiting + 1) (2 ^ 64 - 1) else self.old.waiting) }
-        ensures rolls { self.new.rolls ≡ self.old.rolls }
+        ensures most { self.new.most ≡ self.old.most }
         ensures gone { self.new.gone ≡ self.old.gone }
     {
         let waits = !self.posted.log().ready(call);
@@ -174,7 +159,7 @@ impl<O: Kind> Held<O> {
         ensures wakes { IsTrue result ↔ 0 < self.old.waiting }
         ensures log { self.new.log ≡ self.old.log }
         ensures waiting { self.new.waiting ≡ 0 }
-        ensures rolls { self.new.rolls ≡ self.old.rolls }
+        ensures most { self.new.most ≡ self.old.most }
         ensures gone { self.new.gone ≡ self.old.gone }
     {
         let wakes = self.waiting > 0;
@@ -188,7 +173,7 @@ impl<O: Kind> Held<O> {
         ensures wakes { IsTrue result ↔ (IsTrue is_news × (0 < self.old.waiting)) }
         ensures log { self.new.log ≡ self.old.log }
         ensures waiting { self.new.waiting ≡ (if result then 0 else self.old.waiting) }
-        ensures rolls { self.new.rolls ≡ self.old.rolls }
+        ensures most { self.new.most ≡ self.old.most }
         ensures gone { self.new.gone ≡ self.old.gone }
     {
         // Mostly nobody waits.
@@ -215,7 +200,7 @@ impl<O: Kind> Held<O> {
             IsDue O.machine O.is_sound O.handle_of self.old r → IsTrue result) }
         ensures log { self.new.log ≡ self.old.log }
         ensures waiting { self.new.waiting ≡ (if result then 0 else self.old.waiting) }
-        ensures rolls { self.new.rolls ≡ self.old.rolls }
+        ensures most { self.new.most ≡ self.old.most }
         ensures gone { self.new.gone ≡ self.old.gone }
     {
         let Ok(receipt) = answer else {
@@ -255,7 +240,7 @@ impl<O: Kind> Held<O> {
         ensures same { OnErr result (IsSame self.old.log self.new.log) }
         ensures limit { self.new.log.limit ≡ self.old.log.limit }
         ensures waiting { self.new.waiting ≡ self.old.waiting }
-        ensures rolls { self.new.rolls ≡ self.old.rolls }
+        ensures most { self.new.most ≡ self.old.most }
         ensures gone { self.new.gone ≡ self.old.gone }
     {
         if self.posted.log().total() < account.seen() {
@@ -267,28 +252,35 @@ impl<O: Kind> Held<O> {
     /// Before so many events that are made together, cuts the log if that is due, and there is memory. A group of no more than
     /// `UNPARTED` events that make no handle is one part's then.
     #[inline(always)]
-    pub(crate) fn spare(&mut self, count: usize, cut: &mut Option<Cut<O>>)
+    pub(crate) fn spare(
+        &mut self,
+        cuts: &Option<Arc<Cuts<O>>>,
+        count: usize,
+        cut: &mut Option<Cut<O>>,
+    )
         requires { O.lawful }
         ensures goes_on { GoesOn self.old.log self.new.log }
         ensures part { HandsOn self.old.log.piece cut.old cut.new (λ p. self.new.log.piece ≡ p) }
         ensures last { self.new.log.piece.last ≡ self.old.log.piece.last }
         ensures waiting { self.new.waiting ≡ self.old.waiting }
-        ensures rolls { self.new.rolls ≡ self.old.rolls }
+        ensures most { self.new.most ≡ self.old.most }
         ensures gone { self.new.gone ≡ self.old.gone }
     {
-        if self.is_rolling() {
+        if let Some(cuts) = cuts {
             let live = self.posted.log().object().live();
             let is_long = self.is_long();
-            let _ = self.make_room(is_long, (count as u64).min(UNPARTED), live, cut);
+            let _ = self.make_room(cuts, is_long, (count as u64).min(UNPARTED), live, cut);
         }
     }
 
-    /// One event of a handle as `event` makes it, on a log that was cut before where that is due. Where calls cut the log it is
-    /// never full before the channel has had nearly 2^63 events: a channel has few handles (`laws::few_handles`). An event of a
-    /// group goes on in a long part, and cuts one that has no room.
+    /// One event of a handle as `event` makes it, on a log that was cut before where that is due, if calls cut it: the parts are
+    /// to go into this queue. Such a log is never full before the channel has had nearly 2^63 events: a channel has few handles
+    /// (`laws::few_handles`). Until the handle has seen that, it is told `Short`. An event of a group goes on in a long part, and
+    /// cuts one that has no room.
     #[inline(always)]
     pub(crate) fn enter(
         &mut self,
+        cuts: &Option<Arc<Cuts<O>>>,
         account: &mut Account,
         call: O::Call,
         is_grouped: bool,
@@ -307,25 +299,27 @@ impl<O: Kind> Held<O> {
         ensures last { OnErr result (self.new.log.piece.last ≡ self.old.log.piece.last) }
         ensures book { OnErr result (self.new.log.tally ≡ self.old.log.tally) }
         ensures limit { self.new.log.limit ≡ self.old.log.limit }
-        ensures full { IfErr result (λ e. e ≡ Refused.LogFull call → self.old.rolls ≡ true
-            → self.old.log.limit ≡ 1000000
-            → live_after O.machine self.old.log.piece.last call ≤ 131070
-            → IsWornOut self.old.log) }
+        ensures full { IfErr result (IsFullAtLast O.machine (is_some cuts.now) self.new.log) }
+        ensures seen { IfErr result (IsFullAsSeen (is_some cuts.now) account.old) }
         ensures part { HandsOn self.old.log.piece cut.old cut.new (λ p. MatchResult result
             (λ r. self.new.log.piece ≡ added p call r.reply self.new.log.piece.last)
             (λ _. self.new.log.piece ≡ p)) }
         ensures waiting { self.new.waiting ≡ self.old.waiting }
-        ensures rolls { self.new.rolls ≡ self.old.rolls }
+        ensures most { self.new.most ≡ self.old.most }
         ensures gone { self.new.gone ≡ self.old.gone }
     {
-        if self.is_rolling() {
-            let live = self.posted.log().object().live_after(&call);
-            let is_long = !is_grouped && self.is_long();
-            if self.make_room(is_long, 1, live, cut).is_err() {
-                return Err(Refused::Short(call));
-            }
+        let Some(cuts) = cuts else {
+            return self.event(account, call);
+        };
+        let live = self.posted.log().object().live_after(&call);
+        let is_long = !is_grouped && self.is_long();
+        if self.make_room(cuts, is_long, 1, live, cut).is_err() {
+            return Err(Refused::Short(call));
         }
-        self.event(account, call)
+        match self.event(account, call) {
+            Err(Refused::LogFull(call)) => Err(full_as_seen(account, call)),
+            told => told,
+        }
     }
 
     /// The last event of a handle. It is refused only as `Foreign`: where the handle is of another channel, or its
@@ -353,7 +347,7 @@ impl<O: Kind> Held<O> {
         ensures same { OnErr result (IsSame self.old.log self.new.log) }
         ensures limit { self.new.log.limit ≡ self.old.log.limit }
         ensures waiting { self.new.waiting ≡ self.old.waiting }
-        ensures rolls { self.new.rolls ≡ self.old.rolls }
+        ensures most { self.new.most ≡ self.old.most }
         ensures gone { self.new.gone ≡ self.old.gone }
     {
         let object = self.posted.log().object();
@@ -374,7 +368,7 @@ impl<O: Kind> Held<O> {
         ensures piece { self.new.log.piece ≡ self.old.log.piece }
         ensures tally { self.new.log.tally ≡ with_share self.old.log.tally }
         ensures waiting { self.new.waiting ≡ self.old.waiting }
-        ensures rolls { self.new.rolls ≡ self.old.rolls }
+        ensures most { self.new.most ≡ self.old.most }
         ensures gone { self.new.gone ≡ self.old.gone }
     {
         self.posted.split()
@@ -387,7 +381,7 @@ impl<O: Kind> Held<O> {
             self.new.log.tally self.new.gone }
         ensures piece { self.new.log.piece ≡ self.old.log.piece }
         ensures waiting { self.new.waiting ≡ self.old.waiting }
-        ensures rolls { self.new.rolls ≡ self.old.rolls }
+        ensures most { self.new.most ≡ self.old.most }
     {
         let Some(gone) = self.gone.take() else {
             let log = self.posted.log();
@@ -415,7 +409,7 @@ impl<O: Kind> Held<O> {
         ensures gone { self.new.gone ≡ None }
         ensures log { self.new.log ≡ self.old.log }
         ensures waiting { self.new.waiting ≡ self.old.waiting }
-        ensures rolls { self.new.rolls ≡ self.old.rolls }
+        ensures most { self.new.most ≡ self.old.most }
     {
         self.gone.take()
     }
@@ -436,7 +430,7 @@ impl<O: Kind> Held<O> {
             (self.new.log.piece ≡ next_of self.old.log.piece self.old.log.tally.total) }
         ensures tally { self.new.log.tally ≡ self.old.log.tally }
         ensures waiting { self.new.waiting ≡ self.old.waiting }
-        ensures rolls { self.new.rolls ≡ self.old.rolls }
+        ensures most { self.new.most ≡ self.old.most }
         ensures gone { self.new.gone ≡ self.old.gone }
         ensures same { OnErr result (self.new ≡ self.old) }
     {
@@ -454,13 +448,26 @@ impl<O: Kind> Held<O> {
         ensures other { IsNone result → self.new ≡ self.old }
         ensures tally { self.new.log.tally ≡ self.old.log.tally }
         ensures waiting { self.new.waiting ≡ self.old.waiting }
-        ensures rolls { self.new.rolls ≡ self.old.rolls }
+        ensures most { self.new.most ≡ self.old.most }
         ensures gone { self.new.gone ≡ self.old.gone }
     {
         if self.posted.log().key() != key {
             return None;
         }
         Some(self.cut())
+    }
+}
+
+// A log that calls cut is full: that is told to a handle that has seen that its channel is at the end of its numbers.
+#[inline(never)]
+fn full_as_seen<C: Drop>(account: &Account, call: C) -> Refused<C>
+    ensures call { call_of result ≡ call }
+    ensures seen { IsFullAsSeen true account.now result }
+{
+    if account.seen() >= NEARLY_ALL {
+        Refused::LogFull(call)
+    } else {
+        Refused::Short(call)
     }
 }
 

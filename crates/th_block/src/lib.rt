@@ -100,10 +100,12 @@ pub mod together;
 mod wake;
 pub mod watch_handles;
 
-pub use broadcast_handles::{BReceiver, BSender, Resub, RingBroadcast, broadcast, broadcast_at};
+pub use broadcast_handles::{
+    BReceiver, BSender, Resub, RingBroadcast, broadcast, broadcast_at, rolling_broadcast_at,
+};
 pub use cuts::Cuts;
 pub use handle::Handle;
 pub use replaced::Replaced;
 pub use shared::Shared;
 pub use side::{Receives, Sends, Side};
-pub use watch_handles::{WReader, WSender, watch};
+pub use watch_handles::{WReader, WSender, rolling_watch, watch};

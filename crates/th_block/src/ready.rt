@@ -1,18 +1,18 @@
 //! Events that are made together on the locked log, as many as have their answer at once.
-ghost use Rattle.std.specs.Prelude.{◌≡◌, ◌⊎◌, ◌<◌, ◌≤◌, [], false, length, min, true, vec_capacity, IfErr, IfOk, OnErr, OnOk};
+ghost use Rattle.std.specs.Prelude.{◌≡◌, ◌⊎◌, ◌<◌, ◌≤◌, [], false, is_some, length, min, true, vec_capacity, IfErr, IfOk, OnErr, OnOk};
 ghost use Rattle.th_block.specs.Few.{IsFullAtLast};
-ghost use Rattle.th_block.specs.Handles.{IsBack, Looked, call_of, seen_of};
+ghost use Rattle.th_block.specs.Handles.{IsBack, IsFullAsSeen, Looked, call_of, seen_of};
 ghost use Rattle.th_block.specs.Locked.{Extends, HandsOn, HandsOnAll, KeepsAllWaiting, KeepsWaiting};
 ghost use Rattle.th_block.specs.Rows.{AddsMore, AddsOne, EachBehind, EnteredInRow, IsAnswerTo};
 ghost use Rattle.th_block.specs.Together.{EndsAs, EnteredMany, EnteredOf, LeavesOver, WaitsAt, has_ended};
 
 use crate::account::Account;
-use crate::cuts::Cut;
+use crate::cuts::{Cut, Cuts};
 use crate::held::Held;
 use crate::more::More;
 use crate::queued::Queued;
 use std::collections::VecDeque;
-use std::sync::Wait;
+use std::sync::{Arc, Wait};
 use th_log::{Kind, Receipt, Refused};
 
 // One event of this call, which has its answer now, and its receipt behind the others: whether it is what callers may wait
@@ -20,6 +20,7 @@ use th_log::{Kind, Receipt, Refused};
 // Memory for the receipt is asked for before the event, where the list has no room.
 fn one_moved<O: Kind>(
     held: &mut Held<O>,
+    cuts: &Option<Arc<Cuts<O>>>,
     account: &mut Account,
     call: O::Call,
     receipts: &mut Vec<Receipt<O>>,
@@ -37,7 +38,8 @@ fn one_moved<O: Kind>(
     ensures same { OnErr result ((account.new ≡ account.old)
         × (held.new.log.tally ≡ held.old.log.tally) × (receipts.new.items ≡ receipts.old.items)) }
     ensures last { OnErr result (held.new.log.piece.last ≡ held.old.log.piece.last) }
-    ensures full { IfErr result (IsFullAtLast O.machine held.new) }
+    ensures full { IfErr result (IsFullAtLast O.machine (is_some cuts.now) held.new.log) }
+    ensures seen { IfErr result (IsFullAsSeen (is_some cuts.now) account.old) }
     ensures part { HandsOn held.old.log.piece cut.old cut.new
         (λ p. Extends p held.new.log.piece) }
     ensures rest { held.new ≡ record held.old { log = held.new.log } }
@@ -45,7 +47,7 @@ fn one_moved<O: Kind>(
     let Ok(()) = receipts.reserve(1) else {
         return Err(Refused::Short(call));
     };
-    match held.enter(account, call, true, cut) {
+    match held.enter(cuts, account, call, true, cut) {
         Ok(receipt) => {
             let awaited = held.is_awaited(&receipt);
             // What every receipt says.
@@ -62,6 +64,7 @@ fn one_moved<O: Kind>(
 // One event of a copy of this call, if it has its answer now.
 fn one_more<O: Kind>(
     held: &mut Held<O>,
+    cuts: &Option<Arc<Cuts<O>>>,
     account: &mut Account,
     call: &O::Call,
     receipts: &mut Vec<Receipt<O>>,
@@ -84,7 +87,7 @@ fn one_more<O: Kind>(
     let Ok(copy) = O::copy_call(call) else {
         return More::Refused;
     };
-    match one_moved(held, account, copy, receipts, cut) {
+    match one_moved(held, cuts, account, copy, receipts, cut) {
         Ok(_) => More::Made,
         Err(_) => More::Refused,
     }
@@ -94,6 +97,7 @@ fn one_more<O: Kind>(
 /// It ends too where the log refuses one. Answers how many events the channel has then, and what came of the last try.
 pub(crate) fn all_ready<O: Kind>(
     held: &mut Held<O>,
+    cuts: &Option<Arc<Cuts<O>>>,
     account: &mut Account,
     call: &O::Call,
     most: usize,
@@ -114,7 +118,7 @@ pub(crate) fn all_ready<O: Kind>(
 {
     let most = most.min(receipts.capacity());
     for _ in 0..most {
-        match one_more(held, account, call, receipts, cut) {
+        match one_more(held, cuts, account, call, receipts, cut) {
             More::Made => {}
             More::Waits => return (held.total(), More::Waits),
             More::Refused => return (held.total(), More::Refused),
@@ -128,6 +132,7 @@ pub(crate) fn all_ready<O: Kind>(
 /// for: where none is, a call of a handle that makes none of them, and that would have waited, would wait still.
 pub(crate) fn each_ready<O: Kind, Q: Queued<O>>(
     held: &mut Held<O>,
+    cuts: &Option<Arc<Cuts<O>>>,
     account: &mut Account,
     number: u64,
     queue: &mut VecDeque<Q::Item>,
@@ -140,7 +145,8 @@ pub(crate) fn each_ready<O: Kind, Q: Queued<O>>(
         held.new.log.tally.total queue.old.items over receipts.old.items receipts.new.items) }
     ensures stop { OnOk result.1
         (WaitsAt (O.machine.ready held.new.log.piece.last) (Q.call number) queue.new.items) }
-    ensures full { IfErr result.1 (IsFullAtLast O.machine held.new) }
+    ensures full { IfErr result.1 (IsFullAtLast O.machine (is_some cuts.now) held.new.log) }
+    ensures seen { IfErr result.1 (IsFullAsSeen (is_some cuts.now) account.old) }
     ensures waits { result.0 ≡ false → KeepsAllWaiting O.machine O.handle_of (Q.call number)
         queue.old.items held.old.log.piece.last held.new.log.piece.last }
     ensures part { HandsOnAll held.old.log.piece held.new.log.piece cut.old cut.new }
@@ -154,7 +160,7 @@ pub(crate) fn each_ready<O: Kind, Q: Queued<O>>(
         let Some(item) = queue.pop_front() else {
             unreachable!()
         };
-        match one_moved(held, account, Q::call(number, item), receipts, cut) {
+        match one_moved(held, cuts, account, Q::call(number, item), receipts, cut) {
             Ok(is_awaited) => awaited |= is_awaited,
             Err(refused) => return (awaited, Err(refused)),
         }
@@ -177,6 +183,7 @@ fn ended<O: Kind>(receipts: &Vec<Receipt<O>>) -> bool
 /// made, and what came of the last try; or the first comes back.
 pub(crate) fn many_ready<O: Kind>(
     held: &mut Held<O>,
+    cuts: &Option<Arc<Cuts<O>>>,
     account: &mut Account,
     call: O::Call,
     limit: usize,
@@ -196,14 +203,15 @@ pub(crate) fn many_ready<O: Kind>(
         receipts.old.items receipts.new.items }
     ensures back { IfErr result (λ e. IsBack account.old account.new call e) }
     ensures same { OnErr result (receipts.new.items ≡ receipts.old.items) }
-    ensures full { IfErr result (IsFullAtLast O.machine held.new) }
+    ensures full { IfErr result (IsFullAtLast O.machine (is_some cuts.now) held.new.log) }
+    ensures seen { IfErr result (IsFullAsSeen (is_some cuts.now) account.old) }
     ensures part { HandsOnAll held.old.log.piece held.new.log.piece cut.old cut.new }
     ensures rest { held.new ≡ record held.old { log = held.new.log } }
 {
     let Ok(again) = O::copy_call(&call) else {
         return Err(Refused::Short(call));
     };
-    if let Err(refused) = one_moved(held, account, call, receipts, cut) {
+    if let Err(refused) = one_moved(held, cuts, account, call, receipts, cut) {
         return Err(refused);
     }
     let mut count = 1usize;
@@ -211,7 +219,7 @@ pub(crate) fn many_ready<O: Kind>(
         if ended(receipts) {
             return Ok((count, More::Made));
         }
-        match one_more(held, account, &again, receipts, cut) {
+        match one_more(held, cuts, account, &again, receipts, cut) {
             More::Made => count += 1,
             More::Waits => return Ok((count, More::Waits)),
             More::Refused => return Ok((count, More::Refused)),

@@ -2,9 +2,10 @@
 ghost use Rattle.std.specs.Prelude.{◌≡◌, true};
 ghost use Rattle.std.specs.Sync.Mutex.{mutex_guard_value};
 
+use crate::cuts::Cuts;
 use crate::held::Held;
 use crate::wake::Wake;
-use std::sync::{Condvar, Mutex, MutexGuard, Wait};
+use std::sync::{Arc, Condvar, Mutex, MutexGuard, Wait};
 use std::thread;
 use std::time::{Clock, Duration};
 use th_log::{Kind, Object, Receipt, Refused};
@@ -20,6 +21,8 @@ const LOOKS: u32 = 4;
 #[derive(Drop)]
 pub(crate) struct Room<O: Object> {
     held: Mutex<Held<O>>,
+    /// Where the parts go, if calls cut the log. It never changes.
+    pub(crate) cuts: Option<Arc<Cuts<O>>>,
     // Those who wait sleep here, of both sides of a channel. They are woken all at once, after the lock is let go: a
     // sleeper that is woken wants the lock at once.
     news: Condvar,
@@ -27,16 +30,19 @@ pub(crate) struct Room<O: Object> {
 
 impl<O: Object> Room<O> {
     /// Where nobody waits yet.
-    pub(crate) fn new(held: Held<O>) -> Room<O> {
+    pub(crate) fn new(held: Held<O>, cuts: Option<Arc<Cuts<O>>>) -> Room<O>
+        ensures { result.cuts ≡ cuts }
+    {
         Room {
             held: Mutex::new(held),
+            cuts,
             news: Condvar::new(),
         }
     }
 
     /// What the lock keeps, once nobody wants it any more.
     pub(crate) fn into_held(self) -> Held<O> {
-        let Room { held, news: _ } = self;
+        let Room { held, .. } = self;
         held.into_inner()
     }
 

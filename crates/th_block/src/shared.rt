@@ -1,12 +1,11 @@
 //! A channel that is owned in common by its handles.
-ghost use Rattle.std.specs.Prelude.{◌≡◌, IfErr, IfOk, IfSome};
+ghost use Rattle.std.specs.Prelude.{◌≡◌, is_some, IfErr, IfOk, IfSome};
 ghost use Rattle.th_log.specs.History.{IsKept, IsLegal};
 
 use crate::cuts::{Cuts, hand_over};
-use crate::held::{Held, Rolling};
-use crate::posted::Posted;
 use crate::room::Room;
-use std::alloc::{AllocError, Global};
+use std::alloc::AllocError;
+use std::marker::Model;
 use std::sync::{Arc, Wait};
 use th_log::{Kind, Logged, Object, Segment};
 use th_model::Short;
@@ -18,16 +17,21 @@ pub struct Shared<O: Object> {
     pub(crate) room: Arc<Room<O>>,
 }
 
-impl<O: Kind> Shared<O> {
-    // The first owner of a channel.
-    pub(crate) fn new(alloc: Global, posted: Posted<O>) -> Result<Shared<O>, AllocError> {
-        Ok(Shared {
-            room: Arc::new(alloc, Room::new(Held::new(posted)))?,
-        })
-    }
+impl<O: Object> Model for Shared<O> {
+    ghost use Rattle.std.specs.Arc.{arc_value};
+    ghost use Rattle.std.specs.Prelude.{is_some};
+    ghost use Rattle.th_block.specs.Handles.{Owner};
 
+    ghost Value = { Owner };
+
+    ghost view = { λ s. record { rolls = is_some (arc_value s.room).cuts } };
+}
+
+impl<O: Kind> Shared<O> {
     /// One more owner. It takes no memory, and is refused only past 2^63 owners.
-    pub fn another(&self) -> Result<Shared<O>, Short<()>> {
+    pub fn another(&self) -> Result<Shared<O>, Short<()>>
+        ensures { IfOk result (λ shared. shared ≡ self.now) }
+    {
         match Arc::try_clone(&self.room) {
             Ok(room) => Ok(Shared { room }),
             Err(AllocError) => Err(Short { call: () }),
@@ -56,33 +60,25 @@ impl<O: Kind> Shared<O> {
         held.cut_of(key)
     }
 
-    /// From now on the channel cuts its log by itself: the call that finds so many entries in it, or no room for its own, cuts it
-    /// before its event, under the same lock, and puts the part into this queue once the lock is free. Its log is to have the
-    /// largest limit, 1,000,000 entries: then a call is refused as `LogFull` only where the channel has had nearly 2^63 events.
-    /// A log that is as long already is cut now. Where memory is refused for a cut, the call that is to make it is `Short`.
-    ///
-    /// Before calls that are made together the log is cut too where it has no room for all of them, or for 1,024 where they are
-    /// more, and in their midst only where it has no room for the next one. So up to 1,024 of them that make no handle stand in
-    /// one part. Where memory is refused they go on in the old one, and only the call for which it has no room is `Short`.
-    ///
-    /// A cut costs as [`Shared::cut`] does.
-    ///
-    /// # Errors
-    ///
-    /// The queue has 2^63 owners.
-    pub fn roll_at<R: Wait>(&self, rt: &R, most: u64, cuts: &Arc<Cuts<O>>) -> Result<(), Short<()>>
+    /// Whether the channel cuts its log by itself ([`crate::rolling_broadcast_at`]). It never changes.
+    pub fn rolls(&self) -> bool
+        ensures { result ≡ self.now.rolls }
+    {
+        self.room.cuts.is_some()
+    }
+
+    /// From now on the calls of a channel that cuts its log by itself do so from so many entries on. A log that is as long already
+    /// is cut now, if there is memory; else by the next call. Of another channel nothing changes.
+    pub fn roll_at<R: Wait>(&self, rt: &R, most: u64)
         requires { O.lawful }
     {
-        let Ok(cuts) = Arc::try_clone(cuts) else {
-            return Err(Short { call: () });
-        };
+        let room = &*self.room;
         let mut cut = None;
-        let mut held = self.room.lock(rt);
-        held.roll(Rolling { most, cuts });
-        held.spare(0, &mut cut);
+        let mut held = room.lock(rt);
+        held.be_long_from(most);
+        held.spare(&room.cuts, 0, &mut cut);
         drop(held);
         hand_over(rt, &mut cut);
-        Ok(())
     }
 
     /// Wakes who waits, after calls that left it to their caller. It takes the lock for a moment.

@@ -1,5 +1,6 @@
 //! Calls of a handle that are made together, under one lock.
-ghost use Rattle.std.specs.Prelude.{◌≡◌, ◌<◌, All, OnOk, Some};
+ghost use Rattle.std.specs.Prelude.{◌≡◌, ◌<◌, All, IfErr, OnOk, Some};
+ghost use Rattle.th_block.specs.Handles.{IsFullAsSeen};
 ghost use Rattle.th_block.specs.Rows.{EachBehind, IsAnswerTo};
 ghost use Rattle.th_block.specs.Together.{MakesEach, StopsAt, TakesMany};
 
@@ -25,19 +26,23 @@ impl<O: Kind, S> Handle<O, S> {
             queue.old.items queue.new.items receipts.old.items receipts.new.items result }
         ensures stop { OnOk result
             (StopsAt O.machine.ready (Q.call self.old.number) queue.new.items) }
+        ensures full { IfErr result (IsFullAsSeen self.old.rolls self.old.known) }
     {
         let Handle {
-            shared,
+            ref room,
             number,
-            account,
+            ref mut account,
             ..
-        } = self;
-        let room = &*shared.room;
+        } = *self;
+        let room = &**room;
+        let cuts = &room.cuts;
         let mut cut = None;
         let mut held = room.lock(rt);
         let log = &mut *held;
-        log.spare(queue.len(), &mut cut);
-        let (awaited, end) = each_ready::<O, Q>(log, account, *number, queue, receipts, &mut cut);
+        log.spare(cuts, queue.len(), &mut cut);
+        let (awaited, end) = each_ready::<O, Q>(
+            log, cuts, account, number, queue, receipts, &mut cut,
+        );
         let total = log.total();
         let wake = log.wakes_if(awaited);
         drop(held);
@@ -64,16 +69,17 @@ impl<O: Kind, S> Handle<O, S> {
             receipts.old.items receipts.new.items }
     {
         let Handle {
-            shared,
-            account,
+            ref room,
+            ref mut account,
             ..
-        } = self;
-        let room = &*shared.room;
+        } = *self;
+        let room = &**room;
+        let cuts = &room.cuts;
         let mut cut = None;
         let mut held = room.lock_when_ready(rt, &call);
         let log = &mut *held;
-        log.spare(limit, &mut cut);
-        let answer = many_ready(log, account, call, limit, receipts, &mut cut);
+        log.spare(cuts, limit, &mut cut);
+        let answer = many_ready(log, cuts, account, call, limit, receipts, &mut cut);
         let total = log.total();
         drop(held);
         hand_over(rt, &mut cut);
@@ -103,6 +109,7 @@ impl<O: Kind, S: Side<O>> Handle<O, S> {
         ensures made { MakesEach (λ call. call) self.old self.new
             calls.old.items calls.new.items receipts.old.items receipts.new.items result }
         ensures stop { OnOk result (StopsAt O.machine.ready (λ call. call) calls.new.items) }
+        ensures full { IfErr result (IsFullAsSeen self.old.rolls self.old.known) }
     {
         self.each::<Calls, R>(rt, calls, receipts)
     }

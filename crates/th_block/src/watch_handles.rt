@@ -1,20 +1,21 @@
 //! Senders and readers of a watch channel.
-ghost use Rattle.std.specs.Prelude.{◌≡◌, ◌↔◌, [], IfErr, IfOk, IfSome, OnOk};
+ghost use Rattle.std.specs.Prelude.{◌≡◌, ◌↔◌, [], false, true, IfErr, IfOk, IfSome, OnOk};
 ghost use Rattle.th_log.specs.History.{IsLimit};
 ghost use Rattle.th_model.specs.Limits.{ClonesAreEqual};
 ghost use Rattle.th_model.specs.WatchMachine.{IsExact};
 ghost use Rattle.th_log.specs.Replies.{IsChanged, made_by, watch_ends, watch_made_rx, watch_made_tx};
-ghost use Rattle.th_block.specs.Handles.{Calls, CallsFor, IsFirst, IsNext, IsNextTold, rx, tx};
+ghost use Rattle.th_block.specs.Handles.{Calls, CallsFor, IsFirst, IsFullAsSeen, IsNext, IsNextTold, rx, tx};
 ghost use Rattle.th_block.specs.Together.{MakesEach};
 
+use crate::cuts::Cuts;
 use crate::handle::{Handle, is_limit, open};
 use crate::queued::Values;
 use crate::side::{Receives, Sends};
 use std::alloc::Global;
 use std::collections::VecDeque;
-use std::sync::Wait;
-use th_log::{MakeFault, Receipt, Refused};
-use th_model::{Edit, RxId, TxId, WCall};
+use std::sync::{Arc, Wait};
+use th_log::{MOST_ENTRIES, MakeFault, Receipt, Refused};
+use th_model::{Edit, RxId, Short, TxId, WCall};
 use th_watch::Watch;
 
 /// A sender.
@@ -36,7 +37,7 @@ pub fn watch<T: Clone + PartialEq + Drop>(
 ) -> Result<WSender<T>, MakeFault>
     requires clones { ClonesAreEqual T.is_clone }
     requires exact { IsExact T.eq }
-    ensures handle { IfOk result (IsFirst key) }
+    ensures handle { IfOk result (IsFirst false key) }
     ensures limit { OnOk result (IsLimit limit 1) }
     ensures bad { IfErr result (λ fault. fault ≡ MakeFault.BadLimit ↔ ¬ (IsLimit limit 1)) }
 {
@@ -44,8 +45,34 @@ pub fn watch<T: Clone + PartialEq + Drop>(
         return Err(MakeFault::BadLimit);
     }
     match Watch::new(alloc, value) {
-        Ok(channel) => open(alloc, channel, limit, key),
+        Ok(channel) => open(alloc, channel, limit, key, u64::MAX, None),
         Err(_) => Err(MakeFault::Short),
+    }
+}
+
+/// A channel as `watch` makes it, that cuts its log by itself, as [`crate::rolling_broadcast_at`] says.
+///
+/// # Errors
+///
+/// There was no memory.
+#[tactic(auto, unfolding(th_model::specs::WatchPicture::see, th_model::specs::WatchMachine::opened))]
+pub fn rolling_watch<T: Clone + PartialEq + Drop>(
+    alloc: Global,
+    value: T,
+    key: u64,
+    most: u64,
+    cuts: Arc<Cuts<Watch<T>>>,
+) -> Result<WSender<T>, Short<()>>
+    requires clones { ClonesAreEqual T.is_clone }
+    requires exact { IsExact T.eq }
+    ensures { IfOk result (IsFirst true key) }
+{
+    let Ok(channel) = Watch::new(alloc, value) else {
+        return Err(Short { call: () });
+    };
+    match open(alloc, channel, MOST_ENTRIES, key, most, Some(cuts)) {
+        Ok(sender) => Ok(sender),
+        Err(_) => Err(Short { call: () }),
     }
 }
 
@@ -85,6 +112,7 @@ impl<T: Clone + PartialEq + Drop> Handle<Watch<T>, Sends> {
         ensures sent { MakesEach (WCall.Send (tx self.old)) self.old self.new
             values.old.items values.new.items receipts.old.items receipts.new.items result }
         ensures all { OnOk result (values.new.items ≡ []) }
+        ensures full { IfErr result (IsFullAsSeen self.old.rolls self.old.known) }
     {
         self.each::<Values, R>(rt, values, receipts)
     }

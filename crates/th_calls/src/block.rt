@@ -5,7 +5,7 @@ use std::sync::{Arc, Wait};
 use std::time::{Clock, Duration};
 use th_block::{
     BReceiver, BSender, Cuts, Receives, Resub, RingBroadcast, Sends, Shared, Side, WReader,
-    WSender, broadcast, broadcast_at, laws, watch,
+    WSender, broadcast, broadcast_at, laws, rolling_broadcast_at, rolling_watch, watch,
 };
 use th_glance::Glance;
 use th_log::{Logged, MakeFault, Receipt, Refused, Segment};
@@ -265,12 +265,28 @@ pub fn end_cuts(rt: &impl Wait, cuts: &Cuts<Light>) -> u64 {
     cuts.lost(rt)
 }
 
-pub fn roll_at(
-    rt: &impl Wait,
-    shared: &Shared<Light>,
-    cuts: &Arc<Cuts<Light>>,
-) -> Result<(), Short<()>> {
-    shared.roll_at(rt, 100, cuts)
+pub fn roll_at(rt: &impl Wait, shared: &Shared<Light>) -> bool {
+    shared.roll_at(rt, 100);
+    shared.rolls()
+}
+
+pub fn make_rolling(
+    alloc: Global,
+    capacity: Capacity,
+    news: Arc<Cuts<News>>,
+    lights: Arc<Cuts<Light>>,
+) -> (
+    Result<BSender<u64>, Short<()>>,
+    Result<WSender<u64>, Short<()>>,
+) {
+    (
+        rolling_broadcast_at(alloc, capacity, 0, 1, 100, news),
+        rolling_watch(alloc, 7, 2, 100, lights),
+    )
+}
+
+pub fn rolls(tx: &BSender<u64>) -> bool {
+    tx.rolls()
 }
 
 pub fn take_back(
