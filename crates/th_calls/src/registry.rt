@@ -8,7 +8,7 @@ use th_model::{
     Kind, Listing, Making, Name, NameRef, Question, ReceiverVerb, RxId, SenderVerb, Short, Start,
     TxId, Value, WCall,
 };
-use th_registry::calls::{answers, receives, sends, starts};
+use th_registry::calls::{answers, receives, sends, starts, waits};
 use th_registry::channel::{LocalChannel, TopicReceipt, TopicSegment};
 use th_registry::recorded::Recorded;
 use th_registry::topics::list;
@@ -28,12 +28,13 @@ pub fn has_call(
     verb: &SenderVerb<Value>,
     question: Question,
     read: ReceiverVerb,
-) -> [bool; 4] {
+) -> [bool; 5] {
     [
         starts(kind, Start::Tail),
         sends(kind, verb),
         answers(kind, question),
         receives(kind, read),
+        waits(read),
     ]
 }
 
@@ -122,9 +123,9 @@ pub fn act(
     verb: SenderVerb<Value>,
 ) -> [Result<TopicReceipt, NoEvent>; 3] {
     [
-        desk.by_sender(topic, tx, verb),
+        desk.by_sender(topic, tx, verb, &mut ()),
         desk.ask(topic, &mut None, Question::Readers),
-        desk.by_receiver(topic, rx, ReceiverVerb::Recv),
+        desk.by_receiver(topic, rx, ReceiverVerb::Recv, &()),
     ]
 }
 
@@ -154,8 +155,10 @@ pub fn keep(
     topic: TopicId,
     rx: &mut RxId,
 ) -> (Result<TopicSegment, NoEvent>, bool) {
-    desk.wake();
-    let waits = desk.wait(topic, rx, Duration::from_secs(1));
+    let mut owed = desk.owing_nothing();
+    desk.wake(&mut owed);
+    let waits = desk.wait(topic, rx, Duration::from_secs(1), &owed);
+    LocalDesk::close(owed);
     (desk.cut(topic), waits)
 }
 

@@ -6,6 +6,7 @@ use Rattle.th_model.specs.declared.kind.Kind.{Kind}
 use Rattle.th_model.specs.declared.kind.Kind.TheVariants as Kinds
 use Rattle.th_model.specs.declared.verb.Question.{Question}
 use Rattle.th_model.specs.declared.verb.ReceiverVerb.{ReceiverVerb}
+use Rattle.th_model.specs.declared.verb.ReceiverVerb.TheVariants.{Recv, Changed}
 use Rattle.th_model.specs.declared.verb.SenderVerb.{SenderVerb}
 use Rattle.th_model.specs.declared.verb.Start.{Start}
 use Rattle.th_model.specs.declared.verb.Start.TheVariants.{Tail, Oldest}
@@ -39,3 +40,9 @@ answers Kinds.Watch question = is_some (watch_asked {T = Bytes} question (tx 0))
 abbrev pub receives : Kind → ReceiverVerb → Bool
 receives Kinds.Broadcast verb = is_some (broadcast_by_receiver {T = Bytes} verb (rx 0))
 receives Kinds.Watch verb = is_some (watch_by_receiver {T = Bytes} verb (rx 0))
+
+-- whether the verb waits for its answer
+abbrev pub waits : ReceiverVerb → Bool
+waits Recv = true
+waits Changed = true
+waits verb = false

@@ -1,6 +1,6 @@
 //! Which calls a kind of channel has.
 ghost use Rattle.std.specs.Prelude.{◌≡◌};
-ghost use Rattle.th_registry.specs.Calls.{answers, receives, sends, starts};
+ghost use Rattle.th_registry.specs.Calls.{answers, receives, sends, starts, waits};
 
 use th_model::{Kind, Question, ReceiverVerb, SenderVerb, Start, Value};
 
@@ -46,5 +46,15 @@ pub fn receives(kind: Kind, verb: ReceiverVerb) -> bool
     match kind {
         Kind::Broadcast => is_broadcast,
         Kind::Watch => !is_broadcast,
+    }
+}
+
+/// Whether the verb waits for its answer.
+pub fn waits(verb: ReceiverVerb) -> bool
+    ensures { result ≡ waits verb }
+{
+    match verb {
+        ReceiverVerb::Recv | ReceiverVerb::Changed => true,
+        _ => false,
     }
 }

@@ -1,8 +1,9 @@
 //! What a session asks of the hub.
-ghost use Rattle.std.specs.Prelude.{◌≡◌, ◌+◌, ◌≤◌, IfErr, length, vec_capacity, vec_len};
+ghost use Rattle.std.specs.Prelude.{◌≡◌, ◌+◌, ◌≤◌, Bool, IfErr, false, length, true, vec_capacity, vec_len};
 ghost use Rattle.std.specs.Option.{option_map};
 ghost use Rattle.th_model.specs.declared.handles.TxId.{TxId};
 ghost use Rattle.th_model.specs.declared.handles.RxId.{RxId};
+ghost use Rattle.th_registry.specs.Calls.{waits};
 ghost use Rattle.th_registry.specs.Events.{Asks, Binds, DropsRx, DropsTx, Hub, Own, Receives, Resubscribes, Sends, Subscribes, any_sender};
 ghost use Rattle.th_registry.specs.Hub.{Query, Said, Find, List, Open, On, Cut};
 ghost use Rattle.th_registry.specs.Rows.{MadeInRow, sends_of, times};
@@ -18,9 +19,12 @@ use th_model::{Listing, Making, NameRef, Question, ReceiverVerb, SenderVerb, Sho
 /// The most events that a desk is asked for in one row ([`Desk::send_row`], [`Desk::by_receiver_row`]).
 pub const MOST_IN_ROW: usize = 64;
 
-/// Topics by name. Each call but `find`, `list`, `cut`, `give_back`, `wake`, `would_wait` and `wait` is one event, on the topic of that number or of
-/// the registry, or none; `resubscribe` is both of its events, or none, and a row is as many as it answers. By which side of handles an event is made
-/// is the call's name and the type of its verb. An event's receipt is handed out, but for the end of a handle.
+/// Topics by name. Each call but `find`, `list`, `cut`, `give_back`, `wake`, `would_wait`, `wait` and those that begin and end a debt is one event,
+/// on the topic of that number or of the registry, or none; `resubscribe` is both of its events, or none, and a row is as many as it answers. By
+/// which side of handles an event is made is the call's name and the type of its verb. An event's receipt is handed out, but for the end of a handle.
+///
+/// An event by `by_sender` may wake nobody: then the caller owes those who wait a wake, and has to pay by `wake` before it waits itself.
+/// The debt is a value of its own that the caller holds, and that cannot be let go of but by `close`, once it is paid. No other event makes one.
 pub trait Desk: Drop {
     /// A sender of a topic.
     type Tx: Drop;
@@ -33,6 +37,12 @@ pub trait Desk: Drop {
 
     /// The number of a receiver.
     ghost rx: { Self.Rx → RxId };
+
+    /// Whom a caller owes a wake. It is of the desk at which it began, and is lent to no other.
+    type Owed;
+
+    /// Whether that is anybody.
+    ghost owes: { Self.Owed → Bool };
 
     /// What the desk may say to a query, and what it is afterwards.
     ghost says: { Self → (q : Query) → Said q → Self → Type 0 };
@@ -65,12 +75,13 @@ pub trait Desk: Drop {
             says self.old (On topic.0 (Subscribes start by)) (made_rx rx result) self.new }
         ensures sender { option_map tx sender.new ≡ option_map tx sender.old };
 
-    /// What a sender does. It keeps its number.
+    /// What a sender does. It keeps its number. Who waits for it may be owed a wake then.
     fn by_sender(
         &mut self,
         topic: TopicId,
         sender: &mut Self::Tx,
         verb: SenderVerb<Value>,
+        owed: &mut Self::Owed,
     ) -> Result<TopicReceipt, NoEvent>
         ensures event { let event = Sends (tx sender.old) verb in
             says self.old (On topic.0 event) (replied result) self.new }
@@ -87,13 +98,15 @@ pub trait Desk: Drop {
             says self.old (On topic.0 (Asks by question)) (replied result) self.new }
         ensures sender { option_map tx sender.new ≡ option_map tx sender.old };
 
-    /// What a receiver does. It keeps its number.
+    /// What a receiver does. It keeps its number. Nobody is owed a wake where the verb waits.
     fn by_receiver(
         &mut self,
         topic: TopicId,
         receiver: &mut Self::Rx,
         verb: ReceiverVerb,
+        owed: &Self::Owed,
     ) -> Result<TopicReceipt, NoEvent>
+        requires paid { waits verb ≡ true → owes owed.now ≡ false }
         ensures event { let event = Receives (rx receiver.old) verb in
             says self.old (On topic.0 event) (replied result) self.new }
         ensures receiver { rx receiver.new ≡ rx receiver.old };
@@ -136,23 +149,39 @@ pub trait Desk: Drop {
     fn give_back(&mut self, topic: TopicId, segment: TopicSegment)
         ensures { self.new ≡ self.old };
 
-    /// Wakes who waits for what was done here since. It is no event. Nothing is claimed of waking.
-    fn wake(&mut self)
-        ensures { self.new ≡ self.old };
+    /// A caller's debt before it has done anything here: nobody is owed a wake.
+    fn owing_nothing(&self) -> Self::Owed
+        ensures { owes result ≡ false };
+
+    /// Wakes who is owed it, and nobody is then. It is no event. Nothing is claimed of waking.
+    fn wake(&mut self, owed: &mut Self::Owed)
+        ensures desk { self.new ≡ self.old }
+        ensures paid { owes owed.new ≡ false };
+
+    /// Lets go of a debt that is paid.
+    fn close(owed: Self::Owed)
+        requires { owes owed ≡ false };
 
     /// Whether this receiver's next call by this verb, that waits, would wait now. It is no event, and changes nothing.
     fn would_wait(&self, topic: TopicId, receiver: &Self::Rx, verb: ReceiverVerb) -> bool;
 
     /// Waits until this receiver's next call by a verb that waits has its answer, but no longer than so: whether it has. It
-    /// is no event, and no clause rests on it. The receiver keeps its number.
-    fn wait(&mut self, topic: TopicId, receiver: &mut Self::Rx, longest: Duration) -> bool
+    /// is no event, and no clause rests on it. The receiver keeps its number. Nobody is owed a wake.
+    fn wait(
+        &mut self,
+        topic: TopicId,
+        receiver: &mut Self::Rx,
+        longest: Duration,
+        owed: &Self::Owed,
+    ) -> bool
+        requires paid { owes owed.now ≡ false }
         ensures desk { self.new ≡ self.old }
         ensures receiver { rx receiver.new ≡ rx receiver.old };
 
     /// Sends these values by this sender in a row, from the front of the queue on, and answers how many were sent. Each send is
     /// one event, as `by_sender` makes it, and its receipt is put behind those that the list has. None is refused: what
-    /// would be, and what is behind it, is not sent, and `by_sender` tells why. It waits for nothing. The sender keeps its
-    /// number.
+    /// would be, and what is behind it, is not sent, and `by_sender` tells why. It waits for nothing, and wakes who waits for
+    /// them. The sender keeps its number.
     fn send_row(
         &mut self,
         topic: TopicId,

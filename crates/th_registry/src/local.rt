@@ -1,5 +1,5 @@
 //! The desk of one thread, which never waits.
-ghost use Rattle.std.specs.Prelude.{◌≡◌, ◌≤◌, ◌<◌, ◌↔◌, [], IfOk, IsOk};
+ghost use Rattle.std.specs.Prelude.{◌≡◌, ◌≤◌, ◌<◌, ◌↔◌, [], IfOk, IsOk, false};
 ghost use Rattle.th_registry.specs.Pictures.{DeskSays};
 
 use crate::channel::{TopicReceipt, TopicSegment};
@@ -84,6 +84,11 @@ impl Desk for LocalDesk {
 
     type Rx = RxId;
 
+    // Nobody waits at it.
+    type Owed = ();
+
+    ghost owes = { λ _. false };
+
     ghost tx = { λ t. t };
 
     ghost rx = { λ r. r };
@@ -149,6 +154,7 @@ impl Desk for LocalDesk {
         topic: TopicId,
         sender: &mut TxId,
         verb: SenderVerb<Value>,
+        _owed: &mut (),
     ) -> Result<TopicReceipt, NoEvent> {
         let Some(channel) = self.topics.get_index_mut(topic.0 as usize) else {
             return Err(NoEvent::NoTopic);
@@ -174,6 +180,7 @@ impl Desk for LocalDesk {
         topic: TopicId,
         receiver: &mut RxId,
         verb: ReceiverVerb,
+        _owed: &(),
     ) -> Result<TopicReceipt, NoEvent> {
         let Some(channel) = self.topics.get_index_mut(topic.0 as usize) else {
             return Err(NoEvent::NoTopic);
@@ -224,15 +231,26 @@ impl Desk for LocalDesk {
 
     fn give_back(&mut self, _topic: TopicId, _segment: TopicSegment) {}
 
-    fn wake(&mut self) {}
+    fn owing_nothing(&self) {}
+
+    fn wake(&mut self, _owed: &mut ()) {}
+
+    fn close(_owed: ()) {}
 
     fn would_wait(&self, _topic: TopicId, _receiver: &RxId, _verb: ReceiverVerb) -> bool {
         false
     }
 
-    fn wait(&mut self, _topic: TopicId, _receiver: &mut RxId, _longest: Duration) -> bool {
+    fn wait(
+        &mut self,
+        _topic: TopicId,
+        _receiver: &mut RxId,
+        _longest: Duration,
+        _owed: &(),
+    ) -> bool {
         true
     }
+
     // There is no lock to save, so it makes none in a row.
     fn send_row(
         &mut self,

@@ -28,7 +28,7 @@ use Rattle.th_session.specs.declared.session.Answer as session
 use Rattle.th_session.specs.Answer.{said}
 use Rattle.th_session.specs.Ending.{AppendsFront, Devices}
 use Rattle.th_session.specs.Kept.{IsKept, Kept, Tells, kept_by, told}
-use Rattle.th_session.specs.Run.{AnsweredBy, AreLet, Awaits, BreaksOff, EndsBefore, Enters, HeldBack, IsFirst, MayGiveUp, MayHold, Progress, Halts, IsAnswered, IsOver, Ran, Served, Serves, SpellsWait, Took, fault_by, beginning, line_turn, may_wait, nothing_had, Strictness, quitting, stands, tells_bye, writer_failures}
+use Rattle.th_session.specs.Run.{AnsweredBy, AreLet, Awaits, BreaksOff, EndsBefore, Enters, HeldBack, IsFirst, MayGiveUp, MayHold, Progress, Halts, IsAnswered, IsOver, IsSettled, Ran, Served, Serves, SpellsWait, Took, fault_by, beginning, line_turn, may_wait, nothing_had, Strictness, quitting, stands, tells_bye, writer_failures}
 use Rattle.th_session.specs.Script.{Answer, Replied, Told, Traced, has_quit}
 use Rattle.th_session.proofs.Endings.{all_answered, appended, first_halted, first_whole, first_within, fronts, held_back, past_lines, whole_answered}
 use Rattle.th_session.proofs.Kept.{as-before, keeps_as}
@@ -202,9 +202,9 @@ module _ {W D G : Type 0} (says : D → (q : Query) → Said q → D → Type 0)
   -- it settles
   pub settles_on : (old new : Progress G × D × Tally W) → new.0.keeping ≡ old.0.keeping → new.0.gate ≡ old.0.gate
       → new.0.kept ≡ old.0.kept → new.1 ≡ old.1
-      → WritesAll old.0.waiting (stands contents old).1 (stands contents new).1 × (new.0.waiting ≡ [])
-      → Settles (Took says strict contents) (IsOver says strict contents) {A = Unit {0}} (λ p. p.0.waiting ≡ []) old (Ok tt) new
-  settles_on old new same gate actor desk f = (
+      → WritesAll old.0.waiting (stands contents old).1 (stands contents new).1 × (new.0.waiting ≡ []) → new.0.owes ≡ false
+      → Settles (Took says strict contents) (IsOver says strict contents) {A = Unit {0}} IsSettled old (Ok tt) new
+  settles_on old new same gate actor desk f paid = (
     λ from lines t. (
       same ∙ t.0,
       gate ∙ t.1,
@@ -213,7 +213,7 @@ module _ {W D G : Type 0} (says : D → (q : Query) → Said q → D → Type 0)
           ((x, false), (stands contents new).1))
           (λ i. (sym actor i, sym desk i)) (answers_on t.3 (stands contents new).1 (flushed_adds f.0 f.1)),
     ),
-    f.1,
+    (f.1, paid),
   )
 
   pub settles_broken : (old new : Progress G × D × Tally W) → new.0.kept ≡ old.0.kept → new.1 ≡ old.1
@@ -286,7 +286,7 @@ module _ {W D G : Type 0} (keeping : Keeping) (says : D → (q : Query) → Said
 
     abbrev Here : Fed Stop → Type 0
     Here fed = Stands (Took says strict contents) (IsOver says strict contents) old.remaining new.remaining first
-        (λ p. p.0.waiting ≡ []) spent reads fed f now
+        IsSettled spent reads fed f now
 
     -- it ended with no reply left
     pub ends_at_once : (fed : Fed Stop) → Here fed → new.contents ≡ at.1.written → may_wait (fault_by fed) ≡ false →
@@ -303,7 +303,7 @@ module _ {W D G : Type 0} (keeping : Keeping) (says : D → (q : Query) → Said
         ((s.stands.0, ran), b.said.failed)
     ends_at_once why.Full s same e = absurd (false≢true (sym e))
     ends_at_once why.Failed s same e =
-        let all : WritesAll at.1.waiting at.1 at.1 = subst (λ (l : List ℕ). WritesAll l at.1 at.1) (sym s.2)
+        let all : WritesAll at.1.waiting at.1 at.1 = subst (λ (l : List ℕ). WritesAll l at.1 at.1) (sym s.2.0)
         (record { wrote = Appends-nil at.1.written; same = refl }) in
         (all_answered (By false) old new first now f few reads s.0 s.1 (shown at.1 same all), s.0.stands.3.said.same)
     ends_at_once why.Spent s same e = absurd (false≢true (sym e))

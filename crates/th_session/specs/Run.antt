@@ -89,18 +89,23 @@ pub record Unwritten (G : Type 0) : Type 0 where
 abbrev pub nothing_had : Kept
 nothing_had = record { handles = []; receipts = []; segments = [] }
 
--- How far a run has got: what its actor has, and the replies that wait; its gate, with its number there; and what it keeps of
--- the answers.
+-- How far a run has got: what its actor has, and the replies that wait; its gate, with its number there; what it keeps of
+-- the answers; and whether it owes somebody a wake for what was done.
 pub record Progress (G : Type 0) : Type 0 where
   pub kept : Kept
   pub waiting : List ℕ
   pub gate : G × ℕ
   pub keeping : Keeping
+  pub owes : Bool
 
 -- before anything was read
 abbrev pub beginning : {G : Type 0} → Keeping → G × ℕ → Progress G
 beginning keeping gate =
-    record { kept = nothing_had; waiting = []; gate = gate; keeping = keeping }
+    record { kept = nothing_had; waiting = []; gate = gate; keeping = keeping; owes = false }
+
+-- No reply waits, and nobody is owed a wake: so a run reads on, which may take time.
+abbrev pub IsSettled : {D W G : Type 0} → Progress G × D × W → Type 0
+IsSettled p = (p.0.waiting ≡ []) × (p.0.owes ≡ false)
 
 -- what a run and its desk have, and where the replies stand
 abbrev pub stands : {W D G : Type 0} → (W → Option (List ℕ)) → Progress G × D × Tally W →

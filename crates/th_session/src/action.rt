@@ -12,11 +12,13 @@ ghost use Rattle.th_session.specs.Table.{told_made};
 use crate::handles::{
     Handles, has_receiver, has_sender, hold_receiver, hold_sender, make_ready, take_back,
 };
+use crate::owing::pay_if;
 use crate::session::Answer;
 use crate::table::{replied_ended, replied_none};
 use th_lines::{Action, Code, Reply};
 use th_model::{Question, ReceiverVerb, SenderVerb, Start, Value};
 use th_numbered::ByNumber;
+use th_registry::calls::waits;
 use th_registry::channel::TopicReceipt;
 use th_registry::{Desk, Made, NoEvent, TopicId};
 
@@ -224,6 +226,7 @@ fn by_sender<D: Desk>(
     handles: &mut ByNumber<Handles<D::Tx, D::Rx>>,
     receipts: &mut Vec<(TopicId, TopicReceipt)>,
     desk: &mut D,
+    owed: &mut D::Owed,
     topic: TopicId,
     verb: SenderVerb<Value>,
 ) -> Answer
@@ -240,7 +243,7 @@ fn by_sender<D: Desk>(
     let Ok(()) = receipts.reserve(1) else {
         return Answer::Reply(Reply::Refused(Code::NoMemory));
     };
-    let told = desk.by_sender(topic, sender, verb);
+    let told = desk.by_sender(topic, sender, verb, owed);
     note(receipts, topic, told)
 }
 
@@ -250,6 +253,7 @@ fn by_receiver<D: Desk>(
     handles: &mut ByNumber<Handles<D::Tx, D::Rx>>,
     receipts: &mut Vec<(TopicId, TopicReceipt)>,
     desk: &mut D,
+    owed: &mut D::Owed,
     topic: TopicId,
     verb: ReceiverVerb,
 ) -> Answer
@@ -266,7 +270,8 @@ fn by_receiver<D: Desk>(
     let Ok(()) = receipts.reserve(1) else {
         return Answer::Reply(Reply::Refused(Code::NoMemory));
     };
-    let told = desk.by_receiver(topic, receiver, verb);
+    pay_if(desk, owed, waits(verb));
+    let told = desk.by_receiver(topic, receiver, verb, owed);
     note(receipts, topic, told)
 }
 
@@ -349,6 +354,7 @@ pub(crate) fn act<D: Desk>(
     handles: &mut ByNumber<Handles<D::Tx, D::Rx>>,
     receipts: &mut Vec<(TopicId, TopicReceipt)>,
     desk: &mut D,
+    owed: &mut D::Owed,
     topic: TopicId,
     action: Action,
 ) -> Answer
@@ -357,8 +363,8 @@ pub(crate) fn act<D: Desk>(
         result handles.new.entries receipts.new.items desk.new }
 {
     match action {
-        Action::ByReceiver(verb) => by_receiver(handles, receipts, desk, topic, verb),
-        Action::BySender(verb) => by_sender(handles, receipts, desk, topic, verb),
+        Action::ByReceiver(verb) => by_receiver(handles, receipts, desk, owed, topic, verb),
+        Action::BySender(verb) => by_sender(handles, receipts, desk, owed, topic, verb),
         Action::Ask(question) => ask(handles, receipts, desk, topic, question),
         Action::Bind => bind(handles, receipts, desk, topic),
         Action::Unbind => Answer::Reply(unbind(handles, desk, topic)),

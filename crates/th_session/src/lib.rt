@@ -28,6 +28,7 @@ pub mod handles;
 mod keeping;
 pub mod laws;
 pub mod local;
+mod owing;
 pub mod quiet;
 mod quit;
 mod replies;

@@ -1,17 +1,16 @@
 //! The replies of a session that wait to be written, and its gate, which is told of them.
-ghost use Rattle.std.specs.Prelude.{◌≡◌, ◌+◌, [], true, false};
+ghost use Rattle.std.specs.Prelude.{◌≡◌, ◌+◌, true, false};
 ghost use Rattle.th_lines.specs.Output.{AddsOrFails, Flushes, output};
 ghost use Rattle.th_session.specs.Answer.{PutsTold};
 ghost use Rattle.th_session.specs.Run.{Awaits, Enters, IsLet, strictness, waits};
 ghost use Rattle.th_session.specs.Rows.{told_by};
 
-use crate::as_reply::append_told;
 use crate::fault::Stop;
 use crate::gate::Gate;
+use crate::owing::{flush, pause, pay_if, put_answer, put_told};
 use crate::session::{Answer, Session};
 use std::io::Write;
 use std::marker::Model;
-use std::thread::sleep;
 use std::time::{Clock, Duration};
 use th_lines::{Action, Command, Counted, Reply, WriteBuffer, WriteFailed};
 use th_model::ReceiverVerb;
@@ -82,14 +81,16 @@ fn wait<G: Gate, D: Desk>(
     number: u64,
     session: &mut Session<D>,
     desk: &mut D,
+    owed: &D::Owed,
     command: &Command<'_>,
 ) -> bool
+    requires paid { D.owes owed.now ≡ false }
     ensures session { session.new ≡ session.old }
     ensures desk { desk.new ≡ desk.old }
     ensures gate { result ≡ false → G.gives_up gate.now number ≡ true }
 {
     for _ in 0..u64::MAX {
-        if session.wait(desk, command, Duration::from_millis(LOOK)) {
+        if session.wait(desk, owed, command, Duration::from_millis(LOOK)) {
             return true;
         }
         if !gate.waits_on(number) {
@@ -124,6 +125,7 @@ impl<'a, C: Clock, G: Gate> Replies<'a, C, G> {
     pub(crate) fn settle<D: Desk, W: Write>(
         &mut self,
         desk: &mut D,
+        owed: &mut D::Owed,
         writer: &mut Counted<W>,
         answered: u64,
     ) -> Result<(), WriteFailed>
@@ -131,10 +133,10 @@ impl<'a, C: Clock, G: Gate> Replies<'a, C, G> {
         ensures gate { self.new.gate ≡ self.old.gate }
         ensures wrote { Flushes (output W.contents writer.old self.old.text)
             (output W.contents writer.new self.new.text) result }
+        ensures paid { D.owes owed.new ≡ false }
     {
-        desk.wake();
-        let waiting = &mut self.waiting;
-        match waiting.flush(writer) {
+        desk.wake(owed);
+        match flush::<D, W>(&mut self.waiting, writer, owed) {
             Ok(()) => {}
             Err(e) => return Err(e),
         }
@@ -164,6 +166,7 @@ impl<'a, C: Clock, G: Gate> Replies<'a, C, G> {
         &mut self,
         session: &mut Session<D>,
         desk: &mut D,
+        owed: &mut D::Owed,
         writer: &mut Counted<W>,
         answered: u64,
         command: &Command<'_>,
@@ -178,13 +181,11 @@ impl<'a, C: Clock, G: Gate> Replies<'a, C, G> {
         if !would_wait(session, desk, command) {
             return Ok(());
         }
-        if self.told != answered {
-            match self.settle(desk, writer, answered) {
-                Ok(()) => {}
-                Err(_) => return Err(Stop::Write),
-            }
+        match self.settle(desk, owed, writer, answered) {
+            Ok(()) => {}
+            Err(_) => return Err(Stop::Write),
         }
-        if wait(self.gate, self.session, session, desk, command) {
+        if wait(self.gate, self.session, session, desk, owed, command) {
             Ok(())
         } else {
             Err(Stop::Gone)
@@ -196,6 +197,7 @@ impl<'a, C: Clock, G: Gate> Replies<'a, C, G> {
     pub(crate) fn enter<D: Desk, W: Write>(
         &mut self,
         desk: &mut D,
+        owed: &mut D::Owed,
         writer: &mut Counted<W>,
         answered: u64,
     ) -> Result<(), Stop>
@@ -210,11 +212,11 @@ impl<'a, C: Clock, G: Gate> Replies<'a, C, G> {
             return Ok(());
         }
         for _ in 1..MOST_ASKS {
-            match self.settle(desk, writer, answered) {
+            match self.settle(desk, owed, writer, answered) {
                 Ok(()) => {}
                 Err(_) => return Err(Stop::Write),
             }
-            sleep(self.clock, Duration::from_millis(PAUSE));
+            pause::<C, D>(self.clock, Duration::from_millis(PAUSE), owed);
             if self.gate.may(self.session, line) {
                 return Ok(());
             }
@@ -230,6 +232,7 @@ impl<'a, C: Clock, G: Gate> Replies<'a, C, G> {
         session: &Session<D>,
         answer: Answer,
         desk: &mut D,
+        owed: &mut D::Owed,
         writer: &mut Counted<W>,
     ) -> Result<(), WriteFailed>
         ensures desk { desk.new ≡ desk.old }
@@ -239,11 +242,11 @@ impl<'a, C: Clock, G: Gate> Replies<'a, C, G> {
             (output W.contents writer.new self.new.text) result }
     {
         let waiting = &mut self.waiting;
-        if !waiting.has_room() || has_lines(&answer) {
-            desk.wake();
-        }
-        session.put_answer(answer, waiting, writer)
+        let may_write = !waiting.has_room() || has_lines(&answer);
+        pay_if(desk, owed, may_write);
+        put_answer(session, answer, waiting, writer, may_write, owed)
     }
+
     /// Puts the text of what a topic replied behind what waits, by its receipt. Where that may write, who waits for what was
     /// done is woken before.
     #[inline(always)]
@@ -251,6 +254,7 @@ impl<'a, C: Clock, G: Gate> Replies<'a, C, G> {
         &mut self,
         receipt: &TopicReceipt,
         desk: &mut D,
+        owed: &mut D::Owed,
         writer: &mut Counted<W>,
     ) -> Result<(), WriteFailed>
         ensures desk { desk.new ≡ desk.old }
@@ -260,9 +264,8 @@ impl<'a, C: Clock, G: Gate> Replies<'a, C, G> {
             (output W.contents writer.new self.new.text) result }
     {
         let waiting = &mut self.waiting;
-        if !waiting.has_room() {
-            desk.wake();
-        }
-        append_told(receipt, waiting, writer)
+        let may_write = !waiting.has_room();
+        pay_if(desk, owed, may_write);
+        put_told::<D, W>(receipt, waiting, writer, may_write, owed)
     }
 }

@@ -355,6 +355,7 @@ pub(crate) fn put_row<C: Clock, G: Gate, D: Desk, W: Write>(
     session: &Session<D>,
     replies: &mut Replies<'_, C, G>,
     desk: &mut D,
+    owed: &mut D::Owed,
     writer: &mut Counted<W>,
     count: usize,
 ) -> Result<(), WriteFailed>
@@ -369,7 +370,7 @@ pub(crate) fn put_row<C: Clock, G: Gate, D: Desk, W: Write>(
     let receipts = session.receipts();
     let last = &receipts[receipts.len() - count..];
     for entry in last {
-        match replies.put_told(&entry.1, desk, writer) {
+        match replies.put_told(&entry.1, desk, owed, writer) {
             Ok(()) => {}
             Err(e) => return Err(e),
         }

@@ -1,5 +1,5 @@
 //! A session's run: lines are read, carried out one by one, and answered.
-ghost use Rattle.std.specs.Prelude.{◌≡◌, ◌≤◌, ◌+◌, ◌^◌, ℕ, IfOk};
+ghost use Rattle.std.specs.Prelude.{◌≡◌, ◌≤◌, ◌+◌, ◌^◌, ℕ, IfOk, false};
 ghost use Rattle.th_lines.specs.Feeding as feeding;
 ghost use Rattle.th_lines.specs.Feeding.{failures_by};
 ghost use Rattle.th_lines.specs.Intake.{line_given};
@@ -26,8 +26,7 @@ use th_lines::{
 };
 use th_registry::Desk;
 
-/// How far a session's run has got.
-#[derive(Drop)]
+/// How far a session's run has got. It cannot be let go of, since it may owe a wake.
 struct Run<'a, D: Desk, C, G: Gate> {
     // The actor. Each line that is answered changes it.
     session: Session<D>,
@@ -37,6 +36,8 @@ struct Run<'a, D: Desk, C, G: Gate> {
     keeping: Keeping,
     // Lines that are carried out in a row.
     rows: Rows,
+    // Whom it owes a wake for what was done.
+    owed: D::Owed,
 }
 
 impl<'a, D: Desk, C, G: Gate> Model for Run<'a, D, C, G> {
@@ -49,6 +50,7 @@ impl<'a, D: Desk, C, G: Gate> Model for Run<'a, D, C, G> {
       waiting = r.replies.text;
       gate = r.replies.gate;
       keeping = r.keeping;
+      owes = D.owes r.owed;
     } };
 }
 
@@ -80,6 +82,7 @@ fn answer_in_time<C: Clock, G: Gate, D: Desk, W: Write>(
     replies: &mut Replies<'_, C, G>,
     alloc: Global,
     desk: &mut D,
+    owed: &mut D::Owed,
     writer: &mut Counted<W>,
     answered: u64,
     line: Option<&[u8]>,
@@ -98,8 +101,8 @@ fn answer_in_time<C: Clock, G: Gate, D: Desk, W: Write>(
         Ok(command) => command,
         Err(fault) => return Ok(refused(fault)),
     };
-    match replies.settle_before(session, desk, writer, answered, &command) {
-        Ok(()) => Ok(session.step(desk, command)),
+    match replies.settle_before(session, desk, owed, writer, answered, &command) {
+        Ok(()) => Ok(session.step_owing(desk, owed, command)),
         Err(e) => Err(e),
     }
 }
@@ -113,6 +116,7 @@ fn serve<C: Clock, G: Gate, D: Desk, W: Write>(
     alloc: Global,
     keeping: Keeping,
     desk: &mut D,
+    owed: &mut D::Owed,
     writer: &mut Counted<W>,
     answered: u64,
     line: Option<&[u8]>,
@@ -123,14 +127,14 @@ fn serve<C: Clock, G: Gate, D: Desk, W: Write>(
         ((session.new, desk.new), output W.contents writer.new replies.new.text) result }
     ensures gate { replies.new.gate ≡ replies.old.gate }
 {
-    match replies.enter(desk, writer, answered) {
+    match replies.enter(desk, owed, writer, answered) {
         Ok(()) => {}
         Err(e) => return Err(e),
     }
-    match answer_in_time(session, replies, alloc, desk, writer, answered, line) {
+    match answer_in_time(session, replies, alloc, desk, owed, writer, answered, line) {
         Ok(answer) => {
             let quits = tells_bye(&answer);
-            let put = replies.put(session, answer, desk, writer);
+            let put = replies.put(session, answer, desk, owed, writer);
             session.let_go(desk, keeping);
             match put {
                 Ok(()) if quits => Err(Stop::Quit),
@@ -151,6 +155,7 @@ fn serve_row<C: Clock, G: Gate, D: Desk, W: Write>(
     alloc: Global,
     keeping: Keeping,
     desk: &mut D,
+    owed: &mut D::Owed,
     writer: &mut Counted<W>,
     answered: u64,
     most: u64,
@@ -166,7 +171,7 @@ fn serve_row<C: Clock, G: Gate, D: Desk, W: Write>(
 {
     let count = rows.carry_out(session, replies, alloc, desk, answered, most, intake);
     if count > 0 {
-        let put = put_row(session, replies, desk, writer, count);
+        let put = put_row(session, replies, desk, owed, writer, count);
         session.let_go(desk, keeping);
         return match put {
             Ok(()) => Row { count, end: Ok(()) },
@@ -180,8 +185,7 @@ fn serve_row<C: Clock, G: Gate, D: Desk, W: Write>(
 }
 
 impl<'a, D: Desk, C: Clock, G: Gate, W: Write> TakesLines<D, Counted<W>> for Run<'a, D, C, G> {
-    ghost use Rattle.std.specs.Prelude.{◌≡◌, []};
-    ghost use Rattle.th_session.specs.Run.{IsOver, Took, strictness};
+    ghost use Rattle.th_session.specs.Run.{IsOver, IsSettled, Took, strictness};
 
     type Stop = Stop;
 
@@ -189,11 +193,11 @@ impl<'a, D: Desk, C: Clock, G: Gate, W: Write> TakesLines<D, Counted<W>> for Run
 
     ghost halts = { IsOver D.says (strictness G.holds_back G.lets G.gives_up) W.contents };
 
-    ghost is_settled = { λ p. p.0.waiting ≡ [] };
+    ghost is_settled = { IsSettled };
 
     // Wakes who waits, writes all that waits, and tells the gate.
     fn settle(&mut self, desk: &mut D, writer: &mut Counted<W>, taken: u64) -> Result<(), Stop> {
-        match self.replies.settle(desk, writer, taken) {
+        match self.replies.settle(desk, &mut self.owed, writer, taken) {
             Ok(()) => Ok(()),
             Err(_) => Err(Stop::Write),
         }
@@ -215,6 +219,7 @@ impl<'a, D: Desk, C: Clock, G: Gate, W: Write> TakesLines<D, Counted<W>> for Run
             alloc,
             self.keeping,
             desk,
+            &mut self.owed,
             writer,
             taken,
             line,
@@ -239,6 +244,7 @@ impl<'a, D: Desk, C: Clock, G: Gate, W: Write> TakesLines<D, Counted<W>> for Run
             alloc,
             self.keeping,
             desk,
+            &mut self.owed,
             writer,
             taken,
             most,
@@ -248,13 +254,14 @@ impl<'a, D: Desk, C: Clock, G: Gate, W: Write> TakesLines<D, Counted<W>> for Run
 }
 
 impl<'a, D: Desk, C: Clock, G: Gate> Run<'a, D, C, G> {
-    // With an actor that has nothing. It makes the buffer of the replies.
+    // With an actor that has nothing, and owes nobody a wake at this desk. It makes the buffer of the replies.
     fn new(
         clock: &'a C,
         alloc: Global,
         gate: &'a G,
         number: u64,
         keeping: Keeping,
+        desk: &D,
     ) -> Result<Run<'a, D, C, G>, AllocError>
         ensures { IfOk result (λ r. r ≡ beginning keeping (gate.now, number)) }
     {
@@ -264,15 +271,22 @@ impl<'a, D: Desk, C: Clock, G: Gate> Run<'a, D, C, G> {
             replies: Replies::new(clock, gate, number, waiting),
             keeping,
             rows: Rows::new(alloc),
+            owed: desk.owing_nothing(),
         })
     }
 
-    // The actor.
-    fn into_session(self) -> Session<D>
-        ensures { result ≡ self.entry.kept }
+    // The actor, and whom it owes a wake.
+    fn into_parts(self) -> (Session<D>, D::Owed)
+        ensures { result.0 ≡ self.entry.kept }
     {
-        let Run { session, .. } = self;
-        session
+        let Run {
+            session,
+            replies: _,
+            keeping: _,
+            rows: _,
+            owed,
+        } = self;
+        (session, owed)
     }
 
     // Reads on until the run is over, by at most so many reads, answers the lines as they come, and then settles.
@@ -303,7 +317,7 @@ impl<'a, D: Desk, C: Clock, G: Gate> Run<'a, D, C, G> {
             return fault;
         }
         let answered = answered_of(fault, taken);
-        match self.replies.settle(desk, writer, answered) {
+        match self.replies.settle(desk, &mut self.owed, writer, answered) {
             Ok(()) => fault,
             Err(_) => Some(SessionFault::Write),
         }
@@ -394,12 +408,13 @@ pub fn run_session<C: Clock, R: Read, W: Write, D: Desk, G: Gate>(
     let Ok(mut feeder) = Feeder::new(alloc, bounds.lines) else {
         return (Session::new(alloc), Some(SessionFault::Short));
     };
-    let Ok(mut run) = Run::new(rt, alloc, gate, number, keeping) else {
+    let Ok(mut run) = Run::new(rt, alloc, gate, number, keeping, &*desk) else {
         return (Session::new(alloc), Some(SessionFault::Short));
     };
     let fault = run.go(&mut feeder, alloc, reader, writer, desk, bounds.reads);
-    let mut session = run.into_session();
+    let (mut session, mut owed) = run.into_parts();
     session.spend_all(desk);
-    desk.wake();
+    desk.wake(&mut owed);
+    D::close(owed);
     (session, fault)
 }

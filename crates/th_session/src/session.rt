@@ -1,5 +1,5 @@
 //! One actor, and its commands carried out.
-ghost use Rattle.std.specs.Prelude.{◌≡◌, [], List, ℕ, length, option_copied};
+ghost use Rattle.std.specs.Prelude.{◌≡◌, [], List, ℕ, false, length, option_copied};
 ghost use Rattle.std.specs.Option.{option_map};
 ghost use Rattle.th_registry.specs.Hub.{Find};
 ghost use Rattle.th_session.specs.Held.{Holding, handles_at, held};
@@ -69,6 +69,7 @@ fn on_topic<D: Desk>(
     handles: &mut ByNumber<Handles<D::Tx, D::Rx>>,
     receipts: &mut Vec<(TopicId, TopicReceipt)>,
     desk: &mut D,
+    owed: &mut D::Owed,
     name: &NameRef<'_>,
     action: Action,
 ) -> Answer
@@ -83,7 +84,7 @@ fn on_topic<D: Desk>(
     if !is_for(found.kind, &action) {
         return Answer::Reply(Reply::Refused(Code::WrongKind));
     }
-    act(handles, receipts, desk, found.topic, action)
+    act(handles, receipts, desk, owed, found.topic, action)
 }
 
 // The trace of the topic of this name. There is room for its segment before the desk hands it out.
@@ -116,9 +117,11 @@ fn trace<D: Desk>(
 fn wait<D: Desk>(
     handles: &mut ByNumber<Handles<D::Tx, D::Rx>>,
     desk: &mut D,
+    owed: &D::Owed,
     topic: TopicId,
     longest: Duration,
 ) -> bool
+    requires paid { D.owes owed.now ≡ false }
     ensures held { held D.tx D.rx handles.new.entries ≡ held D.tx D.rx handles.old.entries }
     ensures desk { desk.new ≡ desk.old }
 {
@@ -128,7 +131,7 @@ fn wait<D: Desk>(
     let Some(receiver) = &mut own.receiver else {
         return true;
     };
-    desk.wait(topic, receiver, longest)
+    desk.wait(topic, receiver, longest, owed)
 }
 
 // Sends of these values by the actor's own sender of this topic, in a row: how many were sent.
@@ -269,9 +272,27 @@ impl<D: Desk> Session<D> {
     ///
     /// It costs one look-up of the topic's name, and a few of what is held on it, each at most the logarithm of the
     /// number of topics of which the actor once held a handle. A new handle moves the entries of those topics that were
-    /// opened later. Only a new handle, a segment, and what the desk does, takes memory.
+    /// opened later. Only a new handle, a segment, and what the desk does, takes memory. Who waits for it is woken.
     #[inline(always)]
     pub fn step(&mut self, desk: &mut D, command: Command<'_>) -> Answer
+        ensures { Tells result (λ answer.
+            IsStep D.says self.old desk.old command.entry answer self.new desk.new) }
+    {
+        let mut owed = desk.owing_nothing();
+        let answer = self.step_owing(desk, &mut owed, command);
+        desk.wake(&mut owed);
+        D::close(owed);
+        answer
+    }
+
+    /// The same, after which somebody may be owed a wake.
+    #[inline(always)]
+    pub(crate) fn step_owing(
+        &mut self,
+        desk: &mut D,
+        owed: &mut D::Owed,
+        command: Command<'_>,
+    ) -> Answer
         ensures { Tells result (λ answer.
             IsStep D.says self.old desk.old command.entry answer self.new desk.new) }
     {
@@ -280,7 +301,14 @@ impl<D: Desk> Session<D> {
                 Answer::Reply(replied_opening(desk.open_topic(name, making)))
             }
             Command::On(name, action) => {
-                on_topic(&mut self.handles, &mut self.receipts, desk, &name, action)
+                on_topic(
+                    &mut self.handles,
+                    &mut self.receipts,
+                    desk,
+                    owed,
+                    &name,
+                    action,
+                )
             }
             Command::Trace(name) => trace(&mut self.segments, desk, &name),
             Command::List => Answer::Reply(replied_list(desk.list())),
@@ -356,7 +384,14 @@ impl<D: Desk> Session<D> {
     }
 
     /// Waits until this command, that waits, has its answer, but no longer than so: whether it has.
-    pub(crate) fn wait(&mut self, desk: &mut D, command: &Command<'_>, longest: Duration) -> bool
+    pub(crate) fn wait(
+        &mut self,
+        desk: &mut D,
+        owed: &D::Owed,
+        command: &Command<'_>,
+        longest: Duration,
+    ) -> bool
+        requires paid { D.owes owed.now ≡ false }
         ensures session { self.new ≡ self.old }
         ensures desk { desk.new ≡ desk.old }
     {
@@ -369,7 +404,7 @@ impl<D: Desk> Session<D> {
         if !is_for(found.kind, action) {
             return true;
         }
-        wait(&mut self.handles, desk, found.topic, longest)
+        wait(&mut self.handles, desk, owed, found.topic, longest)
     }
 
     /// Sends these values to the broadcast topic of this name, in a row, from the first one on: how many were sent, whose receipts

@@ -1,9 +1,9 @@
 //! The desk that threads share.
 
-ghost use Rattle.std.specs.Prelude.{◌≡◌, false, is_some, true, IfOk};
+ghost use Rattle.std.specs.Prelude.{◌≡◌, false, is_some, true, IfOk, OnOk};
 ghost use Rattle.std.specs.Arc.{arc_value};
 
-use crate::deferred_wake::{DeferredWake, defer, is_deferred, wake};
+use crate::deferred_wake::Owed;
 use crate::ended::{Ended, end_of};
 use crate::handles::{TopicReceiver, TopicSender};
 use crate::histories::{Histories, divide, name_of};
@@ -12,7 +12,7 @@ use crate::rows::Rooms;
 use crate::shared_topics::SharedTopics;
 use crate::shares::Shares;
 use crate::topic_cache::TopicCache;
-use crate::{rows, told};
+use crate::{rows, sending, told};
 use std::alloc::Global;
 use std::collections::VecDeque;
 use std::marker::Model;
@@ -34,8 +34,8 @@ use th_seats::Share;
 /// one by the hub's own sender the lock of the topics too; `list`, `open_topic` and `find` take the latter alone, but that
 /// `find` takes none for a topic of which this desk had a handle made. Neither is held while a receiver waits.
 ///
-/// An event of a sender wakes nobody before `wake`, but for those of `send_row`, which wakes once. The desk wakes too before it
-/// waits, before it goes to another channel, and where it is given up (`into_shares`, `finish`).
+/// An event of a sender wakes nobody before `wake`, but for those of `send_row`, which wakes once: who waits at its topic is owed
+/// one. Events of another topic wake who was owed one before.
 #[derive(Drop)]
 pub struct SharedDesk<R: Wait + Clone> {
     // By which it waits.
@@ -43,8 +43,6 @@ pub struct SharedDesk<R: Wait + Clone> {
     hub: Arc<SharedTopics>,
     // Of the handles that were made through this desk.
     shares: Shares,
-    // The topic of which it made events that woke nobody yet.
-    deferred: Option<DeferredWake>,
     // Topics that it finds without their lock.
     cache: TopicCache,
     // Room for the receipts of a row.
@@ -119,7 +117,6 @@ impl<R: Wait + Clone> SharedDesk<R> {
             rt,
             hub,
             shares,
-            deferred: None,
             cache: TopicCache::new(alloc),
             rooms: Rooms::new(alloc),
         }
@@ -156,8 +153,7 @@ impl<R: Wait + Clone> SharedDesk<R> {
     }
 
     /// The shares of the handles that were spent through this desk, once nothing more is asked at it.
-    pub fn into_shares(mut self) -> Vec<(TopicId, Share)> {
-        wake(&self.rt, &mut self.deferred);
+    pub fn into_shares(self) -> Vec<(TopicId, Share)> {
         let SharedDesk { shares, .. } = self;
         shares.into_vec()
     }
@@ -181,7 +177,6 @@ impl<R: Wait + Clone> SharedDesk<R> {
         mut self,
         alloc: Global,
     ) -> Result<(Vec<Ended>, Vec<(TopicId, Share)>), SharedDesk<R>> {
-        wake(&self.rt, &mut self.deferred);
         let Some(mut list) = self.room_for_ends(alloc) else {
             return Err(self);
         };
@@ -189,7 +184,6 @@ impl<R: Wait + Clone> SharedDesk<R> {
             rt,
             hub,
             shares,
-            deferred,
             cache,
             rooms,
         } = self;
@@ -205,7 +199,6 @@ impl<R: Wait + Clone> SharedDesk<R> {
                 rt,
                 hub,
                 shares,
-                deferred,
                 cache,
                 rooms,
             }),
@@ -213,25 +206,10 @@ impl<R: Wait + Clone> SharedDesk<R> {
     }
 }
 
-// What a sender's event is to those who wait: they are woken later.
-#[inline(always)]
-fn deferred_after<R: Wait>(
-    rt: &R,
-    deferred: &mut Option<DeferredWake>,
-    topic: TopicId,
-    sender: &TopicSender,
-    said: &Result<TopicReceipt, NoEvent>,
-) {
-    if said.is_ok() && !is_deferred(deferred, topic) {
-        if let Ok(owner) = told::owner_of(sender) {
-            defer(rt, deferred, topic, owner);
-        }
-    }
-}
-
 impl<R: Wait + Clock + Clone> Desk for SharedDesk<R> {
     ghost use Rattle.std.specs.Option.{option_map};
     ghost use Rattle.std.specs.Prelude.{IfErr};
+    ghost use Rattle.th_registry.specs.Calls.{waits};
     ghost use Rattle.th_registry.specs.Events.{Asks, DropsRx, DropsTx, Own, Receives, Resubscribes, Sends, Subscribes, any_sender};
     ghost use Rattle.th_registry.specs.Hub.{On};
     ghost use Rattle.th_registry.specs.Typed.{made_rx, replied, spent};
@@ -246,6 +224,10 @@ impl<R: Wait + Clock + Clone> Desk for SharedDesk<R> {
     type Tx = TopicSender;
 
     type Rx = TopicReceiver;
+
+    type Owed = Owed;
+
+    ghost owes = { λ owed. owed };
 
     ghost tx = { tx_of };
 
@@ -333,22 +315,18 @@ impl<R: Wait + Clock + Clone> Desk for SharedDesk<R> {
         topic: TopicId,
         sender: &mut TopicSender,
         verb: SenderVerb<Value>,
+        owed: &mut Owed,
     ) -> Result<TopicReceipt, NoEvent>
         ensures event { let event = Sends (tx_of sender.old) verb in
             Says self.old (On topic.0 event) (replied result) self.new }
         ensures sender { tx_of sender.new ≡ tx_of sender.old }
         ensures does { let event = Sends (tx_of sender.old) verb in
             Does topic.0 event sender.old sender.new (replied result) }
+        ensures owed { OnOk result (owed.new ≡ true) }
     {
-        let SharedDesk {
-            rt,
-            hub,
-            deferred,
-            ..
-        } = self;
-        let mut said = told::send(rt, topic, sender, verb);
+        let SharedDesk { rt, hub, .. } = self;
+        let mut said = sending::send(rt, topic, sender, verb, owed);
         hub.tell(&mut said);
-        deferred_after(rt, deferred, topic, sender, &said);
         said
     }
 
@@ -382,23 +360,16 @@ impl<R: Wait + Clock + Clone> Desk for SharedDesk<R> {
         topic: TopicId,
         receiver: &mut TopicReceiver,
         verb: ReceiverVerb,
+        _owed: &Owed,
     ) -> Result<TopicReceipt, NoEvent>
+        requires paid { waits verb ≡ true → _owed.now ≡ false }
         ensures event { let event = Receives (rx_of receiver.old) verb in
             Says self.old (On topic.0 event) (replied result) self.new }
         ensures receiver { rx_of receiver.new ≡ rx_of receiver.old }
         ensures does { let event = Receives (rx_of receiver.old) verb in
             ReceiverDoes topic.0 event receiver.old receiver.new (replied result) }
     {
-        let SharedDesk {
-            rt,
-            hub,
-            deferred,
-            ..
-        } = self;
-        match verb {
-            ReceiverVerb::Recv | ReceiverVerb::Changed => wake(rt, deferred),
-            _ => {}
-        }
+        let SharedDesk { rt, hub, .. } = self;
         let mut said = match receiver {
             TopicReceiver::Live(receiver) => told::receive(rt, topic, receiver, verb),
             TopicReceiver::Spent(_) => Err(NoEvent::NotLive),
@@ -505,9 +476,16 @@ impl<R: Wait + Clock + Clone> Desk for SharedDesk<R> {
         }
     }
 
-    fn wake(&mut self) {
-        let SharedDesk { rt, deferred, .. } = self;
-        wake(rt, deferred);
+    fn owing_nothing(&self) -> Owed {
+        Owed::nothing()
+    }
+
+    fn wake(&mut self, owed: &mut Owed) {
+        owed.pay(&self.rt);
+    }
+
+    fn close(owed: Owed) {
+        owed.close();
     }
 
     fn would_wait(&self, _topic: TopicId, receiver: &TopicReceiver, verb: ReceiverVerb) -> bool {
@@ -520,13 +498,19 @@ impl<R: Wait + Clock + Clone> Desk for SharedDesk<R> {
         }
     }
 
-    fn wait(&mut self, topic: TopicId, receiver: &mut TopicReceiver, longest: Duration) -> bool
+    fn wait(
+        &mut self,
+        _topic: TopicId,
+        receiver: &mut TopicReceiver,
+        longest: Duration,
+        _owed: &Owed,
+    ) -> bool
+        requires paid { _owed.now ≡ false }
         ensures desk { self.new ≡ self.old }
         ensures receiver { rx_of receiver.new ≡ rx_of receiver.old }
         ensures same { receiver.new ≡ receiver.old }
     {
-        let SharedDesk { rt, deferred, .. } = self;
-        wake(rt, deferred);
+        let SharedDesk { rt, .. } = self;
         match receiver {
             TopicReceiver::Live(Channel::Broadcast(receiver)) => {
                 receiver.wait_for(rt, &BCall::Recv(RxId(receiver.number())), longest)

@@ -1,7 +1,8 @@
-use Rattle.std.proofs.Common.{◌≡◌, Some, refl, sym, ap, ◌∙◌}
+use Rattle.std.proofs.Common.{◌≡◌, Some, refl, sym, ap, subst, ◌∙◌}
 use Rattle.th_model.specs.declared.handles.RxId.{RxId}
 use Rattle.th_lines.specs.declared.command.Action.TheVariants.{ByReceiver}
 use Rattle.th_registry.specs.Events.{Event, Receives}
+use Rattle.th_registry.specs.Hub.{On}
 use Rattle.th_registry.specs.Typed.{replied}
 use Rattle.th_lines.specs.declared.reply.Code.TheVariants as Codes
 use Rattle.th_lines.specs.declared.reply.Reply.TheVariants.{Refused}
@@ -64,13 +65,15 @@ returns g c =
     let holds : c.in-Some.own.now.receiver ≡ Some c.in-Some-receiver.receiver = c.in-Some-receiver.is in
     let kept = receiver-kept g.D.Desk.tx g.D.Desk.rx c.in-Some.own.now _ c.by_receiver-told.new.receiver holds
     c.by_receiver-told.ensures.receiver in
-    let answer = answered c.args.topic.0 (replied c.by_receiver-told.result) in (
+    let answer = answered c.args.topic.0 (replied c.by_receiver-told.result) in
+    let made = subst (λ (d : g.row.D.Denot). g.D.Desk.says d (On c.args.topic.0 (event (g.D.Desk.rx c.in-Some-receiver.receiver)))
+    (replied c.by_receiver-told.result) c.by_receiver-told.new.self) c.pay_if.ensures.desk c.by_receiver-told.ensures.event in (
       answer,
       c.note.ensures.0,
       (
         plays-by g.D.Desk.says (ByReceiver c.args.verb) c.args.topic.0 _ _ (replied c.by_receiver-told.result) _ _
             (receiver-own g.D.Desk.tx g.D.Desk.rx event c.args.handles.now.entries c.args.topic.0 _ _ at holds)
-            c.by_receiver-told.ensures.event refl
+            made refl
             (held-set g.D.Desk.tx g.D.Desk.rx c.args.handles.now.entries _ c.args.topic.0 c.in-Some.own.now _ at
             refl
             kept),

@@ -27,7 +27,7 @@ returns-clause-served g c =
     let old : Devices = devices g.R.Read.remaining c.args.reader.now g.W.Write.contents c.args.writer.now in
     let new : Devices = devices g.R.Read.remaining c.go-fault.new.reader g.W.Write.contents c.go-fault.new.writer in
     let last : Kept × g.row.D.Denot = (c.go-fault.new.self.kept, c.go-fault.new.desk) in
-    let kept = c.into_session-session.ensures in
+    let kept = c.into_parts-session.ensures in
     let end = c.spend_all.ensures in
     let Gated : Type 0 = g.row.G.Denot × ℕ in
     let strict : Gated → Strictness = strictness g.G.Gate.holds_back g.G.Gate.lets g.G.Gate.gives_up in
@@ -36,7 +36,7 @@ returns-clause-served g c =
     let limit : c.in-Ok.feeder.limit ≡ c.args.bounds.lines = ap (λ (f : Feeding). f.limit) c.in-Ok.ensures in
     let ran : Keeping → Gated → ℕ → Type 0 =
     λ k s n. Ran k says (strict s) n c.args.bounds.reads old new c.args.desk.now last c.go-fault.result in
-    rw c.wake.ensures (record {
+    rw c.wake.ensures.desk (record {
       last = last;
       ran = subst (λ (n : ℕ). ran c.args.keeping (c.args.gate.now, c.args.number) n) limit
           (subst (λ (s : Gated). ran c.args.keeping s c.in-Ok.feeder.limit) gate

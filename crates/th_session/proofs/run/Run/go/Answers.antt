@@ -8,7 +8,7 @@ use Rattle.th_lines.proofs.AnsweringLemmas.{answers_none}
 use Rattle.th_session.specs.declared.fault.SessionFault.{SessionFault}
 use Rattle.th_session.specs.declared.fault.SessionFault.TheVariants.{Write}
 use Rattle.th_session.specs.Ending.{Devices, devices}
-use Rattle.th_session.specs.Run.{Progress, IsOver, Ran, Took, beginning, fault_by, may_wait, strictness, writer_failures}
+use Rattle.th_session.specs.Run.{Progress, IsOver, IsSettled, Ran, Took, beginning, fault_by, may_wait, strictness, writer_failures}
 use Rattle.th_session.proofs.Letting.{none_let}
 use Rattle.th_session.proofs.Running.{ends_at_once, ends_broken, ends_written}
 use Rattle.th_session.proofs.run.Run.go.Goals.{in-Ok, in-Err}
@@ -33,7 +33,7 @@ returns-then-not-may_wait-clause-ran g c =
     let few : f.taken ≤ f.limit = omega (arith, c.taken-taken.ensures.taken, c.taken-taken.ensures.within) in
     let spent = kept_count c.feed-fed.new.reader.calls ≡ kept_count (c.args.reader.now.calls + c.args.reads) in
     let s = subst (λ (k : Run). took (stood k) [] (stood k) → Stands took over old.remaining new.remaining (stood k)
-    (λ p. p.0.waiting ≡ []) spent c.args.reads c.feed-fed.result f now) c.requires.run c.feed-fed.ensures.fed
+    IsSettled spent c.args.reads c.feed-fed.result f now) c.requires.run c.feed-fed.ensures.fed
     (refl, refl, none_let (strict gate) 0, answers_none _) in
     let e : fault_by c.feed-fed.result ≡ c.fault_by-fault.result = sym c.fault_by-fault.ensures.fault in
     let P : ℕ → Option SessionFault → Type 0 = λ n fault.
@@ -60,15 +60,15 @@ returns-clause-ran g c =
     let new : Devices = devices g.R.Read.remaining c.feed-fed.new.reader contents c.settle.new.writer in
     let f = c.feed-fed.new.self in
     let i = c.self.inside in
-    let at : Run = record { kept = i.session; waiting = i.replies.text; gate = i.replies.gate; keeping = i.keeping } in
+    let at : Run = record { kept = i.session; waiting = i.replies.text; gate = i.replies.gate; keeping = i.keeping; owes = g.D.Desk.owes i.owed } in
     let now : Standing = (at, c.feed-fed.new.desk, c.feed-fed.new.writer) in
     let few : f.taken ≤ f.limit = omega (arith, c.taken-taken.ensures.taken, c.taken-taken.ensures.within) in
     let spent = kept_count c.feed-fed.new.reader.calls ≡ kept_count (c.args.reader.now.calls + c.args.reads) in
     let fed = subst (λ (k : Run). took (stood k) [] (stood k) → Stands took over old.remaining new.remaining (stood k)
-    (λ p. p.0.waiting ≡ []) spent c.args.reads c.feed-fed.result f (c.feed-fed.new.taker, c.feed-fed.new.desk, c.feed-fed.new.writer))
+    IsSettled spent c.args.reads c.feed-fed.result f (c.feed-fed.new.taker, c.feed-fed.new.desk, c.feed-fed.new.writer))
     c.requires.run c.feed-fed.ensures.fed (refl, refl, none_let (strict gate) 0, answers_none _) in
     let s = subst (λ (k : Run). Stands took over old.remaining new.remaining (stood (beginning keeping gate))
-    (λ p. p.0.waiting ≡ []) spent c.args.reads c.feed-fed.result f (k, c.feed-fed.new.desk, c.feed-fed.new.writer)) (sym c.self.view_is) fed in
+    IsSettled spent c.args.reads c.feed-fed.result f (k, c.feed-fed.new.desk, c.feed-fed.new.writer)) (sym c.self.view_is) fed in
     let e : fault_by c.feed-fed.result ≡ c.fault_by-fault.result = sym c.fault_by-fault.ensures.fault in
     let wait : may_wait (fault_by c.feed-fed.result) ≡ true = ap may_wait e ∙ sym c.may_wait.ensures ∙ c.if-not-may_wait.false in
     let after : Output = output contents c.settle.new.writer c.settle.new.self.text in

@@ -6,7 +6,7 @@ use Rattle.th_session.specs.Held.{Holding, held}
 use Rattle.th_session.specs.Kept.{Kept, with_receipt, with_segment}
 use Rattle.th_session.specs.Script.{Plays, Replied, script}
 use Rattle.th_session.proofs.Telling.{no-receipt, no-segment}
-use Rattle.th_session.proofs.session.Session.step.Goals as goal
+use Rattle.th_session.proofs.session.Session.step_owing.Goals as goal
 
 pub returns-in-Open : goal.returns-in-Open
 returns-in-Open g c =
