@@ -1,8 +1,6 @@
 -- What is said of an event, by what the call of a handle came to.
-use Rattle.std.proofs.Common.{◌≡◌, ℕ, ◌≤◌, ◌<◌, true, false, is_some, List, [], Option, Some, None, Result, Ok, Err, IfOk, refl, sym, ap, subst, ◌∙◌, inl, inr, arith}
-use Rattle.std.proofs.lemmas.Bool.{false≢true}
-use Rattle.th_block.specs.Handles.{Holder, Known, seen_of}
-use Rattle.th_log.specs.Outcome.{Told}
+use Rattle.std.proofs.Common.{◌≡◌, ℕ, false, is_some, Option, Some, None, Result, Ok, Err, refl, sym, ap, subst, inl, inr}
+use Rattle.th_block.specs.Handles.{Holder}
 use Rattle.th_model.specs.declared.kind.Kind.TheVariants as Kinds
 use Rattle.th_model.specs.declared.handles.RxId.{RxId}
 use Rattle.th_model.specs.declared.broadcast.BCall.{BCall}
@@ -16,16 +14,15 @@ use Rattle.th_model.specs.declared.watch.WReply.TheVariants as WReplies
 use Rattle.th_registry.specs.declared.channel.Channel.TheVariants.{Broadcast, Watch}
 use Rattle.th_registry.specs.declared.outcome.NoEvent.{NoEvent}
 use Rattle.th_registry.specs.declared.outcome.NoEvent.TheVariants.{NoTopic, WrongKind, NoSender, NotLive, Blocked, LogFull, Short}
-use Rattle.th_registry.specs.Calls.{Bytes, tx}
-use Rattle.th_registry.specs.Events.{By, DropsRx, DropsTx, Ended, Event, EventResult, Hub, broadcast_call, broadcast_outcome, ended_or, is_broadcast_done, is_by_hub, is_end, is_watch_done, sender_of, watch_call, watch_outcome}
-use Rattle.th_registry.specs.Typed.{ended}
+use Rattle.th_registry.specs.Calls.{Bytes}
+use Rattle.th_registry.specs.Events.{By, DropsRx, DropsTx, Ended, Event, broadcast_call, broadcast_outcome, ended_or, is_broadcast_done, is_by_hub, is_end, is_watch_done, sender_of, watch_call, watch_outcome}
 use Rattle.th_registry.specs.Hub.{Noted, On}
-use Rattle.th_registry.specs.Receipts.{BroadcastReceipt, ChannelReceipt, WatchReceipt}
+use Rattle.th_registry.specs.Receipts.{BroadcastReceipt, WatchReceipt}
 use Rattle.th_seats.specs.Tally.{Part}
 use Rattle.th_shared.specs.declared.handles.TopicReceiver.{TopicReceiver}
 use Rattle.th_shared.specs.declared.handles.TopicReceiver.TheVariants.{Live, Spent}
 use Rattle.th_shared.specs.Doing.{Declines, Does, Enters, HasEnded, Moves, ReceiverMoves, TellsKind, noted_of}
-use Rattle.th_shared.specs.Saying.{AtHub, IsOf, MayRefuse, MaySay, Notes, Says}
+use Rattle.th_shared.specs.Saying.{MayRefuse, MaySay}
 
 -- of an event by a handle that stays
 module _ (n : ℕ) (e : Event) (own : is_by_hub e ≡ false) (stays : is_end e ≡ false) where
@@ -66,48 +63,52 @@ module _ (n : ℕ) (e : Event) (own : is_by_hub e ≡ false) (stays : is_end e �
   watch-kind Short there = there
 
   module _ (old new : Holder) (same : new.number ≡ old.number) where
-    back : new.known ≡ old.known → new ≡ old
-    back known = ap (λ (i : ℕ). record { number = i; known = new.known }) same
-        ∙ ap (λ (k : Known). record { number = old.number; known = k }) known
-
-    broadcast-did : (said : Result BroadcastReceipt NoEvent) → Enters n (broadcast_call e) old.known new.known said →
+    broadcast-did : (said : Result BroadcastReceipt NoEvent) → Enters n (broadcast_call e) old new said →
         Does n e (Broadcast old) (Broadcast new) (noted_of (broadcast_outcome e) (λ r. Broadcast r) said)
     broadcast-did (Ok r) enters = record {
       says = ((enters.0, refl), stays);
       kind = ap is_some enters.0.0;
+      full = tt;
       number = same;
+      rolls = enters.2;
       knows = enters.1;
     }
     broadcast-did (Err why) enters = record {
       says = (refl, broadcast-refuses why enters.0);
       kind = broadcast-kind why enters.0;
+      full = enters.2;
       number = same;
-      knows = ap (λ (h : Holder). Broadcast h) (back enters.1);
+      rolls = ap (λ (h : Holder). h.rolls) enters.1;
+      knows = ap (λ (h : Holder). Broadcast h) enters.1;
     }
 
     pub broadcast-does : (said : Result BroadcastReceipt NoEvent) (noted : Noted) →
         noted ≡ noted_of (broadcast_outcome e) (λ r. Broadcast r) said →
-        Enters n (broadcast_call e) old.known new.known said → Does n e (Broadcast old) (Broadcast new) noted
+        Enters n (broadcast_call e) old new said → Does n e (Broadcast old) (Broadcast new) noted
     broadcast-does said noted is enters = subst (Does n e (Broadcast old) (Broadcast new)) (sym is) (broadcast-did said enters)
 
-    watch-did : (said : Result WatchReceipt NoEvent) → Enters n (watch_call e) old.known new.known said →
+    watch-did : (said : Result WatchReceipt NoEvent) → Enters n (watch_call e) old new said →
         Does n e (Watch old) (Watch new) (noted_of (watch_outcome e) (λ r. Watch r) said)
     watch-did (Ok r) enters = record {
       says = ((enters.0, refl), stays);
       kind = ap is_some enters.0.0;
+      full = tt;
       number = same;
+      rolls = enters.2;
       knows = enters.1;
     }
     watch-did (Err why) enters = record {
       says = (refl, watch-refuses why enters.0);
       kind = watch-kind why enters.0;
+      full = enters.2;
       number = same;
-      knows = ap (λ (h : Holder). Watch h) (back enters.1);
+      rolls = ap (λ (h : Holder). h.rolls) enters.1;
+      knows = ap (λ (h : Holder). Watch h) enters.1;
     }
 
     pub watch-does : (said : Result WatchReceipt NoEvent) (noted : Noted) →
         noted ≡ noted_of (watch_outcome e) (λ r. Watch r) said →
-        Enters n (watch_call e) old.known new.known said → Does n e (Watch old) (Watch new) noted
+        Enters n (watch_call e) old new said → Does n e (Watch old) (Watch new) noted
     watch-does said noted is enters = subst (Does n e (Watch old) (Watch new)) (sym is) (watch-did said enters)
 
 -- what is left of a broadcast receiver, once another was asked for in its place
@@ -122,7 +123,7 @@ module _ {M : Type 0} (n : ℕ) (call : Option (BCall Bytes)) (old : Holder) whe
   moved None (r, Some h) (Some share) made moves = ((refl, moves.1), moves.2)
   moved None (r, Some h) None made moves = absurd moves
   moved None (r, None) share made moves = absurd moves
-  moved (Some left) (r, None) None made moves = (moves.1, moves.2)
+  moved (Some left) (r, None) None made moves = (moves.1, moves.3)
   moved (Some left) (r, None) (Some share) made moves = absurd moves
   moved (Some left) (r, Some h) share made moves = absurd moves
 
@@ -134,38 +135,18 @@ done-watch : (reply : WReply Bytes) → reply ≡ WReplies.Done → Ended ≡ en
 done-watch reply is = ap (λ (r : WReply Bytes). ended_or (is_watch_done r) (Watch r)) (sym is)
 
 module _ (n : ℕ) where
-  pub ends-broadcast-tx : (by : By) → HasEnded {C = BCall Bytes} {R = BReply Bytes} n (BCalls.DropTx (sender_of by)) BReplies.Done → MaySay (On n (DropsTx by)) (Ok Ended, None)
+  pub ends-broadcast-tx : (by : By) → HasEnded {C = BCall Bytes} {R = BReply Bytes} n (BCalls.DropTx
+      (sender_of by)) BReplies.Done → MaySay (On n (DropsTx by)) (Ok Ended, None)
   ends-broadcast-tx by h = (Broadcast h.0, (h.1, done-broadcast h.0.reply h.2), refl)
 
-  pub ends-watch-tx : (by : By) → HasEnded {C = WCall Bytes} {R = WReply Bytes} n (WCalls.DropTx (sender_of by)) WReplies.Done → MaySay (On n (DropsTx by)) (Ok Ended, None)
+  pub ends-watch-tx : (by : By) → HasEnded {C = WCall Bytes} {R = WReply Bytes} n (WCalls.DropTx (sender_of by)) WReplies.Done → MaySay
+      (On n (DropsTx by)) (Ok Ended, None)
   ends-watch-tx by h = (Watch h.0, (h.1, done-watch h.0.reply h.2), refl)
 
-  pub ends-broadcast-rx : (r : RxId) → HasEnded {C = BCall Bytes} {R = BReply Bytes} n (BCalls.DropRx r) BReplies.Done → MaySay (On n (DropsRx r)) (Ok Ended, None)
+  pub ends-broadcast-rx : (r : RxId) → HasEnded {C = BCall Bytes} {R = BReply Bytes} n (BCalls.DropRx r) BReplies.Done → MaySay (On n
+      (DropsRx r)) (Ok Ended, None)
   ends-broadcast-rx r h = (Broadcast h.0, (h.1, done-broadcast h.0.reply h.2), refl)
 
-  pub ends-watch-rx : (r : RxId) → HasEnded {C = WCall Bytes} {R = WReply Bytes} n (WCalls.DropRx r) WReplies.Done → MaySay (On n (DropsRx r)) (Ok Ended, None)
+  pub ends-watch-rx : (r : RxId) → HasEnded {C = WCall Bytes} {R = WReply Bytes} n (WCalls.DropRx r) WReplies.Done → MaySay (On n
+      (DropsRx r)) (Ok Ended, None)
   ends-watch-rx r h = (Watch h.0, (h.1, done-watch h.0.reply h.2), refl)
-
--- the end of a handle is never refused because a log is full
-abbrev is-full : EventResult → Type 0
-is-full (Err LogFull) = Unit {0}
-is-full said = ⊥
-
-module _ (n : ℕ) (e : Event) (ends : is_end e ≡ true) where
-  ends-with-room : (said : EventResult) (receipt : Option ChannelReceipt) → Notes n e said receipt → is-full said → ⊥
-  ends-with-room (Ok outcome) receipt notes full = full
-  ends-with-room (Err NoTopic) receipt notes full = full
-  ends-with-room (Err WrongKind) receipt notes full = full
-  ends-with-room (Err NoSender) receipt notes full = full
-  ends-with-room (Err NotLive) receipt notes full = full
-  ends-with-room (Err Blocked) receipt notes full = full
-  ends-with-room (Err LogFull) receipt notes full = false≢true (sym notes.1 ∙ ends)
-  ends-with-room (Err Short) receipt notes full = full
-
-  pub says-ended : (old new : AtHub) (said : Result (Unit {0}) NoEvent) → new ≡ old → MaySay (On n e) (ended said) →
-      Says old (On n e) (ended said) new
-  says-ended old new said same may = record {
-    hub = same;
-    may = may;
-    full = λ _ is. ends-with-room (ended said).0 (ended said).1 may (subst is-full (sym is) tt);
-  }

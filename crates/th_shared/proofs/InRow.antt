@@ -1,8 +1,8 @@
 -- Events of a handle that were made in a row, as a desk says them.
-use Rattle.std.proofs.Common.{◌≡◌, ◌∙◌, inl, inr, ℕ, ◌+◌, ◌-◌, ◌≤◌, suc, zero, false, List, [], ◌∷◌, ◌++◌, length, map, Option, Some, Result, Ok, Err, refl, sym, ap, subst, append-nil, arith, length-append}
+use Rattle.std.proofs.Common.{◌≡◌, ◌∙◌, inl, inr, ℕ, ◌+◌, ◌≤◌, suc, zero, false, List, [], ◌∷◌, ◌++◌, length, map, Some, Result, Ok, Err, refl, sym, ap, subst, arith, length-append}
 use Rattle.std.proofs.lemmas.List.{length-map, map-append}
-use Rattle.th_block.specs.Handles.{Holder, Known, Tells, tx}
-use Rattle.th_block.specs.Rows.{CallsInRow, IsRow}
+use Rattle.th_block.specs.Handles.{Holder, Known, tx}
+use Rattle.th_block.specs.Rows.{IsRow}
 use Rattle.th_block.specs.Together.{AreOf, CallsOf, MakesEach}
 use Rattle.th_log.specs.declared.receipt.Refused.{Refused}
 use Rattle.th_model.specs.declared.broadcast.BCall.{BCall}
@@ -12,41 +12,32 @@ use Rattle.th_model.specs.declared.handles.TxId.{TxId}
 use Rattle.th_model.specs.declared.verb.SenderVerb.TheVariants.{Send}
 use Rattle.th_registry.specs.declared.channel.Channel.TheVariants.{Broadcast, Watch}
 use Rattle.th_registry.specs.declared.opening.TopicId.{TopicId}
-use Rattle.th_registry.specs.declared.outcome.NoEvent.{NoEvent}
 use Rattle.th_registry.specs.Calls.{Bytes}
-use Rattle.th_registry.specs.Events.{Event, EventResult, Outcome, Replied, Sends, broadcast_call, broadcast_outcome, is_end, watch_call, watch_outcome}
+use Rattle.th_registry.specs.Events.{Event, Replied, Sends, broadcast_call, broadcast_outcome, is_end, watch_call, watch_outcome}
 use Rattle.th_registry.specs.Hub.{On}
-use Rattle.th_registry.specs.Receipts.{BroadcastReceipt, ChannelReceipt, WatchReceipt, reply_in}
+use Rattle.th_registry.specs.Receipts.{BroadcastReceipt, ChannelReceipt, WatchReceipt}
 use Rattle.th_registry.specs.Rows.{InRow, MadeInRow, on_topic, sends_of, times}
 use Rattle.th_registry.specs.Typed.{replied}
-use Rattle.th_shared.specs.InRow.{CallsOnce, CallsTogether, SendsOnce, SendsTogether}
+use Rattle.th_shared.specs.InRow.{CallsOnce, SendsOnce}
 use Rattle.th_shared.specs.Saying.{AtHub, Says}
-
--- what is Ok is no refusal
-abbrev is_refused : EventResult → Type 0
-is_refused (Ok outcome) = ⊥
-is_refused (Err why) = Unit {0}
-
-ok_is_no_err : (outcome : Outcome) (why : NoEvent) → ◌≡◌ {A = EventResult} (Ok outcome) (Err why) → ⊥
-ok_is_no_err outcome why is = subst is_refused (sym is) tt
 
 -- one event of a broadcast topic, with its receipt, as a desk says it
 broadcast_said : (hub : AtHub) (n : ℕ) (e : Event) (r : BroadcastReceipt) → is_end e ≡ false →
     broadcast_call e ≡ Some r.call → r.key ≡ n + 1 → Replied (Broadcast r.reply) ≡ broadcast_outcome e r.reply →
     Says hub (On n e) (replied (Ok (Broadcast r))) hub
 broadcast_said hub n e r stays call key outcome = record {
-  hub = refl;
+  hub = (refl, refl, refl);
+  spent = λ _. refl;
   may = (((call, key), outcome), stays);
-  full = λ _ is. ok_is_no_err _ _ is;
 }
 
 watch_said : (hub : AtHub) (n : ℕ) (e : Event) (r : WatchReceipt) → is_end e ≡ false →
     watch_call e ≡ Some r.call → r.key ≡ n + 1 → Replied (Watch r.reply) ≡ watch_outcome e r.reply →
     Says hub (On n e) (replied (Ok (Watch r))) hub
 watch_said hub n e r stays call key outcome = record {
-  hub = refl;
+  hub = (refl, refl, refl);
+  spent = λ _. refl;
   may = (((call, key), outcome), stays);
-  full = λ _ is. ok_is_no_err _ _ is;
 }
 
 -- sends in a row

@@ -1,6 +1,10 @@
 pub mod ByHub
 pub mod Doing
-pub mod Named
-pub mod Opened
-pub mod Tables
+pub mod Ending
 pub mod InRow
+pub mod Keys
+pub mod Named
+pub mod NewHandles
+pub mod Opened
+pub mod Rolls
+pub mod Tables

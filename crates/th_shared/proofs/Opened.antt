@@ -59,7 +59,8 @@ module _ {B W : Type 0} where
   stay ts after same = ([], same ∙ with-none ts)
 
   -- a topic of the name is there
-  pub opens-there : (ts : Topics B W) (name : Bytes) (making : Making) → is_some (find ts name) ≡ true → Opens ts name making (Err Refusals.Exists) ts
+  pub opens-there : (ts : Topics B W) (name : Bytes) (making : Making) → is_some (find ts name) ≡ true → Opens ts name making
+      (Err Refusals.Exists) ts
   opens-there ts name making there = (
     (λ m. inl (ap (λ b. cond b (Err Refusals.Exists, rows ts) (added (rows ts) name (made m (length (rows ts) + 1) making)))
         (ap is_some (find-rows ts name) ∙ there))),
@@ -142,11 +143,13 @@ module _ (ts : Rows) (name : Bytes) (told : Option ℕ) where
   by-room true n c e = ap is_some (sym e)
   by-room false n c e = sym e
 
-  by-capacity : (x : Option (ℕ × Channel (Unit {0}) (Unit {0}))) → option_map (λ (p : ℕ × Channel (Unit {0}) (Unit {0})). p.0) x ≡ told → IsOpened told (added ts name x).0
+  by-capacity : (x : Option (ℕ × Channel (Unit {0}) (Unit {0}))) → option_map (λ (p : ℕ × Channel (Unit {0})
+      (Unit {0})). p.0) x ≡ told → IsOpened told (added ts name x).0
   by-capacity None e = sym e
   by-capacity (Some made) e = by-room (nat_le most_topics (length ts)) made.0 made.1 e
 
-  by-name : (b : Bool) (x : Option (ℕ × Channel (Unit {0}) (Unit {0}))) → option_map (λ (p : ℕ × Channel (Unit {0}) (Unit {0})). p.0) x ≡ told →
+  by-name : (b : Bool) (x : Option (ℕ × Channel (Unit {0}) (Unit {0}))) → option_map (λ (p : ℕ × Channel (Unit {0})
+      (Unit {0})). p.0) x ≡ told →
       IsOpened told (cond {A = Result ℕ Refusal × Rows} b (Err Refusals.Exists, ts) (added ts name x)).0
   by-name true x e = tt
   by-name false x e = by-capacity x e

@@ -1,5 +1,5 @@
 -- What goes through the hub's own sender of a topic, as the functions say that are lent the topics under their lock.
-use Rattle.std.specs.Prelude.{◌≡◌, ℕ, Bool, true, false, is_some, Option, Some, None, IsSome, Result, Ok, Err, MatchOption}
+use Rattle.std.specs.Prelude.{◌≡◌, ℕ, Bool, true, false, is_some, Option, Some, None, IsSome, Result, Ok, Err, IfSome, MatchOption}
 use Rattle.th_block.specs.Handles.{Known}
 use Rattle.th_log.specs.Outcome.{Told, counted}
 use Rattle.th_model.specs.declared.broadcast.BCall.{BCall}
@@ -20,7 +20,7 @@ use Rattle.th_registry.specs.Hub.{Noted}
 use Rattle.th_registry.specs.Receipts.{BroadcastReceipt, WatchReceipt}
 use Rattle.th_registry.specs.Typed.{ended}
 use Rattle.th_seats.specs.Tally.{Part}
-use Rattle.th_shared.specs.Doing.{HasEnded, HasMade, noted_of}
+use Rattle.th_shared.specs.Doing.{HasEnded, HasMade, IsFullAsSeen, noted_of}
 use Rattle.th_shared.specs.OwnSender.{OwnSender}
 use Rattle.th_shared.specs.Saying.{IsOf}
 
@@ -34,8 +34,8 @@ DeclinesHub call there Short = IsSome call × (there ≡ true)
 DeclinesHub call there why = ⊥
 
 -- the hub's own sender, once it has ended with this share
-abbrev pub ended_with : Part → OwnSender
-ended_with share = record { live = None; share = Some share }
+abbrev pub ended_with : (rolls : Bool) → Part → OwnSender
+ended_with rolls share = record { live = None; share = Some share; rolls = rolls }
 
 module _ {C R : Type 0} where
   -- the hub's own sender has made the event of this receipt, and stays
@@ -47,16 +47,18 @@ module _ {C R : Type 0} where
   abbrev pub EntersHub : ℕ → Option C → (old new : OwnSender) → Result (Told C R) NoEvent → Type 0
   EntersHub n call old new (Ok r) =
       IsOf n call r × OwnMade old.live new.live r × (new.share ≡ old.share)
+      × (new.rolls ≡ old.rolls)
   EntersHub n call old new (Err why) = DeclinesHub call (is_some old.live) why × (new ≡ old)
+      × IfSome old.live (λ own. IsFullAsSeen old.rolls own why)
 
   -- The last event of the hub's own sender, which is answered so: its share stays, with one event more. Or it has ended before,
   -- and nothing changes; one that its channel does not know ends with the share that it has.
   abbrev pub EndsHub : ℕ → C → (done : R) → (old new : OwnSender) → Result (Unit {0}) NoEvent
       → Type 0
   EndsHub n call done old new (Ok _) = MatchOption old.live ⊥ (λ own.
-      HasEnded n call done × (new ≡ ended_with (counted own.share)))
+      HasEnded n call done × (new ≡ ended_with old.rolls (counted own.share)))
   EndsHub n call done old new (Err why) = (why ≡ NoSender)
-      × MatchOption old.live (new ≡ old) (λ own. new ≡ ended_with own.share)
+      × MatchOption old.live (new ≡ old) (λ own. new ≡ ended_with old.rolls own.share)
 
 -- One event of a topic through its hub's own sender, or none: what its channel says to the call, as that is noted.
 abbrev pub TopicDoes : ℕ → Event → Noted → (old new : Channel OwnSender OwnSender) → Type 0

@@ -1,12 +1,16 @@
 -- Events of a handle that were made in a row, under one lock.
 use Rattle.std.specs.Prelude.{◌≡◌, ◌⊎◌, ℕ, ◌+◌, ◌≤◌, List, [], length, map, Option, Some}
-use Rattle.th_block.specs.Handles.{Holder, tx}
+use Rattle.th_block.specs.Handles.{Holder, rx, tx}
 use Rattle.th_block.specs.Rows.{CallsInRow}
 use Rattle.th_block.specs.Together.{CallsOf}
 use Rattle.th_model.specs.declared.broadcast.BCall.TheVariants as BCalls
+use Rattle.th_model.specs.declared.verb.ReceiverVerb.{ReceiverVerb}
 use Rattle.th_registry.specs.Calls.{Bytes}
-use Rattle.th_registry.specs.Receipts.{BroadcastReceipt, ChannelReceipt, Receipt}
+use Rattle.th_registry.specs.Events.{Receives, broadcast_call, watch_call}
+use Rattle.th_registry.specs.Receipts.{BroadcastReceipt, ChannelReceipt, Receipt, WatchReceipt}
 use Rattle.th_registry.specs.declared.channel.Channel.TheVariants.{Broadcast, Watch}
+use Rattle.th_shared.specs.declared.handles.TopicReceiver.{TopicReceiver}
+use Rattle.th_shared.specs.declared.handles.TopicReceiver.TheVariants.{Live}
 use Rattle.th_shared.specs.Numbers.{TopicHandle}
 
 -- Sends of these values on a topic, of the first ones, with these receipts: in a row, all of which the handle has seen now; its
@@ -42,3 +46,14 @@ abbrev pub SendsInRow : ℕ → List Bytes → (old new : TopicHandle) → List 
 SendsInRow n values (Broadcast old) (Broadcast new) told = (rs : List BroadcastReceipt)
     × (told ≡ map (λ r. Broadcast r) rs) × SendsOnce n values old new rs
 SendsInRow n values old new told = (told ≡ []) × (new ≡ old)
+
+-- what a row of receives did to a receiver that told of it by these receipts; one that was spent makes none
+abbrev pub ReceivesInRow : ℕ → ReceiverVerb → (most : ℕ) → (old new : TopicReceiver)
+    → List ChannelReceipt → Type 0
+ReceivesInRow n verb most (Live (Broadcast old)) (Live (Broadcast new)) told =
+    (rs : List BroadcastReceipt) × (told ≡ map (λ r. Broadcast r) rs)
+    × CallsOnce n (broadcast_call (Receives (rx old) verb)) most old new rs
+ReceivesInRow n verb most (Live (Watch old)) (Live (Watch new)) told =
+    (rs : List WatchReceipt) × (told ≡ map (λ r. Watch r) rs)
+    × CallsOnce n (watch_call (Receives (rx old) verb)) most old new rs
+ReceivesInRow n verb most old new told = (told ≡ []) × (new ≡ old)

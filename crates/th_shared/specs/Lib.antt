@@ -1,6 +1,9 @@
 pub mod ByHub
 pub mod Cache
 pub mod Doing
+pub mod Ending
+pub mod Kept
+pub mod Limits
 pub mod Numbers
 pub mod OwnSender
 pub mod Reasons

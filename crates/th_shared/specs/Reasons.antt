@@ -3,7 +3,7 @@ use Rattle.th_log.specs.declared.receipt.Refused.{Refused}
 use Rattle.th_log.specs.declared.receipt.Refused.TheVariants as Refuseds
 use Rattle.th_registry.specs.declared.outcome.NoEvent.{NoEvent}
 use Rattle.th_registry.specs.declared.outcome.NoEvent.TheVariants as NoEvents
-use Rattle.std.specs.Prelude.{Bool, true, Result, Ok, Err}
+use Rattle.std.specs.Prelude.{Result, Ok, Err}
 
 -- a log that says that a handle is foreign does not know it as live
 abbrev pub reason : {C : Type 0} → Refused C → NoEvent
@@ -20,13 +20,3 @@ hub_reason why = why
 abbrev pub through_hub : {A : Type 0} → Result A NoEvent → Result A NoEvent
 through_hub (Ok came) = Ok came
 through_hub (Err why) = Err (hub_reason why)
-
--- At a hub whose topics cut their histories by themselves, a log that is full is one that was just cut. So its channel is at the
--- end of its numbers: no cut helps, and that is want of room for good (docs/HISTORIES.md, "Histories that go on").
-abbrev pub at_hub : (rolls : Bool) → NoEvent → NoEvent
-at_hub true NoEvents.LogFull = NoEvents.Short
-at_hub rolls why = why
-
-abbrev pub told_at : {A : Type 0} → (rolls : Bool) → Result A NoEvent → Result A NoEvent
-told_at rolls (Ok came) = Ok came
-told_at rolls (Err why) = Err (at_hub rolls why)

@@ -56,3 +56,9 @@ module _ {B W : Type 0} where
   Owns None said = said ≡ Err NoEvents.NoTopic
   Owns (Some topic) (Ok owner) = kind_of owner ≡ kind_of topic.1
   Owns (Some topic) (Err why) = why ≡ NoEvents.Short
+
+  -- the name of this topic; or there is no such topic, or memory was refused
+  abbrev pub IsNamed : Option (Bytes × Channel B W) → Result Bytes NoEvent → Type 0
+  IsNamed None said = said ≡ Err NoEvents.NoTopic
+  IsNamed (Some topic) (Ok name) = name ≡ topic.0
+  IsNamed (Some topic) (Err why) = why ≡ NoEvents.Short

@@ -1,7 +1,7 @@
 -- What a desk may say that threads share. What other threads do in between cannot be seen at it, so nothing is said of
 -- the topics before and after; but each event is one on the topic that was named, and has its receipt (docs/HISTORIES.md).
-use Rattle.std.specs.Prelude.{◌≡◌, ◌≢◌, ℕ, ◌+◌, ◌⊎◌, Bool, true, false, Option, Some, None, IsSome, Result, Ok, Err, MatchOption, refl}
-use Rattle.std.specs.Coded.{Coded, code_by, coded×, coded_bool}
+use Rattle.std.specs.Prelude.{◌≡◌, ℕ, ◌+◌, ◌⊎◌, Bool, true, false, List, Option, Some, None, IsSome, Result, Ok, Err, MatchOption, refl}
+use Rattle.std.specs.Coded.{Coded, code_by, coded×, coded_bool, coded_list, coded_ℕ}
 use Rattle.std.specs.Option.{option_map}
 use denote.RawPtr.{Ptr, coded_ptr}
 use Rattle.th_block.specs.Handles.{Holder}
@@ -9,14 +9,16 @@ use Rattle.th_model.specs.declared.making.Making.{Making}
 use Rattle.th_registry.specs.declared.channel.Channel.TheVariants.{Broadcast, Watch}
 use Rattle.th_registry.specs.declared.opening.Refusal.{Refusal}
 use Rattle.th_registry.specs.declared.opening.Refusal.TheVariants as Refusals
+use Rattle.th_registry.specs.declared.opening.TopicId.{TopicId}
 use Rattle.th_registry.specs.declared.outcome.NoEvent.{NoEvent}
 use Rattle.th_registry.specs.declared.outcome.NoEvent.TheVariants.{NoTopic, WrongKind, NoSender, NotLive, Blocked, LogFull, Short}
-use Rattle.th_registry.specs.Events.{Event, Outcome, EventResult, broadcast_call, broadcast_outcome, is_by_hub, is_end, watch_call, watch_outcome}
+use Rattle.th_registry.specs.Events.{DropsRx, DropsTx, Event, Outcome, EventResult, Own, Resubscribes, broadcast_call, broadcast_outcome, is_by_hub, is_end, watch_call, watch_outcome}
 use Rattle.th_registry.specs.History.{ChannelSegment}
 use Rattle.th_registry.specs.Hub.{Query, Said, Find, Open, On, Cut, made}
 use Rattle.th_registry.specs.Legal.{IsLegalSegment}
 use Rattle.th_registry.specs.Pictures.{pictures}
 use Rattle.th_registry.specs.Receipts.{ChannelReceipt, Receipt}
+use Rattle.th_seats.specs.Tally.{Part, coded_part}
 
 -- a receipt of this call, on the topic of this number, whose channel has the next number as its key
 abbrev pub IsOf : {C R : Type 0} → ℕ → Option C → Receipt C R → Type 0
@@ -86,25 +88,41 @@ MaySay (Open name making) opened = IsOpened (told_of making) opened
 MaySay (On n e) noted = Notes n e noted.0 noted.1
 MaySay (Cut n) segment = IsCut n segment
 
--- what contracts see of a desk: which hub it is of, by where that one's seal lies, and whether its topics
--- cut their histories by themselves
+-- what contracts see of a desk: which hub it is of, by where that one's seal lies; whether its topics
+-- cut their histories by themselves; whether it keeps the shares of the handles that are spent at it,
+-- and those that it has, each with its topic
 pub record AtHub : Type 0 where
   pub seal : Ptr
   pub rolls : Bool
+  pub keeps : Bool
+  pub spent : List (TopicId × Part)
+
+abbrev pub coded_spent : Coded (TopicId × Part)
+coded_spent =
+    code_by (ℕ × Part) (coded× coded_ℕ coded_part) (λ s. (s.0.0, s.1))
+    (λ p. (record { 0 = p.0 }, p.1)) (λ _. refl)
 
 abbrev pub coded_at_hub : Coded AtHub
 coded_at_hub =
-    code_by (Ptr × Bool) (coded× coded_ptr coded_bool) (λ d. (d.seal, d.rolls))
-    (λ p. record { seal = p.0; rolls = p.1 }) (λ _. refl)
+    code_by (Ptr × (Bool × (Bool × List (TopicId × Part))))
+    (coded× coded_ptr (coded× coded_bool (coded× coded_bool (coded_list coded_spent))))
+    (λ d. (d.seal, (d.rolls, (d.keeps, d.spent))))
+    (λ p. record { seal = p.0; rolls = p.1.0; keeps = p.1.1.0; spent = p.1.1.1 }) (λ _. refl)
 
--- no event is refused because its topic's log is full
-abbrev pub IsNeverFull : (q : Query) → Said q → Type 0
-IsNeverFull (On n e) noted = noted.0 ≢ Err LogFull
-IsNeverFull q said = Unit {0}
+-- it is of the same hub, and what becomes of shares there stays
+abbrev pub IsAlike : (old new : AtHub) → Type 0
+IsAlike old new = (new.seal ≡ old.seal) × (new.rolls ≡ old.rolls) × (new.keeps ≡ old.keeps)
 
--- What a desk says at any moment: it stays at its hub, and where topics cut their histories by themselves
--- none is ever full (docs/HISTORIES.md, "Histories that go on").
+-- whether a handle may be spent by this
+abbrev pub may_spend : Query → Bool
+may_spend (On n (DropsTx (Own t))) = true
+may_spend (On n (DropsRx r)) = true
+may_spend (On n (Resubscribes r)) = true
+may_spend q = false
+
+-- What a desk says at any moment: it stays at its hub, and has the shares that it had where no handle
+-- may have been spent.
 pub record Says (old : AtHub) (q : Query) (said : Said q) (new : AtHub) : Type 0 where
-  pub hub : new ≡ old
+  pub hub : IsAlike old new
+  pub spent : may_spend q ≡ false → new.spent ≡ old.spent
   pub may : MaySay q said
-  pub full : old.rolls ≡ true → IsNeverFull q said

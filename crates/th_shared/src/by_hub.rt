@@ -1,8 +1,11 @@
 //! The events that go through the hub's own sender of a topic, for any kind of channel.
-ghost use Rattle.std.specs.Prelude.{◌≡◌, IfErr, IfOk, OnOk, Some};
+ghost use Rattle.std.specs.Prelude.{◌≡◌, Bool, IfErr, IfOk, IfSome, None, OnOk, Some};
 ghost use Rattle.th_log.specs.Replies.{made_by};
 ghost use Rattle.th_registry.specs.Calls.{tx};
 ghost use Rattle.th_shared.specs.ByHub.{EndsHub, EntersHub};
+ghost use Rattle.th_block.specs.Handles.{Known};
+ghost use Rattle.th_shared.specs.Doing.{IsFullAsSeen, IsNew};
+ghost use Rattle.th_shared.specs.Kept.{Stays};
 ghost use Rattle.th_shared.specs.Reasons.{through_hub};
 ghost use Rattle.th_shared.specs.Saying.{IsNumbered, first};
 
@@ -21,7 +24,9 @@ const OWN: TxId = TxId(1);
 
 // What is said through the hub's own sender, where it has not ended.
 fn through_hub<A>(said: Result<A, NoEvent>) -> Result<A, NoEvent>
-    ensures { result ≡ through_hub said }
+    ensures said { result ≡ through_hub said }
+    ensures full { (rolls : Bool) (known : Known) → IfErr said (IsFullAsSeen rolls known)
+        → IfErr result (IsFullAsSeen rolls known) }
 {
     match said {
         Ok(came) => Ok(came),
@@ -34,6 +39,8 @@ impl<O: Kind> Topic<O> {
     /// A topic with this first sender as the hub's own. `None` past 2^63 owners of its channel.
     pub(crate) fn new(sender: Handle<O, Sends>) -> Option<Topic<O>>
         requires { sender.number ≡ 1 }
+        ensures { IfSome result (λ topic.
+            topic ≡ record { live = Some sender.known; share = None; rolls = sender.rolls }) }
     {
         let Ok(owner) = sender.shared() else {
             return None;
@@ -57,6 +64,9 @@ impl<O: Kind> Topic<O> {
             self.old self.new (first result) }
         ensures made { IfOk result (λ new.
             IsNumbered (made_by O.made_tx O.made_rx new.0.reply) new.1) }
+        ensures fresh { IfOk result (λ new.
+            IfSome new.1 (IsNew topic.0 self.old.rolls new.0)) }
+        ensures shares { Stays shares.old shares.new }
     {
         match &mut self.own {
             Some(own) => through_hub(new_handle::bind(rt, topic, &mut own.sender, shares)),
@@ -77,6 +87,9 @@ impl<O: Kind> Topic<O> {
             self.old self.new (first result) }
         ensures made { IfOk result (λ new.
             IsNumbered (made_by O.made_tx O.made_rx new.0.reply) new.1) }
+        ensures fresh { IfOk result (λ new.
+            IfSome new.1 (IsNew topic.0 self.old.rolls new.0)) }
+        ensures shares { Stays shares.old shares.new }
     {
         let Some(_call) = O::subscribing(start, OWN) else {
             return Err(NoEvent::WrongKind);

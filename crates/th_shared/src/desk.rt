@@ -1,13 +1,14 @@
 //! The desk that threads share.
 
-ghost use Rattle.std.specs.Prelude.{◌≡◌, false, is_some, true, IfOk, OnOk};
+ghost use Rattle.std.specs.Prelude.{◌≡◌, [], false, is_some, not, true, IfErr, IfOk, OnOk};
 ghost use Rattle.std.specs.Arc.{arc_value};
+ghost use Rattle.th_shared.specs.Ending.{AreInOrder};
 
 use crate::deferred_wake::Owed;
-use crate::ended::{Ended, end_of};
+use crate::ended::{Ended, ends, take_topics};
 use crate::handles::{TopicReceiver, TopicSender};
-use crate::histories::{Histories, divide, name_of};
-use crate::registry::{ask, bind, end, find, open, subscribe};
+use crate::histories::{Histories, divide};
+use crate::registry::{ask, bind, end, find, name_of, open, subscribe};
 use crate::rows::Rooms;
 use crate::shared_topics::SharedTopics;
 use crate::shares::Shares;
@@ -24,7 +25,6 @@ use th_model::{
     Value, WCall,
 };
 use th_registry::channel::{TopicReceipt, TopicSegment};
-use th_registry::topics::list;
 use th_registry::{Channel, Desk, Found, Made, NoEvent, Refusal, TopicId, Unspent};
 use th_seats::Share;
 
@@ -54,7 +54,7 @@ impl<R: Wait + Clone> Model for SharedDesk<R> {
     ghost use Rattle.std.specs.Prelude.{is_some};
     ghost use Rattle.th_shared.specs.Saying.{AtHub, coded_at_hub};
 
-    // What other threads do is not seen at it, so contracts see no more of it than its hub.
+    // What other threads do is not seen at it, so contracts see no more of it than its hub, and the shares that it keeps.
     ghost Value = { AtHub };
 
     ghost coded = { coded_at_hub };
@@ -62,6 +62,8 @@ impl<R: Wait + Clone> Model for SharedDesk<R> {
     ghost view = { λ d. record {
       seal = (arc_value d.hub).seal.ptr;
       rolls = is_some (arc_value d.hub).histories;
+      keeps = d.shares.keeps;
+      spent = d.shares.spent;
     } };
 }
 
@@ -72,13 +74,14 @@ impl<R: Wait + Clone> SharedDesk<R> {
     ///
     /// There was no memory.
     pub fn new(rt: R, alloc: Global) -> Result<SharedDesk<R>, Short<()>>
-        ensures { IfOk result (λ desk. desk.rolls ≡ false) }
+        ensures rolls { IfOk result (λ desk. desk.rolls ≡ false) }
+        ensures keeps { IfOk result (λ desk. (desk.keeps ≡ true) × (desk.spent ≡ [])) }
     {
         SharedDesk::opening(rt, alloc, None)
     }
 
-    /// The same of topics that cut their histories by themselves, so that none of them is ever told to be full: past 2^63 - 131,071
-    /// events, where no cut helps, an event is `Short`. The parts go to the queues of these histories, and so does each that a
+    /// The same of topics that cut their histories by themselves, so that none of them is full before 2^63 - 131,071 events, from
+    /// where on no cut helps. The parts go to the queues of these histories, and so does each that a
     /// session was answered as a trace. The desks keep no shares: that of a handle that is spent goes back to its topic, which
     /// keeps all of them as one.
     ///
@@ -86,7 +89,8 @@ impl<R: Wait + Clone> SharedDesk<R> {
     ///
     /// There was no memory.
     pub fn rolling(rt: R, alloc: Global, histories: Histories) -> Result<SharedDesk<R>, Short<()>>
-        ensures { IfOk result (λ desk. desk.rolls ≡ true) }
+        ensures rolls { IfOk result (λ desk. desk.rolls ≡ true) }
+        ensures keeps { IfOk result (λ desk. (desk.keeps ≡ false) × (desk.spent ≡ [])) }
     {
         SharedDesk::opening(rt, alloc, Some(histories))
     }
@@ -97,26 +101,30 @@ impl<R: Wait + Clone> SharedDesk<R> {
         alloc: Global,
         histories: Option<Histories>,
     ) -> Result<SharedDesk<R>, Short<()>>
-        ensures { IfOk result (λ desk. desk.rolls ≡ is_some histories) }
+        ensures rolls { IfOk result (λ desk. desk.rolls ≡ is_some histories) }
+        ensures keeps { IfOk result (λ desk.
+            (desk.keeps ≡ not (is_some histories)) × (desk.spent ≡ [])) }
     {
+        let keeps = histories.is_none();
         match Arc::new(alloc, SharedTopics::new(alloc, histories)?) {
-            Ok(hub) => Ok(SharedDesk::owning(rt, alloc, hub)),
+            Ok(hub) => Ok(SharedDesk::owning(rt, alloc, hub, keeps)),
             Err(_) => Err(Short { call: () }),
         }
     }
 
-    // An owner of this hub's topics.
-    fn owning(rt: R, alloc: Global, hub: Arc<SharedTopics>) -> SharedDesk<R>
+    // An owner of this hub's topics, which has no shares yet.
+    fn owning(rt: R, alloc: Global, hub: Arc<SharedTopics>, keeps: bool) -> SharedDesk<R>
         ensures { result ≡ record {
           seal = (arc_value hub).seal.ptr;
           rolls = is_some (arc_value hub).histories;
+          keeps = keeps;
+          spent = [];
         } }
     {
-        let shares = Shares::new(alloc, hub.histories.is_none());
         SharedDesk {
             rt,
             hub,
-            shares,
+            shares: Shares::new(alloc, keeps),
             cache: TopicCache::new(alloc),
             rooms: Rooms::new(alloc),
         }
@@ -128,13 +136,16 @@ impl<R: Wait + Clone> SharedDesk<R> {
     ///
     /// There was no memory.
     pub fn another(&self) -> Result<SharedDesk<R>, Short<()>>
-        ensures { IfOk result (λ desk. desk ≡ self.now) }
+        ensures { IfOk result (λ desk. desk ≡ record self.now { spent = [] }) }
     {
         let Ok(rt) = self.rt.clone() else {
             return Err(Short { call: () });
         };
         match Arc::try_clone(&self.hub) {
-            Ok(hub) => Ok(SharedDesk::owning(rt, self.shares.allocator(), hub)),
+            Ok(hub) => {
+                let shares = &self.shares;
+                Ok(SharedDesk::owning(rt, shares.allocator(), hub, shares.keeps()))
+            }
             Err(_) => Err(Short { call: () }),
         }
     }
@@ -149,22 +160,15 @@ impl<R: Wait + Clone> SharedDesk<R> {
     /// The name of a topic. It takes the lock of the topics; `None` where there is no such topic, or no memory.
     pub fn name_of(&self, topic: TopicId) -> Option<Name> {
         let topics = self.hub.topics.lock(&self.rt);
-        name_of(&*topics, topic)
+        name_of(&*topics, topic).ok()
     }
 
-    /// The shares of the handles that were spent through this desk, once nothing more is asked at it.
-    pub fn into_shares(self) -> Vec<(TopicId, Share)> {
+    /// The shares of the handles that were spent through this desk, if it keeps them, once nothing more is asked at it.
+    pub fn into_shares(self) -> Vec<(TopicId, Share)>
+        ensures { result.items ≡ self.spent }
+    {
         let SharedDesk { shares, .. } = self;
         shares.into_vec()
-    }
-
-    // An empty list with room for what is left of each topic; `None` where another owner is left, or there was no memory.
-    fn room_for_ends(&mut self, alloc: Global) -> Option<Vec<Ended>> {
-        let hub = Arc::get_mut(&mut self.hub)?;
-        match Vec::with_capacity(alloc, hub.topics.get_mut().len()) {
-            Ok(list) => Some(list),
-            Err(_) => None,
-        }
     }
 
     /// What is left of each topic, in order of opening, for the last owner; and the shares of the handles that were
@@ -176,49 +180,34 @@ impl<R: Wait + Clone> SharedDesk<R> {
     pub fn finish(
         mut self,
         alloc: Global,
-    ) -> Result<(Vec<Ended>, Vec<(TopicId, Share)>), SharedDesk<R>> {
-        let Some(mut list) = self.room_for_ends(alloc) else {
+    ) -> Result<(Vec<Ended>, Vec<(TopicId, Share)>), SharedDesk<R>>
+        ensures ends { IfOk result (λ r. AreInOrder 1 r.0.items) }
+        ensures shares { IfOk result (λ r. r.1.items ≡ self.spent) }
+        ensures back { IfErr result (λ desk. desk ≡ self) }
+    {
+        let Some((topics, list)) = take_topics(&mut self.hub, alloc) else {
             return Err(self);
         };
-        let SharedDesk {
-            rt,
-            hub,
-            shares,
-            cache,
-            rooms,
-        } = self;
-        match Arc::try_unwrap(hub) {
-            Ok(shared) => {
-                let SharedTopics { topics, .. } = shared;
-                for (name, topic) in topics.into_inner() {
-                    let _ = list.push(end_of(&rt, name, topic));
-                }
-                Ok((list, shares.into_vec()))
-            }
-            Err(hub) => Err(SharedDesk {
-                rt,
-                hub,
-                shares,
-                cache,
-                rooms,
-            }),
-        }
+        let SharedDesk { rt, shares, .. } = self;
+        Ok((ends(&rt, topics, list), shares.into_vec()))
     }
 }
 
 impl<R: Wait + Clock + Clone> Desk for SharedDesk<R> {
     ghost use Rattle.std.specs.Option.{option_map};
-    ghost use Rattle.std.specs.Prelude.{IfErr};
+    ghost use Rattle.std.specs.Prelude.{IfSome, OnErr};
+    ghost use Rattle.th_log.specs.Outcome.{counted};
     ghost use Rattle.th_registry.specs.Calls.{waits};
-    ghost use Rattle.th_registry.specs.Events.{Asks, DropsRx, DropsTx, Own, Receives, Resubscribes, Sends, Subscribes, any_sender};
+    ghost use Rattle.th_registry.specs.Events.{Asks, Binds, DropsRx, DropsTx, Own, Receives, Resubscribes, Sends, Subscribes, any_sender};
     ghost use Rattle.th_registry.specs.Hub.{On};
-    ghost use Rattle.th_registry.specs.Typed.{made_rx, replied, spent};
-    ghost use Rattle.th_shared.specs.Doing.{Does, OwnDoes, ReceiverDoes, ReceiverLeaves};
-    ghost use Rattle.th_shared.specs.InRow.{SendsInRow};
+    ghost use Rattle.th_registry.specs.Typed.{made_rx, made_tx, replied, spent};
+    ghost use Rattle.th_shared.specs.Doing.{Does, IsNewHandle, IsNewReceiver, OwnDoes, ReceiverDoes, ReceiverLeaves, TellsFullWith};
+    ghost use Rattle.th_shared.specs.InRow.{ReceivesInRow, SendsInRow};
+    ghost use Rattle.th_shared.specs.Kept.{spent_by_receiver, spent_with, with_spent};
     ghost use Rattle.std.specs.Prelude.{◌+◌, ◌++◌, ◌≤◌, List, length, vec_capacity, vec_len};
     ghost use Rattle.th_registry.specs.Receipts.{ChannelReceipt};
-    ghost use Rattle.th_registry.specs.Rows.{MadeInRow, on_topic, sends_of};
-    ghost use Rattle.th_shared.specs.Numbers.{receiver as rx_of, sender as tx_of};
+    ghost use Rattle.th_registry.specs.Rows.{MadeInRow, on_topic, sends_of, times};
+    ghost use Rattle.th_shared.specs.Numbers.{known_of, receiver as rx_of, rolls_by, rolls_with, sender as tx_of};
     ghost use Rattle.th_shared.specs.Saying.{Says};
 
     type Tx = TopicSender;
@@ -247,13 +236,16 @@ impl<R: Wait + Clock + Clone> Desk for SharedDesk<R> {
 
     fn list(&self) -> Result<Listing, Short<()>> {
         let topics = self.hub.topics.lock(&self.rt);
-        list(&*topics)
+        topics.list()
     }
 
     fn open_topic(&mut self, name: NameRef<'_>, making: Making) -> Result<u64, Refusal> {
-        let mut topics = self.hub.topics.lock(&self.rt);
-        let told = open(&mut *topics, &name, making);
-        if let Some(histories) = &self.hub.histories {
+        let Some(mut topics) = self.hub.lock(&self.rt) else {
+            return Err(Refusal::Exists);
+        };
+        let histories = self.hub.histories.as_ref();
+        let told = open(&mut *topics, histories, &name, making);
+        if let Some(histories) = histories {
             if told.is_ok() {
                 divide(&self.rt, &*topics, histories);
             }
@@ -261,18 +253,23 @@ impl<R: Wait + Clock + Clone> Desk for SharedDesk<R> {
         told
     }
 
-    fn bind(&mut self, topic: TopicId) -> Result<Made<TopicSender>, NoEvent> {
+    fn bind(&mut self, topic: TopicId) -> Result<Made<TopicSender>, NoEvent>
+        ensures event { Says self.old (On topic.0 Binds) (made_tx tx_of result) self.new }
+        ensures new { IfOk result (λ made. IfSome made.handle
+            (IsNewHandle topic.0 self.old.rolls made.receipt)) }
+    {
         let SharedDesk {
-            rt,
-            hub,
-            shares,
-            cache,
+            ref rt,
+            ref hub,
+            ref mut shares,
+            ref mut cache,
             ..
-        } = self;
-        let mut topics = hub.topics.lock(rt);
+        } = *self;
+        let Some(mut topics) = hub.lock(rt) else {
+            return Err(NoEvent::NoTopic);
+        };
         cache.add(&*topics, topic);
-        let mut made = bind(rt, &mut *topics, topic, shares);
-        hub.tell(&mut made);
+        let made = bind(rt, &mut *topics, topic, shares);
         shares.count(&made);
         made
     }
@@ -288,23 +285,26 @@ impl<R: Wait + Clock + Clone> Desk for SharedDesk<R> {
         ensures sender { option_map tx_of sender.new ≡ option_map tx_of sender.old }
         ensures does { let by = any_sender (option_map tx_of sender.old) in
             OwnDoes topic.0 (Subscribes start by) sender.old sender.new (made_rx rx_of result) }
+        ensures new { IfOk result (λ made. IfSome made.handle
+            (IsNewReceiver topic.0 (rolls_by self.old.rolls sender.old) made.receipt)) }
     {
         let SharedDesk {
-            rt,
-            hub,
-            shares,
-            cache,
+            ref rt,
+            ref hub,
+            ref mut shares,
+            ref mut cache,
             ..
-        } = self;
-        let mut made = match sender {
+        } = *self;
+        let made = match sender {
             Some(sender) => told::subscribe(rt, topic, start, sender, shares),
             None => {
-                let mut topics = hub.topics.lock(rt);
+                let Some(mut topics) = hub.lock(rt) else {
+                    return Err(NoEvent::NoTopic);
+                };
                 cache.add(&*topics, topic);
                 subscribe(rt, &mut *topics, topic, start, shares)
             }
         };
-        hub.tell(&mut made);
         shares.count(&made);
         made
     }
@@ -324,10 +324,7 @@ impl<R: Wait + Clock + Clone> Desk for SharedDesk<R> {
             Does topic.0 event sender.old sender.new (replied result) }
         ensures owed { OnOk result (owed.new ≡ true) }
     {
-        let SharedDesk { rt, hub, .. } = self;
-        let mut said = sending::send(rt, topic, sender, verb, owed);
-        hub.tell(&mut said);
-        said
+        sending::send(&self.rt, topic, sender, verb, owed)
     }
 
     fn ask(
@@ -342,16 +339,18 @@ impl<R: Wait + Clock + Clone> Desk for SharedDesk<R> {
         ensures does { let by = any_sender (option_map tx_of sender.old) in
             OwnDoes topic.0 (Asks by question) sender.old sender.new (replied result) }
     {
-        let SharedDesk { rt, hub, .. } = self;
-        let mut said = match sender {
+        let SharedDesk {
+            ref rt,
+            ref hub,
+            ..
+        } = *self;
+        match sender {
             Some(sender) => told::ask(rt, topic, sender, question),
             None => {
                 let mut topics = hub.topics.lock(rt);
                 ask(rt, &mut *topics, topic, question)
             }
-        };
-        hub.tell(&mut said);
-        said
+        }
     }
 
     #[inline(always)]
@@ -369,13 +368,10 @@ impl<R: Wait + Clock + Clone> Desk for SharedDesk<R> {
         ensures does { let event = Receives (rx_of receiver.old) verb in
             ReceiverDoes topic.0 event receiver.old receiver.new (replied result) }
     {
-        let SharedDesk { rt, hub, .. } = self;
-        let mut said = match receiver {
-            TopicReceiver::Live(receiver) => told::receive(rt, topic, receiver, verb),
+        match receiver {
+            TopicReceiver::Live(receiver) => told::receive(&self.rt, topic, receiver, verb),
             TopicReceiver::Spent(_) => Err(NoEvent::NotLive),
-        };
-        hub.tell(&mut said);
-        said
+        }
     }
 
     fn resubscribe(
@@ -387,6 +383,11 @@ impl<R: Wait + Clock + Clone> Desk for SharedDesk<R> {
             Says self.old (On topic.0 event) (made_rx rx_of result) self.new }
         ensures receiver { rx_of receiver.new ≡ rx_of receiver.old }
         ensures does { ReceiverLeaves receiver.old receiver.new (made_rx rx_of result).1 }
+        ensures new { IfOk result (λ made. IfSome made.handle
+            (IsNewReceiver topic.0 (rolls_with receiver.old) made.receipt)) }
+        ensures full { IfErr result (TellsFullWith receiver.old) }
+        ensures kept { self.new.spent ≡ spent_by_receiver self.old.keeps self.old.spent topic
+            receiver.old receiver.new }
     {
         let SharedDesk {
             rt,
@@ -394,21 +395,12 @@ impl<R: Wait + Clock + Clone> Desk for SharedDesk<R> {
             shares,
             ..
         } = self;
-        let (after, mut said) = match replace(receiver, TopicReceiver::Spent(0)) {
-            TopicReceiver::Live(old) => told::resubscribe(rt, topic, old, shares),
+        let (after, said) = match replace(receiver, TopicReceiver::Spent(0)) {
+            TopicReceiver::Live(old) => shares.resubscribe(rt, topic, old),
             TopicReceiver::Spent(number) => (TopicReceiver::Spent(number), Err(NoEvent::NotLive)),
         };
         *receiver = after;
-        hub.tell(&mut said);
-        match said {
-            Ok((made, share)) => {
-                if let Some(share) = share {
-                    shares.replace(rt, topic, share, &made.handle);
-                }
-                Ok(made)
-            }
-            Err(why) => Err(why),
-        }
+        said
     }
 
     fn spend_sender(
@@ -420,12 +412,24 @@ impl<R: Wait + Clock + Clone> Desk for SharedDesk<R> {
             Says self.old (On topic.0 event) (spent result) self.new }
         ensures back { IfErr result (λ unspent. tx_of unspent.handle ≡ tx_of sender) }
         ensures same { IfErr result (λ unspent. unspent.handle ≡ sender) }
+        ensures kept { OnOk result (self.new.spent ≡ with_spent self.old.keeps self.old.spent topic
+            (counted (known_of sender).share)) }
+        ensures stays { OnErr result (self.new.spent ≡ self.old.spent) }
     {
         let SharedDesk { rt, shares, .. } = self;
-        let home = shares.home(&sender);
+        let home = match shares.home(&sender) {
+            Ok(home) => home,
+            Err(why) => {
+                return Err(Unspent {
+                    handle: sender,
+                    why,
+                });
+            }
+        };
         match told::end_sender(rt, topic, sender) {
             Ok(share) => {
                 shares.keep(rt, topic, share, home);
+                shares.count_spent();
                 Ok(())
             }
             Err(unspent) => Err(unspent),
@@ -441,14 +445,26 @@ impl<R: Wait + Clock + Clone> Desk for SharedDesk<R> {
             Says self.old (On topic.0 event) (spent result) self.new }
         ensures back { IfErr result (λ unspent. rx_of unspent.handle ≡ rx_of receiver) }
         ensures same { IfErr result (λ unspent. unspent.handle ≡ receiver) }
+        ensures kept { OnOk result (self.new.spent
+            ≡ spent_with self.old.keeps self.old.spent topic receiver) }
+        ensures stays { OnErr result (self.new.spent ≡ self.old.spent) }
     {
         let SharedDesk { rt, shares, .. } = self;
         match receiver {
             TopicReceiver::Live(receiver) => {
-                let home = shares.home(&receiver);
+                let home = match shares.home(&receiver) {
+                    Ok(home) => home,
+                    Err(why) => {
+                        return Err(Unspent {
+                            handle: TopicReceiver::Live(receiver),
+                            why,
+                        });
+                    }
+                };
                 match told::end_receiver(rt, topic, receiver) {
                     Ok(share) => {
                         shares.keep(rt, topic, share, home);
+                        shares.count_spent();
                         Ok(())
                     }
                     Err(unspent) => Err(unspent),
@@ -533,7 +549,8 @@ impl<R: Wait + Clock + Clone> Desk for SharedDesk<R> {
         ensures row { MadeInRow Says topic.0 (sends_of (tx_of sender.old) values.old.items)
             receipts.old.items receipts.new.items self.old self.new result }
         ensures sender { tx_of sender.new ≡ tx_of sender.old }
-        ensures does { (told : List ChannelReceipt) × SendsInRow topic.0 values.old.items sender.old sender.new told
+        ensures does { (told : List ChannelReceipt)
+            × SendsInRow topic.0 values.old.items sender.old sender.new told
             × (receipts.new.items ≡ receipts.old.items ++ on_topic topic.0 told) }
     {
         let SharedDesk { rt, rooms, .. } = self;
@@ -547,7 +564,15 @@ impl<R: Wait + Clock + Clone> Desk for SharedDesk<R> {
         verb: ReceiverVerb,
         most: usize,
         receipts: &mut Vec<(TopicId, TopicReceipt)>,
-    ) -> usize {
+    ) -> usize
+        requires room { vec_len receipts.old + most ≤ vec_capacity receipts.old }
+        ensures row { MadeInRow Says topic.0 (times most (Receives (rx_of receiver.old) verb))
+            receipts.old.items receipts.new.items self.old self.new result }
+        ensures receiver { rx_of receiver.new ≡ rx_of receiver.old }
+        ensures does { (told : List ChannelReceipt)
+            × ReceivesInRow topic.0 verb most receiver.old receiver.new told
+            × (receipts.new.items ≡ receipts.old.items ++ on_topic topic.0 told) }
+    {
         let SharedDesk { rt, rooms, .. } = self;
         rows::receive_row(rt, topic, receiver, verb, most, rooms, receipts)
     }

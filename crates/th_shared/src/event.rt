@@ -1,9 +1,9 @@
 //! The events of handles of any kind of channel, each on the topic that is named.
-ghost use Rattle.std.specs.Prelude.{◌≡◌, ◌+◌, IfErr, IfOk, IsTrue, OnOk, Some};
+ghost use Rattle.std.specs.Prelude.{◌≡◌, ◌+◌, Bool, IfErr, IfOk, IsTrue, OnOk, Some};
 ghost use Rattle.th_log.specs.CallLaws.{IsBy};
 ghost use Rattle.th_log.specs.Outcome.{counted};
-ghost use Rattle.th_block.specs.Handles.{rx, tx};
-ghost use Rattle.th_shared.specs.Doing.{Enters, HasEnded};
+ghost use Rattle.th_block.specs.Handles.{IsFullAsSeen as is_refused_full, Known, rx, tx};
+ghost use Rattle.th_shared.specs.Doing.{Enters, HasEnded, IsFullAsSeen};
 ghost use Rattle.th_shared.specs.Reasons.{reason};
 ghost use Rattle.th_shared.specs.Saying.{IsOf};
 
@@ -16,7 +16,9 @@ use th_seats::Share;
 
 /// Why a call was no event.
 pub(crate) fn why<C: Drop>(refused: Refused<C>) -> NoEvent
-    ensures { result ≡ reason refused }
+    ensures why { result ≡ reason refused }
+    ensures full { (rolls : Bool) (known : Known) → is_refused_full rolls known refused
+        → IsFullAsSeen rolls known result }
 {
     match refused {
         Refused::Foreign(_) => NoEvent::NotLive,
@@ -45,7 +47,7 @@ pub(crate) fn event<O: Kind, S: Side<O>, R: Wait>(
     requires lawful { O.lawful }
     requires own { IsBy S.caller handle.old.number call }
     ensures number { handle.new.number ≡ handle.old.number }
-    ensures enters { Enters topic.0 call handle.old.known handle.new.known result }
+    ensures enters { Enters topic.0 call handle.old handle.new result }
 {
     let Some(call) = call else {
         return Err(NoEvent::WrongKind);
@@ -70,7 +72,7 @@ pub(crate) fn send<O: Kind, R: Wait>(
     requires { O.lawful }
     ensures number { sender.new.number ≡ sender.old.number }
     ensures enters { Enters topic.0 (O.by_sender verb (tx sender.old))
-        sender.old.known sender.new.known result }
+        sender.old sender.new result }
 {
     let call = O::by_sender(verb, TxId(sender.number()));
     event(rt, topic, sender, call)
@@ -86,7 +88,7 @@ pub(crate) fn ask<O: Kind, R: Wait>(
     requires { O.lawful }
     ensures number { sender.new.number ≡ sender.old.number }
     ensures enters { Enters topic.0 (O.asked question (tx sender.old))
-        sender.old.known sender.new.known result }
+        sender.old sender.new result }
 {
     let call = O::asked(question, TxId(sender.number()));
     event(rt, topic, sender, call)
@@ -103,7 +105,7 @@ pub(crate) fn receive<O: Kind, R: Wait>(
     requires { O.lawful }
     ensures number { receiver.new.number ≡ receiver.old.number }
     ensures enters { Enters topic.0 (O.by_receiver verb (rx receiver.old))
-        receiver.old.known receiver.new.known result }
+        receiver.old receiver.new result }
 {
     let call = O::by_receiver(verb, RxId(receiver.number()));
     event(rt, topic, receiver, call)

@@ -1,19 +1,19 @@
 //! How the topics of a hub cut their histories by themselves.
-ghost use Rattle.std.specs.Prelude.{◌≤◌, ◌*◌, min};
+ghost use Rattle.std.specs.Prelude.{◌≤◌, ◌*◌, min, IfOk};
+ghost use Rattle.th_shared.specs.Limits.{HaveLimits};
 
 use crate::registry::Topics;
 use std::alloc::{AllocError, Global};
 use std::sync::{Arc, Wait};
 use th_block::Cuts;
-use th_model::Name;
+use th_registry::Channel;
 use th_registry::channel::{HubBroadcast, HubWatch, TopicSegment};
-use th_registry::{Channel, TopicId};
 
 /// Histories that go on: each topic's is cut by the call that finds it long, and the parts go to a queue for each kind of channel.
 #[derive(Drop)]
 pub struct Histories {
     // From so many entries on a topic's history is cut.
-    most: u64,
+    pub(crate) most: u64,
     // How many entries the histories of all topics have together.
     memory: u64,
     /// The parts of broadcast topics.
@@ -25,7 +25,9 @@ pub struct Histories {
 impl Histories {
     /// Histories of at most so many entries each, and so many of all topics together: each topic has an equal part of these. In
     /// each queue half as many wait.
-    pub fn new(alloc: Global, most: u64, memory: u64) -> Result<Histories, AllocError> {
+    pub fn new(alloc: Global, most: u64, memory: u64) -> Result<Histories, AllocError>
+        ensures { IfOk result (HaveLimits most memory) }
+    {
         Ok(Histories {
             most,
             memory,
@@ -66,14 +68,14 @@ fn part_of(most: u64, memory: u64, topics: u64) -> u64
 }
 
 // Has a topic cut its history from so many entries on.
-fn roll<R: Wait>(rt: &R, topics: &Topics, number: usize, most: u64, histories: &Histories) {
+fn roll<R: Wait>(rt: &R, topics: &Topics, number: usize, most: u64) {
     let Some((_, topic)) = topics.get_index(number) else {
         return;
     };
-    let _ = match topic {
-        Channel::Broadcast(topic) => topic.owner.roll_at(rt, most, &histories.broadcast),
-        Channel::Watch(topic) => topic.owner.roll_at(rt, most, &histories.watch),
-    };
+    match topic {
+        Channel::Broadcast(topic) => topic.owner.roll_at(rt, most),
+        Channel::Watch(topic) => topic.owner.roll_at(rt, most),
+    }
 }
 
 /// Divides the memory anew, once a topic was opened behind the others.
@@ -87,12 +89,6 @@ pub(crate) fn divide<R: Wait>(rt: &R, topics: &Topics, histories: &Histories) {
         0
     };
     for number in first..count {
-        roll(rt, topics, number, most, histories);
+        roll(rt, topics, number, most);
     }
-}
-
-/// The name of a topic.
-pub(crate) fn name_of(topics: &Topics, topic: TopicId) -> Option<Name> {
-    let (name, _) = topics.get_index(topic.0 as usize)?;
-    name.clone().ok()
 }

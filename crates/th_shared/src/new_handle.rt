@@ -1,9 +1,10 @@
 //! The events that make handles of any kind of channel, each on the topic that is named. Room for the share of the new handle is
 //! asked for last, where nothing but its channel's log can refuse it.
-ghost use Rattle.std.specs.Prelude.{◌≡◌, IfOk, IfSome, Some};
+ghost use Rattle.std.specs.Prelude.{◌≡◌, IfErr, IfOk, IfSome, Some};
 ghost use Rattle.th_log.specs.Replies.{made_by};
 ghost use Rattle.th_block.specs.Handles.{rx, tx};
-ghost use Rattle.th_shared.specs.Doing.{Enters, Moves};
+ghost use Rattle.th_shared.specs.Doing.{Enters, IsFullAsSeen, IsNew, Moves};
+ghost use Rattle.th_shared.specs.Kept.{Stays};
 ghost use Rattle.th_shared.specs.Saying.{IsNumbered, first};
 
 use crate::event::{is_on, why};
@@ -28,9 +29,12 @@ pub(crate) fn bind<O: Kind, R: Wait>(
     requires { O.lawful }
     ensures number { sender.new.number ≡ sender.old.number }
     ensures enters { Enters topic.0 (Some (O.cloning (tx sender.old)))
-        sender.old.known sender.new.known (first result) }
+        sender.old sender.new (first result) }
     ensures made { IfOk result (λ new.
         IsNumbered (made_by O.made_tx O.made_rx new.0.reply) new.1) }
+    ensures fresh { IfOk result (λ new.
+        IfSome new.1 (IsNew topic.0 sender.old.rolls new.0)) }
+    ensures shares { Stays shares.old shares.new }
 {
     if !is_on(sender, topic) {
         return Err(NoEvent::NotLive);
@@ -55,9 +59,12 @@ pub(crate) fn subscribe<O: Kind, R: Wait>(
     requires { O.lawful }
     ensures number { sender.new.number ≡ sender.old.number }
     ensures enters { Enters topic.0 (O.subscribing start (tx sender.old))
-        sender.old.known sender.new.known (first result) }
+        sender.old sender.new (first result) }
     ensures made { IfOk result (λ new.
         IsNumbered (made_by O.made_tx O.made_rx new.0.reply) new.1) }
+    ensures fresh { IfOk result (λ new.
+        IfSome new.1 (IsNew topic.0 sender.old.rolls new.0)) }
+    ensures shares { Stays shares.old shares.new }
 {
     let Some(_call) = O::subscribing(start, TxId(sender.number())) else {
         return Err(NoEvent::WrongKind);
@@ -93,6 +100,9 @@ pub(crate) fn resubscribe<O: Kind, R: Wait>(
     ensures moves { Moves topic.0 (O.resubscribing (rx old)) old result.0 result.1 }
     ensures made { IfOk result.1 (λ r.
         IsNumbered (made_by O.made_tx O.made_rx r.0.0.reply) r.0.1) }
+    ensures fresh { IfOk result.1 (λ r. IfSome r.0.1 (IsNew topic.0 old.rolls r.0.0)) }
+    ensures full { IfErr result.1 (IsFullAsSeen old.rolls old.known) }
+    ensures shares { Stays shares.old shares.new }
 {
     let Some(call) = O::resubscribing(RxId(old.number())) else {
         return (Some(old), Err(NoEvent::WrongKind));

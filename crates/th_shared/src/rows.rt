@@ -4,7 +4,7 @@ ghost use Rattle.th_block.specs.Handles.{rx};
 ghost use Rattle.th_registry.specs.Events.{Receives as Received};
 ghost use Rattle.th_registry.specs.Receipts.{ChannelReceipt};
 ghost use Rattle.th_registry.specs.Rows.{MadeInRow, on_topic, sends_of, times};
-ghost use Rattle.th_shared.specs.InRow.{CallsOnce, SendsInRow, SendsOnce};
+ghost use Rattle.th_shared.specs.InRow.{CallsOnce, ReceivesInRow, SendsInRow, SendsOnce};
 ghost use Rattle.th_shared.specs.Numbers.{receiver as rx_of, sender as tx_of};
 ghost use Rattle.th_shared.specs.Saying.{AtHub, Says};
 
@@ -174,6 +174,9 @@ pub(crate) fn receive_row<R: Wait>(
     ensures row { (hub : AtHub) → MadeInRow Says topic.0
         (times most (Received (rx_of receiver.old) verb))
         receipts.old.items receipts.new.items hub hub result }
+    ensures does { (told : List ChannelReceipt)
+        × ReceivesInRow topic.0 verb most receiver.old receiver.new told
+        × (receipts.new.items ≡ receipts.old.items ++ on_topic topic.0 told) }
 {
     match receiver {
         TopicReceiver::Live(Channel::Broadcast(handle)) => {

@@ -3,7 +3,7 @@ ghost use Rattle.std.specs.Prelude.{◌≡◌, IfOk};
 ghost use Rattle.th_log.specs.Replies.{broadcast_made_rx as made_broadcast_rx, broadcast_made_tx as made_broadcast_tx, made_by, watch_made_rx as made_watch_rx, watch_made_tx as made_watch_tx};
 ghost use Rattle.th_registry.specs.Events.{NewRx, NewTx, Replied, broadcast_made_rx, broadcast_made_tx, watch_made_rx, watch_made_tx};
 ghost use Rattle.th_registry.specs.Typed.{made_rx, made_tx, outcome_of, replied};
-ghost use Rattle.th_shared.specs.Doing.{noted_of};
+ghost use Rattle.th_shared.specs.Doing.{Hands, HandsNew, noted_of};
 ghost use Rattle.th_shared.specs.Numbers.{receiver, sender};
 ghost use Rattle.th_shared.specs.Saying.{IsNumbered, first};
 
@@ -46,6 +46,7 @@ fn broadcast_sender(new: New<HubBroadcast, Sends>) -> Made<TopicSender>
     requires { IsNumbered (made_by made_broadcast_tx made_broadcast_rx new.0.reply) new.1 }
     ensures made { outcome_of (λ t. NewTx (sender t)) result ≡ broadcast_made_tx new.0.reply }
     ensures receipt { result.receipt ≡ Channel.Broadcast new.0 }
+    ensures handle { Hands (λ h. Channel.Broadcast h) new.1 result.handle }
 {
     let (receipt, handle) = new;
     let handle = match receipt.reply() {
@@ -68,8 +69,10 @@ pub(crate) fn broadcast_senders(
 ) -> Result<Made<TopicSender>, NoEvent>
     requires { IfOk said (λ new.
         IsNumbered (made_by made_broadcast_tx made_broadcast_rx new.0.reply) new.1) }
-    ensures { made_tx sender result
+    ensures said { made_tx sender result
         ≡ noted_of broadcast_made_tx (λ r. Channel.Broadcast r) (first said) }
+    ensures new { IfOk result (λ made. HandsNew (λ r. Channel.Broadcast r)
+        (λ h. Channel.Broadcast h) said made.receipt made.handle) }
 {
     match said {
         Ok(new) => Ok(broadcast_sender(new)),
@@ -82,6 +85,7 @@ fn watch_sender(new: New<HubWatch, Sends>) -> Made<TopicSender>
     requires { IsNumbered (made_by made_watch_tx made_watch_rx new.0.reply) new.1 }
     ensures made { outcome_of (λ t. NewTx (sender t)) result ≡ watch_made_tx new.0.reply }
     ensures receipt { result.receipt ≡ Channel.Watch new.0 }
+    ensures handle { Hands (λ h. Channel.Watch h) new.1 result.handle }
 {
     let (receipt, handle) = new;
     let handle = match receipt.reply() {
@@ -104,8 +108,10 @@ pub(crate) fn watch_senders(
 ) -> Result<Made<TopicSender>, NoEvent>
     requires { IfOk said (λ new.
         IsNumbered (made_by made_watch_tx made_watch_rx new.0.reply) new.1) }
-    ensures { made_tx sender result
+    ensures said { made_tx sender result
         ≡ noted_of watch_made_tx (λ r. Channel.Watch r) (first said) }
+    ensures new { IfOk result (λ made. HandsNew (λ r. Channel.Watch r)
+        (λ h. Channel.Watch h) said made.receipt made.handle) }
 {
     match said {
         Ok(new) => Ok(watch_sender(new)),
@@ -118,6 +124,7 @@ pub(crate) fn broadcast_receiver(new: New<HubBroadcast, Receives>) -> Made<Topic
     requires { IsNumbered (made_by made_broadcast_tx made_broadcast_rx new.0.reply) new.1 }
     ensures made { outcome_of (λ r. NewRx (receiver r)) result ≡ broadcast_made_rx new.0.reply }
     ensures receipt { result.receipt ≡ Channel.Broadcast new.0 }
+    ensures handle { Hands (λ h. TopicReceiver.Live (Channel.Broadcast h)) new.1 result.handle }
 {
     let (receipt, handle) = new;
     let handle = match receipt.reply() {
@@ -140,8 +147,10 @@ pub(crate) fn broadcast_receivers(
 ) -> Result<Made<TopicReceiver>, NoEvent>
     requires { IfOk said (λ new.
         IsNumbered (made_by made_broadcast_tx made_broadcast_rx new.0.reply) new.1) }
-    ensures { made_rx receiver result
+    ensures said { made_rx receiver result
         ≡ noted_of broadcast_made_rx (λ r. Channel.Broadcast r) (first said) }
+    ensures new { IfOk result (λ made. HandsNew (λ r. Channel.Broadcast r)
+        (λ h. TopicReceiver.Live (Channel.Broadcast h)) said made.receipt made.handle) }
 {
     match said {
         Ok(new) => Ok(broadcast_receiver(new)),
@@ -154,6 +163,7 @@ fn watch_receiver(new: New<HubWatch, Receives>) -> Made<TopicReceiver>
     requires { IsNumbered (made_by made_watch_tx made_watch_rx new.0.reply) new.1 }
     ensures made { outcome_of (λ r. NewRx (receiver r)) result ≡ watch_made_rx new.0.reply }
     ensures receipt { result.receipt ≡ Channel.Watch new.0 }
+    ensures handle { Hands (λ h. TopicReceiver.Live (Channel.Watch h)) new.1 result.handle }
 {
     let (receipt, handle) = new;
     let handle = match receipt.reply() {
@@ -176,8 +186,10 @@ pub(crate) fn watch_receivers(
 ) -> Result<Made<TopicReceiver>, NoEvent>
     requires { IfOk said (λ new.
         IsNumbered (made_by made_watch_tx made_watch_rx new.0.reply) new.1) }
-    ensures { made_rx receiver result
+    ensures said { made_rx receiver result
         ≡ noted_of watch_made_rx (λ r. Channel.Watch r) (first said) }
+    ensures new { IfOk result (λ made. HandsNew (λ r. Channel.Watch r)
+        (λ h. TopicReceiver.Live (Channel.Watch h)) said made.receipt made.handle) }
 {
     match said {
         Ok(new) => Ok(watch_receiver(new)),

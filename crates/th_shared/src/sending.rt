@@ -1,10 +1,11 @@
 //! What a sender does, when nobody is woken by it yet.
-ghost use Rattle.std.specs.Prelude.{◌≡◌, ℕ, None, Err, OnOk, true};
+ghost use Rattle.std.specs.Prelude.{◌≡◌, ℕ, Bool, None, Err, OnOk, true};
 ghost use Rattle.th_registry.specs.Events.{Sends as Sent};
 ghost use Rattle.th_registry.specs.Hub.{On};
 ghost use Rattle.th_registry.specs.Kinds.{kind_of};
 ghost use Rattle.th_registry.specs.Typed.{replied};
-ghost use Rattle.th_shared.specs.Doing.{Does, TellsKind};
+ghost use Rattle.th_block.specs.Handles.{Known};
+ghost use Rattle.th_shared.specs.Doing.{Does, IsFullAsSeen, TellsKind};
 ghost use Rattle.th_shared.specs.Numbers.{sender as tx_of};
 ghost use Rattle.th_shared.specs.Saying.{MaySay};
 
@@ -20,6 +21,7 @@ use th_registry::{Channel, NoEvent, TopicId};
 fn unsent(sender: &TopicSender, verb: &SenderVerb<Value>) -> NoEvent
     ensures may { (n : ℕ) → MaySay (On n (Sent (tx_of sender.now) verb.now)) (Err result, None) }
     ensures kind { TellsKind (kind_of sender.now) (Sent (tx_of sender.now) verb.now) (Err result) }
+    ensures full { (rolls : Bool) (known : Known) → IsFullAsSeen rolls known result }
 {
     match (sender, verb) {
         (Channel::Broadcast(_), SenderVerb::Send(_)) => NoEvent::Short,

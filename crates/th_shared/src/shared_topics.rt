@@ -1,15 +1,14 @@
 //! What the desks of one hub have in common.
-ghost use Rattle.std.specs.Prelude.{◌≡◌, is_some, IfOk};
+ghost use Rattle.std.specs.Prelude.{◌≡◌, is_some, IfOk, IfSome};
+ghost use Rattle.std.specs.Sync.Mutex.{mutex_guard_value};
 ghost use Rattle.th_registry.specs.Hub.{Cut};
-ghost use Rattle.th_shared.specs.Reasons.{told_at};
 ghost use Rattle.th_shared.specs.Saying.{MaySay};
 
 use crate::cut::cut;
 use crate::histories::Histories;
 use crate::registry::{Topics, another_owner};
-use indexmap::IndexMap;
 use std::alloc::Global;
-use std::sync::{Mutex, Wait};
+use std::sync::{Mutex, MutexGuard, Wait};
 use th_model::Short;
 use th_registry::channel::TopicSegment;
 use th_registry::{NoEvent, TopicId};
@@ -31,9 +30,10 @@ impl SharedTopics {
     ) -> Result<SharedTopics, Short<()>>
         ensures { IfOk result (λ hub. hub.histories ≡ histories) }
     {
+        let rolls = histories.is_some();
         match Box::new(alloc, 0) {
             Ok(seal) => Ok(SharedTopics {
-                topics: Mutex::new(IndexMap::new(alloc)),
+                topics: Mutex::new(Topics::new(alloc, rolls)),
                 histories,
                 seal,
             }),
@@ -41,19 +41,17 @@ impl SharedTopics {
         }
     }
 
-    /// What is told of an event, by what its channel said. A channel that cuts its history by itself is full only at the end of its
-    /// numbers, after 2^63 - 131,071 events, where no cut helps: that is told as want of room.
-    #[inline(always)]
-    pub(crate) fn tell<A>(&self, said: &mut Result<A, NoEvent>)
-        ensures { said.new ≡ told_at (is_some self.now.histories) said.old }
+    /// The topics, under their lock, as they are to be changed. `None` where they cut their logs otherwise than the hub, which none
+    /// does.
+    pub(crate) fn lock<R: Wait>(&self, rt: &R) -> Option<MutexGuard<'_, Topics>>
+        ensures { IfSome result (λ topics.
+            (mutex_guard_value topics).rolls ≡ is_some self.now.histories) }
     {
-        let Err(why) = said else {
-            return;
-        };
-        if let NoEvent::LogFull = why {
-            if self.histories.is_some() {
-                *why = NoEvent::Short;
-            }
+        let topics = self.topics.lock(rt);
+        if topics.rolls() == self.histories.is_some() {
+            Some(topics)
+        } else {
+            None
         }
     }
 

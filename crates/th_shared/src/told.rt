@@ -1,12 +1,13 @@
 //! The events of a topic's handles that sessions hold: by the kind of its channel, each is what the kind's own handle does, with
 //! the receipt as one of the topic.
-ghost use Rattle.std.specs.Prelude.{◌≡◌, None, Ok, IfErr, IfOk, OnOk};
+ghost use Rattle.std.specs.Prelude.{◌≡◌, None, Ok, IfErr, IfOk, IfSome, OnOk};
 ghost use Rattle.th_log.specs.Outcome.{counted};
 ghost use Rattle.th_registry.specs.Events.{Asks, DropsRx, DropsTx, Ended, Own, Receives as Received, Resubscribes, Sends as Sent, Subscribes};
 ghost use Rattle.th_registry.specs.Hub.{On};
 ghost use Rattle.th_registry.specs.Typed.{made_rx, replied};
-ghost use Rattle.th_shared.specs.Doing.{Does, ReceiverMoves};
-ghost use Rattle.th_shared.specs.Numbers.{known_of, number_of, receiver, sender};
+ghost use Rattle.th_shared.specs.Doing.{Does, IsFullAsSeen, IsNewReceiver, ReceiverMoves};
+ghost use Rattle.th_shared.specs.Kept.{Stays};
+ghost use Rattle.th_shared.specs.Numbers.{known_of, number_of, rolls_of, receiver, sender};
 ghost use Rattle.th_shared.specs.Saying.{IsEvent, MaySay, first};
 
 use crate::handles::{LiveReceiver, TopicOwner, TopicReceiver, TopicSender};
@@ -79,8 +80,11 @@ pub(crate) fn subscribe<R: Wait>(
     handle: &mut TopicSender,
     shares: &mut Shares,
 ) -> Result<Made<TopicReceiver>, NoEvent>
-    ensures { let event = Subscribes start (Own (sender handle.old)) in
+    ensures does { let event = Subscribes start (Own (sender handle.old)) in
         Does topic.0 event handle.old handle.new (made_rx receiver result) }
+    ensures shares { Stays shares.old shares.new }
+    ensures new { IfOk result (λ made. IfSome made.handle
+        (IsNewReceiver topic.0 (rolls_of handle.old) made.receipt)) }
 {
     match handle {
         Channel::Broadcast(handle) => {
@@ -107,6 +111,10 @@ pub(crate) fn resubscribe<R: Wait>(
         (made_rx receiver (first result.1)) }
     ensures number { receiver result.0 ≡ record { 0 = number_of old } }
     ensures moves { ReceiverMoves old result.0 result.1 (made_rx receiver (first result.1)).1 }
+    ensures new { IfOk result.1 (λ made. IfSome made.0.handle
+        (IsNewReceiver topic.0 (rolls_of old) made.0.receipt)) }
+    ensures full { IfErr result.1 (IsFullAsSeen (rolls_of old) (known_of old)) }
+    ensures shares { Stays shares.old shares.new }
 {
     let old = match old {
         Channel::Broadcast(old) => old,

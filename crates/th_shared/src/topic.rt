@@ -17,7 +17,7 @@ pub(crate) struct Own<O: Object> {
 
 /// A topic's channel, and the hub's own sender of it.
 ///
-/// Contracts see what is known of that sender.
+/// Contracts see what is known of that sender, and whether the channel cuts its log by itself.
 #[derive(Drop)]
 pub(crate) struct Topic<O: Object> {
     pub(crate) owner: Shared<O>,
@@ -29,7 +29,7 @@ pub(crate) struct Topic<O: Object> {
 
 impl<O: Object> Model for Topic<O> {
     ghost use Rattle.std.specs.Option.{option_map};
-    ghost use Rattle.std.specs.Prelude.{◌≡◌, is_some, not};
+    ghost use Rattle.std.specs.Prelude.{◌≡◌, is_some, not, IfSome};
     ghost use Rattle.th_shared.specs.OwnSender.{OwnSender};
 
     ghost Value = { OwnSender };
@@ -37,9 +37,11 @@ impl<O: Object> Model for Topic<O> {
     ghost view = { λ t. record {
       live = option_map (λ own. own.sender.known) t.own;
       share = t.share;
+      rolls = t.owner.rolls;
     } };
 
-    ghost invariant = { λ t. is_some t.share ≡ not (is_some t.own) };
+    ghost invariant = { λ t. (is_some t.share ≡ not (is_some t.own))
+        × IfSome t.own (λ own. own.sender.rolls ≡ t.owner.rolls) };
 }
 
 /// A topic of either kind.

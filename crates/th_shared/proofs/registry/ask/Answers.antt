@@ -3,6 +3,8 @@ use Rattle.std.specs.Option.{option_copied_mut}
 use Rattle.th_registry.specs.Events.{Asks, Hub}
 use Rattle.th_shared.specs.ByHub.{TopicDoes}
 use Rattle.th_shared.proofs.ByHub.{at-one, does-says}
+use Rattle.th_shared.proofs.Keys.{does_key, keys_set}
+use Rattle.th_shared.proofs.Rolls.{does_rolls, rolls_set}
 use Rattle.th_shared.proofs.registry.ask.Goals as goal
 
 pub returns-clause-says : goal.returns-clause-says
@@ -10,5 +12,15 @@ returns-clause-says g c = does-says c.args.topic.0 (Asks Hub c.args.question) re
 
 pub returns-clause-does : goal.returns-clause-does
 returns-clause-does g c =
-    at-one c.args.topic.0 (TopicDoes c.args.topic.0 (Asks Hub c.args.question)) _
-    (sym c.get_index_mut.ensures.value ∙ ap option_copied_mut c.in-Some.is) c.ask_at.ensures
+    rw (← c.topics.view_is) (at-one c.args.topic.0 (TopicDoes c.args.topic.0 (Asks Hub c.args.question)) _
+    (sym c.get_index_mut.ensures.value ∙ ap option_copied_mut c.in-Some.is) c.ask_at.ensures)
+
+pub invariant_of-topics-2 : goal.invariant_of-topics-2
+invariant_of-topics-2 g c =
+    let at = sym c.get_index_mut.ensures.value ∙ ap option_copied_mut c.in-Some.is in
+    let inside = c.topics.inside in (
+      keys_set 1 inside.rows.entries c.args.topic.0 _ _ at (does_key c.args.topic.0
+          (Asks Hub c.args.question) _ _ _ c.ask_at.ensures) c.topics.invariant.0,
+      rolls_set inside.rolls inside.rows.entries c.args.topic.0 _ _ at (does_rolls c.args.topic.0
+          (Asks Hub c.args.question) _ _ _ c.ask_at.ensures) c.topics.invariant.1,
+    )

@@ -1,4 +1,4 @@
-use Rattle.std.proofs.Common.{◌≡◌, ◌∙◌, [], List, inr, subst}
+use Rattle.std.proofs.Common.{◌∙◌, List, inr, subst}
 use Rattle.th_block.specs.Handles.{tx}
 use Rattle.th_block.specs.Together.{CallsOf}
 use Rattle.th_model.specs.declared.broadcast.BCall.TheVariants as BCalls
