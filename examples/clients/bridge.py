@@ -30,11 +30,38 @@ PATIENCE = 5  # seconds that Redis may take for an answer
 AT_ONCE = 100  # entries that are read at once
 GAP = "\x1aLAG {} {}"
 NAME = re.compile(r"[a-z0-9_-]{1,32}")
+RUN = re.compile(r"[0-9]{1,20}")
+NUMBER = re.compile(r"0|[1-9][0-9]{0,17}")
 VALUE = re.compile(rb"[^\r\n]{1,1024}")
+PLACE = re.compile(r"[0-9]{1,20}-[0-9]{1,20}")  # of an entry in its stream
 
 
 def tell(*words):
     print("bridge:", *words, file=sys.stderr, flush=True)
+
+
+def text(field, form):
+    """What Redis keeps, as text, if it has the form in which a bridge writes it; else `None`. Whoever may write there may write
+    anything, so nothing of it is used before."""
+    found = field.decode("ascii", "replace") if field is not None else ""
+    return found if form.fullmatch(found) else None
+
+
+class Entry:
+    """What a bridge appends: its name, its run, the number in that run, and how many values were missed, or a value."""
+
+    def __init__(self, name, run, number, missed, value):
+        self.name, self.run, self.number, self.missed, self.value = name, run, number, missed, value
+
+    @classmethod
+    def read(cls, fields):
+        """The entry with these fields; `None` where no bridge would have written them."""
+        name, run = text(fields.get(b"from"), NAME), text(fields.get(b"run"), RUN)
+        number, missed = text(fields.get(b"number"), NUMBER), text(fields.get(b"gap", b"0"), NUMBER)
+        if None in (name, run, number, missed) or int(missed) > int(number):
+            return None
+        value = fields.get(b"value")
+        return cls(name, run, int(number), int(missed), value if value is not None and VALUE.fullmatch(value) else None)
 
 
 class Away:
@@ -166,18 +193,21 @@ class Side:
             tell(f"{self.topic}: begins with what is sent from now on")
         else:
             tell(f"{self.topic}: goes on where the last run ended")
-        at = saved.pop(b":at")
-        return at, {name.decode(): end.decode().split(" ") for name, end in saved.items()}
+        at, seen = text(saved.pop(b":at", None), PLACE), {}
+        for name, end in saved.items():
+            run, _, number = end.partition(b" ")
+            seen[text(name, NAME)] = [text(run, RUN), text(number, NUMBER)]
+        if at is None or None in seen or any(None in end for end in seen.values()):
+            raise ValueError(f"{self.read} in Redis was not written by a bridge")
+        return at, seen
 
-    def take(self, at, entry, seen):
-        try:
-            name, run = entry[b"from"].decode(), entry[b"run"].decode()
-            number, missed = int(entry[b"number"]), int(entry.get(b"gap", 0))
-        except (KeyError, ValueError):
-            return tell(f"{self.topic}: {at.decode()} in the stream is no entry of a bridge")
-        if name != self.name:
-            self.take_from(name, run, number, missed, entry.get(b"value"), seen)
-            self.redis.ask(lambda it: it.hset(self.read, mapping={":at": at, name: " ".join(seen[name])}))
+    def take(self, at, fields, seen):
+        entry = Entry.read(fields)
+        if entry is None:
+            return tell(f"{self.topic}: {text(at, PLACE)} in the stream is no entry of a bridge")
+        if entry.name != self.name:
+            self.take_from(entry.name, entry.run, entry.number, entry.missed, entry.value, seen)
+            self.redis.ask(lambda it: it.hset(self.read, mapping={":at": at, entry.name: " ".join(seen[entry.name])}))
         return None
 
     def take_from(self, name, run, number, missed, value, seen):
@@ -192,7 +222,7 @@ class Side:
             self.send_gap(before - int(last), name, "they are no longer in the stream")
         if missed:
             self.send_gap(missed, name, "its bridge was too slow")
-        elif value is not None and VALUE.fullmatch(value):
+        elif value is not None:
             self.send(value.decode(*CODE))
         elif number > 0:
             self.send_gap(1, name, "it is no value")

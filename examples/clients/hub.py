@@ -1,5 +1,6 @@
 """A client of `topichub serve`, on Python's standard library alone."""
 import argparse
+import select
 import socket
 import sys
 import time
@@ -11,6 +12,14 @@ class Refused(Exception):
 
 # A value is bytes and need not be text: what is not UTF-8 goes through a `str` unchanged.
 CODE = ("utf-8", "surrogateescape")
+AT_ONCE = 65_536  # bytes that are read at once
+
+
+def as_line(text):
+    """A line of the protocol. What has an end of line in it would be two, so it is refused."""
+    if "\n" in text or "\r" in text:
+        raise ValueError(f"no line: {text!r}")
+    return text.encode(*CODE) + b"\n"
 
 
 class Hub:
@@ -19,17 +28,33 @@ class Hub:
     def __init__(self, path):
         self.socket = socket.socket(socket.AF_UNIX, socket.SOCK_STREAM)
         self.socket.connect(path)
-        self.replies = self.socket.makefile("rb")
+        self.came = b""  # what was read and not told yet
+        self.due = 0  # lines without their replies
 
-    def send(self, line):
-        """Sends a line ahead; its reply is the next one that `reply` has not told yet."""
-        self.socket.sendall(line.encode(*CODE) + b"\n")
+    def send(self, *lines):
+        """Sends lines ahead; their replies are the next ones that `reply` has not told yet."""
+        if self.due == 0 and (self.came or select.select([self.socket], [], [], 0)[0]):
+            self.read_on()
+            raise ConnectionError("the hub has sent more replies than it was asked for")
+        self.socket.sendall(b"".join(map(as_line, lines)))
+        self.due += len(lines)
+
+    def read_on(self):
+        more = self.socket.recv(AT_ONCE)
+        if not more:
+            raise ConnectionError("the hub has ended the session")
+        self.came += more
+
+    def row(self):
+        """The next line that the hub sends."""
+        while b"\n" not in self.came:
+            self.read_on()
+        line, _, self.came = self.came.partition(b"\n")
+        return line.decode(*CODE)
 
     def reply(self):
-        line = self.replies.readline()
-        if not line.endswith(b"\n"):
-            raise ConnectionError("the hub has ended the session")
-        text = line[:-1].decode(*CODE)
+        text = self.row()
+        self.due -= 1
         if text.startswith("ERR "):
             raise Refused(text)
         return text
@@ -41,11 +66,11 @@ class Hub:
 
     def rows(self, line):
         """The lines below the reply to LIST or TRACE."""
-        return [self.replies.readline()[:-1].decode(*CODE) for _ in range(int(self.ask(line).split()[1]))]
+        return [self.row() for _ in range(int(self.ask(line).split()[1]))]
 
     def ask_all(self, lines):
         """The replies to lines that are all sent ahead, refusals as they come. None of them is LIST or TRACE."""
-        self.socket.sendall(b"".join(line.encode(*CODE) + b"\n" for line in lines))
+        self.send(*lines)
         return [self.reply_or_refusal() for _ in lines]
 
     def reply_or_refusal(self):
