@@ -29,6 +29,9 @@ TOGETHER = 16  # clients of a topic
 WORKERS = 2  # processes with clients
 STAY = (0.5, 5)  # seconds that a client stays
 SENT, HEARD = 64, 32  # lines in a write
+VALUE_BYTES = 24  # bytes of a value, or some more where its numbers are longer
+# As the unit has it: else the C library keeps what was given back for each worker apart.
+SETTINGS = {"MALLOC_ARENA_MAX": "1"}
 CHECKED = 5  # seconds from one check of the files to the next
 VALUE = re.compile(rb"(\d+)\.(\d+);x*")
 # What the server says of a session whose client was killed, in the midst of its lines or while it waited.
@@ -52,16 +55,16 @@ def topics_of(worker, clients):
 # ---- what a client does, and what it may be told
 
 class Publishing:
-    def __init__(self, topic, is_watch, generation):
-        self.topic, self.is_watch, self.generation, self.count = topic, is_watch, generation, 0
+    def __init__(self, topic, is_watch, generation, size):
+        self.topic, self.is_watch, self.generation, self.size, self.count = topic, is_watch, generation, size, 0
         # So that somebody always receives.
         self.first = b"BIND %b\nSUB %b\n" % (topic, topic), 2
 
     def lines(self, chance):
         count = chance.randint(1, SENT)
         begin, self.count = self.count, self.count + count
-        return b"".join(b"PUB %b %d.%d;xxxxxxxxxxxxxxxx\n" % (self.topic, self.generation, number)
-                        for number in range(begin, begin + count)), count
+        values = (b"%d.%d;" % (self.generation, number) for number in range(begin, begin + count))
+        return b"".join(b"PUB %b %b\n" % (self.topic, value.ljust(self.size, b"x")) for value in values), count
 
     def told(self, lines, totals):
         if self.is_watch:
@@ -203,8 +206,8 @@ class Connection:
 class Crowd:
     """The clients of a worker."""
 
-    def __init__(self, path, worker, clients, kills, seed):
-        self.path, self.kills, self.chance = path, kills, random.Random(seed * 100 + worker)
+    def __init__(self, path, worker, clients, kills, seed, size):
+        self.path, self.kills, self.chance, self.size = path, kills, random.Random(seed * 100 + worker), size
         self.topics, self.generation = topics_of(worker, clients), 0
         self.totals, self.over, self.publishers = collections.Counter(), float("inf"), set()
         self.selector, self.there = selectors.DefaultSelector(), {}
@@ -214,7 +217,7 @@ class Crowd:
         topic, is_watch = self.topics[place // TOGETHER]
         if place % TOGETHER == 0:
             self.generation += 1
-            return Publishing(topic, is_watch, self.generation)
+            return Publishing(topic, is_watch, self.generation, self.size)
         return Looking(topic) if is_watch else Receiving(topic, self.generation)
 
     def join(self, place):
@@ -267,8 +270,8 @@ class Crowd:
         return self.totals
 
 
-def crowd_of(path, worker, clients, kills, seed, seconds):
-    return Crowd(path, worker, clients, kills, seed).run(seconds)
+def crowd_of(path, worker, clients, kills, seed, size, seconds):
+    return Crowd(path, worker, clients, kills, seed, size).run(seconds)
 
 
 # ---- the server
@@ -326,14 +329,14 @@ def take(client, topic):
         client.replies.readline()
 
 
-def served(folder, words, clients, seconds, kills, seed, traces=None, tells=None):
+def served(folder, words, clients, seconds, kills, seed, size, traces=None, tells=None):
     """Has so many clients talk to a server for so long: what they were told in all."""
     path = os.path.join(folder, "hub")
     stands = "--at-once" in words
     words = [program(), "serve", path, *words, *(["--traces", traces] if traces else [])]
     # Of thousands of clients that are killed it says more than a pipe takes that nobody reads, and would wait there.
     errors = open(os.path.join(folder, "errors"), "w+", encoding="utf-8")
-    server = subprocess.Popen(words, stdin=subprocess.PIPE, stdout=subprocess.PIPE, stderr=errors, text=True)
+    server = subprocess.Popen(words, env={**os.environ, **SETTINGS}, stdin=subprocess.PIPE, stdout=subprocess.PIPE, stderr=errors, text=True)
     shares = [clients // WORKERS + (number < clients % WORKERS) for number in range(WORKERS)]
     try:
         need(server.stdout.readline() == "listening\n", "the server does not listen")
@@ -343,7 +346,7 @@ def served(folder, words, clients, seconds, kills, seed, traces=None, tells=None
             keeper.ask(b"OPEN %b " % topic + (b"W 0.0;" if is_watch else b"B 1024"))
         files = Files(traces, [topic.decode() for topic, _ in topics]) if traces else None
         with multiprocessing.get_context("fork").Pool(WORKERS) as pool:
-            told = pool.starmap_async(crowd_of, [(path, worker, share, kills, seed, seconds)
+            told = pool.starmap_async(crowd_of, [(path, worker, share, kills, seed, size, seconds)
                                                  for worker, share in enumerate(shares) if share], chunksize=1)
             begun = time.monotonic()
             tenth, checked = 1, begun
@@ -382,8 +385,8 @@ def rate(totals, seconds):
     return totals["values"] / seconds
 
 
-def load(clients, seconds, seed):
-    """The whole trial: what is told of it, line by line."""
+def load(clients, seconds, seed, size):
+    """The whole trial, with values of so many bytes: what is told of it, line by line."""
     stands = ["--at-once", str(clients + 1), "--until-eof"]
     few = min(clients, 63)
 
@@ -391,13 +394,13 @@ def load(clients, seconds, seed):
         print(f"load: after {tenth} tenths the server has {size:.1f} MiB", flush=True)
 
     with tempfile.TemporaryDirectory() as folder:
-        whole = served(folder, stands, clients, seconds, True, seed, os.path.join(folder, "traces"), resident_at)
+        whole = served(folder, stands, clients, seconds, True, seed, size, os.path.join(folder, "traces"), resident_at)
         yield (f"{whole['replies']} replies as they may be ({whole['values']} values, {whole['lags']} lags), {whole['killed']} clients "
                f"killed; {whole['entries']} entries legal and joined; {rate(whole, seconds):.0f} values a second")
         part = min(30, max(5, seconds / 10))
-        without = served(folder, stands, clients, part, True, seed)
+        without = served(folder, stands, clients, part, True, seed, size)
         yield f"without --traces {rate(without, part):.0f} values a second"
-        told = [f"{rate(served(folder, how, few, part, False, seed, traces), part):.0f} {name}" for how, traces, name in (
+        told = [f"{rate(served(folder, how, few, part, False, seed, size, traces), part):.0f} {name}" for how, traces, name in (
             (stands, os.path.join(folder, "few"), "with --traces"), (stands, None, "without"),
             (["--sessions", str(few + 1)], None, "with --sessions, where one client takes the traces"))]
         yield f"of {few} clients that stay: {', '.join(told)}"
