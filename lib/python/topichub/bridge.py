@@ -63,7 +63,7 @@ VALUES = re.compile(rb"[^\r\n]{1,1024}(?:\n[^\r\n]{1,1024}){0,%d}" % (MOST_VALUE
 PLACE = re.compile(r"[0-9]{1,20}-[0-9]{1,20}")  # of an entry in its stream
 LIFE = re.compile(r"[0-9a-f]{16}")  # of a hub, as the first bridge of a name there calls it
 # What Redis says where it cannot do it now. Anything else it will not do later either.
-NOT_NOW = ("OOM", "READONLY", "NOREPLICAS", "MISCONF", "LOADING", "BUSY", "CLUSTERDOWN", "MASTERDOWN", "TRYAGAIN")
+NOT_NOW = ("OOM", "READONLY", "NOREPLICAS", "MISCONF", "LOADING", "BUSY", "CLUSTERDOWN", "MASTERDOWN", "TRYAGAIN", "UNBLOCKED")
 
 
 def tell(*words: object) -> None:
