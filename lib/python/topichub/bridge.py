@@ -53,6 +53,7 @@ TAKEN = 256  # values that are taken from the hub at once
 CALM = 32  # values that a receiver of the hub may still have to read when more come from Redis
 GRACE, RUSH = 0.02, 1.0  # seconds that slow receivers are waited for, and seconds in which they are not, after that was in vain
 KEPT = 1_024  # entries that are appended once more where Redis comes back without them
+NOTED = 0.1  # seconds from one note in Redis of how far we have read to the next, while more comes
 MOST_STATE = 1_000  # bytes of the account at the hub; a value has 1,024
 GAP = b"\x1aLAG %s %s"
 NAME = re.compile(r"[a-z0-9_-]{1,32}")
@@ -475,6 +476,7 @@ class Topic:
         self.incoming: queue.Queue[list[Any]] = queue.Queue(4)
         self.items: deque[Item] = deque()
         self.queued, self.waits_since, self.rushes_until = 0, 0.0, 0.0
+        self.is_noted, self.noted_at = True, 0.0
         self.counts = {"out": 0, "out missed": 0, "in": 0, "in missed": 0}
 
     def wake(self) -> None:
@@ -601,7 +603,8 @@ class Topic:
             raise ValueError(f"{read} in Redis was not written by a bridge")
         state.at = state.at or at
         self.ahead = dict(state.seen)
-        self.writer.note_read(self.note())
+        self.is_noted = False
+        self.tell_redis()
 
     def note(self) -> dict[str, str]:
         seen = {name: f"{run} {number}" for name, (run, number) in self.state.seen.items()}
@@ -816,7 +819,15 @@ class Topic:
             values = [it.value for it in items if it.value is not None]
             refused = self.turn(values, self.writer.has_room()) if values else []
             items = self.after_refusals(items, refused, before) if refused else []
-        self.writer.note_read(self.note())
+        self.is_noted = False
+        if time.monotonic() > self.noted_at + NOTED:
+            self.tell_redis()
+
+    def tell_redis(self) -> None:
+        """How far we have read, for a hub that is started anew, and so knows nothing of it."""
+        if not self.is_noted:
+            self.writer.note_read(self.note())
+            self.is_noted, self.noted_at = True, time.monotonic()
 
     def after_refusals(self, items: list[Item], refused: list[int], before: State) -> list[Item]:
         """Some of the values were refused, as where the hub has no memory. What is to be sent now: those behind which none was
@@ -881,6 +892,7 @@ class Topic:
 
     def wait(self, has_room: bool) -> None:
         """Until the hub or the stream has something, or there is room."""
+        self.tell_redis()
         if has_room and not self.is_armed:
             self.arm()
             self.left = self.hub.count(b"LEFT " + self.named)  # it may have come before
