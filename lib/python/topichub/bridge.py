@@ -432,12 +432,13 @@ class Window:
         self.found: list[Optional[bytes]] = []
 
     def others(self) -> list[Optional[bytes]]:
-        """What others have sent there; each of ours is left as an empty value."""
-        count = len(self.ours)
-        for first in range(len(self.found) - count + 1):
-            if all(it in (None, due) for it, due in zip(self.found[first:first + count], self.ours)):
-                return [*self.found[:first], *[b""] * count, *self.found[first + count:]]
-        found, at = list(self.found), 0
+        """What others have sent there; each of ours is left as an empty value. The hub sends lines that came together in a row."""
+        count, found, at = len(self.ours), list(self.found), 0
+        fits = [first for first in range(len(found) - count + 1)
+                if all(it in (None, due) for it, due in zip(found[first:first + count], self.ours))]
+        if fits:
+            first = max(fits, key=lambda first: sum(it is not None for it in found[first:first + count]))
+            return [*found[:first], *[b""] * count, *found[first + count:]]
         for value in self.ours:  # the hub refused one between them, or parted them
             while at < len(found) and found[at] not in (None, value):
                 at += 1
@@ -498,6 +499,7 @@ class Topic:
 
     def join(self) -> None:
         """A sender and a receiver, once the topic is there; and what is known of earlier runs."""
+        pause = SOON
         while True:
             try:
                 self.hub.ask(b"BIND " + self.named)
@@ -505,7 +507,8 @@ class Topic:
             except Refused as refusal:
                 if str(refusal) != "ERR 11 no-topic":  # nobody has opened it yet
                     raise
-                time.sleep(SOON)
+                time.sleep(pause)
+                pause = min(2 * pause, AGAIN)
         self.hub.count(b"QUEUED " + self.named)  # which a watch topic refuses
         self.alarm.ask(b"BIND " + self.named)  # so that it can join whatever becomes of the hub's own sender
         self.take_account()
