@@ -118,8 +118,7 @@ C subscribe 5
 R new-rx 6
 C send 1 fourteen
 R sent 2
-END 11
-""".splitlines()
+END 11"""
 
 
 @pytest.mark.parametrize("due, most, ours, dropped, sends", [
@@ -130,11 +129,11 @@ END 11
     (0, 2, 1, 1, [(12, 1, b"twelve and more"), (13, 1, b"thirteen")]),
 ])
 def test_trace(due, most, ours, dropped, sends):
-    assert read_trace(iter(TRACE), "qrq", "3", due, most) == (10, 14, "5", ours, dropped, sends)
+    assert read_trace(TRACE, "qrq", "3", due, most) == (10, 14, "5", ours, dropped, sends)
 
 
 def test_trace_that_does_not_tell_of_us():
-    assert read_trace(iter(TRACE), "qqq", "3", 0, 9) is None
+    assert read_trace(TRACE, "qqq", "3", 0, 9) is None
 
 
 def test_refused_is_no_end_of_the_session():

@@ -36,7 +36,7 @@ import sys
 import threading
 import time
 from collections import deque
-from typing import Any, Callable, Iterable, Iterator, NamedTuple, Optional, Sequence
+from typing import Any, Callable, Iterable, NamedTuple, Optional, Sequence
 
 PAUSE, LONGEST_PAUSE = 0.1, 5.0  # seconds until Redis is tried again: twice as many each time
 PATIENCE = 5  # seconds that Redis may take for an answer
@@ -289,19 +289,8 @@ class Session:
             raise ConnectionError("the hub has ended the session")
         return more
 
-    def rows(self, count: int) -> Iterator[bytes]:
-        """The next lines that the hub sends."""
-        while count:
-            *whole, rest = self.came.split(b"\n")
-            for at in range(min(count, len(whole))):
-                yield whole[at]
-            left = whole[count:]
-            count -= min(count, len(whole))
-            self.came = b"\n".join((*left, rest)) if left else rest
-            if count:
-                self.came += self.read()
-
     def replies(self, count: int) -> list[bytes]:
+        """The next lines that the hub sends."""
         parts, due = [self.came], count - self.came.count(b"\n")
         while due > 0:
             parts.append(self.read())
@@ -331,34 +320,35 @@ class Traced(NamedTuple):
     sends: list[tuple[int, int, bytes]]  # the others that were sent before we joined: position, ours until then, value
 
 
-def read_trace(rows: Iterator[bytes], mark: str, before: str, due: int, most: int) -> Optional[Traced]:
+# Of a trace: the position of the next value at its beginning, and the calls that matter here, of the sends those that were sent.
+PICTURE = re.compile(rb"^AT [0-9]+ ([0-9]+) ", re.M)
+ENTRY = re.compile(rb"^C (?:(send) ([0-9]+) ([^\n]+)\nR sent |(?:(queued|readers|subscribe) ([0-9]+))$)", re.M)
+
+
+def read_trace(trace: bytes, mark: str, before: str, due: int, most: int) -> Optional[Traced]:
     """Reads a trace; `None` where it does not tell of us. Our sender is the one that has made the calls of `mark` before it made our
     receiver; `before` is that of an earlier run. What was sent below the position `due` is known."""
     calls: dict[bytes, str] = {}
     sends: deque[tuple[int, int, bytes]] = deque()
-    position, begins, ours, dropped, joined, sender = 0, 0, 0, 0, -1, ""
-    for row in rows:
-        if row.startswith(b"AT "):
-            position = begins = int(row.split(b" ")[2])
-        if not row.startswith(b"C "):
-            continue
-        words, reply = row.split(b" ", 3), next(rows)
-        if words[1] == b"send":
-            if reply.startswith(b"R sent "):
-                if joined < 0 and position >= due:
-                    if words[2].decode() == before:
-                        ours += 1
-                    else:
-                        sends.append((position, ours, words[3]))
-                        if len(sends) > most:
-                            sends.popleft()
-                            dropped += 1
-                position += 1
-        elif words[1] in (b"queued", b"readers"):
-            calls[words[2]] = (calls.get(words[2], "") + words[1][:1].decode())[-len(mark):]
-        elif words[1] == b"subscribe" and calls.get(words[2]) == mark and joined < 0:
-            joined, sender = position, words[2].decode()
-    return Traced(begins, joined, sender, ours, dropped, list(sends)) if joined >= 0 else None
+    position = begins = int((PICTURE.search(trace) or [b"", b"0"])[1])
+    ours, dropped = 0, 0
+    for entry in ENTRY.finditer(trace):
+        call, handle, value = entry[1] or entry[4], entry[2] or entry[5], entry[3]
+        if call == b"send":
+            if position >= due:
+                if handle.decode() == before:
+                    ours += 1
+                else:
+                    sends.append((position, ours, value))
+                    if len(sends) > most:
+                        sends.popleft()
+                        dropped += 1
+            position += 1
+        elif call != b"subscribe":
+            calls[handle] = (calls.get(handle, "") + call[:1].decode())[-len(mark):]
+        elif calls.get(handle) == mark:
+            return Traced(begins, position, handle.decode(), ours, dropped, list(sends))
+    return None
 
 
 class Item(NamedTuple):
@@ -547,7 +537,8 @@ class Topic:
             *_, last = self.hub.replies(len(calls) + 2)
             if not last.startswith(b"OK "):
                 raise Refused(last.decode())
-            traced = read_trace(self.hub.rows(int(last.split(b" ")[1])), mark, self.state.sender, due, self.words.hold)
+            rows = self.hub.replies(int(last.split(b" ")[1]))
+            traced = read_trace(b"\n".join(rows), mark, self.state.sender, due, self.words.hold)
             if traced:
                 return traced
             self.hub.ask(b"UNSUB " + self.named)
@@ -856,11 +847,12 @@ class Topic:
         look, sent = b"LEFT " + topic, [b"PUB %s %s" % (topic, it) for it in values]
         if values:
             sent = [look, *sent, b"PUB %s %s" % (self.account, self.state.line()), look]
-        self.hub.send(*sent, *[b"TRY " + topic] * count, look, b"QUEUED " + topic)
-        replies = self.hub.replies(len(sent) + count + 2)
+        looks = [b"QUEUED " + topic, look] if values or self.items else [look]  # each is an event of the topic's history
+        self.hub.send(*sent, *[b"TRY " + topic] * count, *looks)
+        replies = self.hub.replies(len(sent) + count + len(looks))
         refused = self.open_window(values, replies[:len(sent)]) if values else []
-        self.account_for(replies[len(sent):-2])
-        self.left, self.queued = (int(it.split(b" ")[1]) for it in replies[-2:])
+        self.account_for(replies[len(sent):-len(looks)])
+        self.queued, self.left = (int(it.split(b" ")[1]) for it in (replies[-len(looks)], replies[-1]))
         self.hand_over("the bridge here was too slow")
         return refused
 
