@@ -561,8 +561,10 @@ class Topic:
             self.catch_up(traced, max(0, traced.begins - due) - (self.state.sent - ours - traced.ours))
         else:
             self.run = str(time.time_ns())
-            self.entries.append(Due(Entry(self.name, self.run, 0, 0, []), self.end(self.place, self.state.sent)))
-            if run and traced:  # the hub is another one than that of the run before, so all that it has is new
+            is_new = run is not None and traced is not None  # the hub is another one than that of the run before, so all that it has is new
+            place, known = (traced.begins, self.state.sent - traced.ours) if traced and is_new else (self.place, self.state.sent)
+            self.entries.append(Due(Entry(self.name, self.run, 0, 0, []), self.end(place, known)))
+            if traced and is_new:
                 self.catch_up(traced, 0)
         self.ours = self.state.sent
         self.hand_over("the bridge here was not running")
