@@ -13,7 +13,8 @@ What is missing is told as a gap, on standard error and on the topic itself, by 
   in the stream      entries were trimmed, by --keep or by hand, or lost by Redis, before the bridge here had read them
 
 The n is exact. `LAG ? NAME` is told where nobody can count: the hub there is another one, started anew, or Redis has lost what it
-knew of the bridge there.
+knew of the bridge there. What was sent while a bridge was down is lost too, and counted, where it is killed once more right after it
+has begun, between its TRACE and Redis' answer.
 
 A bridge keeps its account at its hub, in a watch topic `bridge-..`, and in Redis. When it begins it takes a `TRACE` of its topics,
 so a history that others collect by `TRACE` lacks that part; with --no-trace it takes none, and what is sent while it is not running
@@ -560,7 +561,8 @@ class Topic:
                 raise ValueError(f"{self.writer.ends} in Redis was not written by a bridge")
             self.catch_up(traced, max(0, traced.begins - due) - (self.state.sent - ours - traced.ours))
         else:
-            self.run = str(time.time_ns())
+            before = read_words(ends or b"", (RUN,))
+            self.run = str(max(time.time_ns(), int(before[0]) + 1 if before else 0))  # a later run has a larger number
             is_new = run is not None and traced is not None  # the hub is another one than that of the run before, so all that it has is new
             place, known = (traced.begins, self.state.sent - traced.ours) if traced and is_new else (self.place, self.state.sent)
             self.entries.append(Due(Entry(self.name, self.run, 0, 0, []), self.end(place, known)))
@@ -745,6 +747,8 @@ class Topic:
         last_run, last = self.ahead.setdefault(name, (run, 0))
         count = entry.missed or (1 if values is None else len(values))
         before = number - count  # the number that is due to be the last one
+        if int(run) < int(last_run):
+            return  # it was read before, from a stream that Redis has lost the end of
         if last_run != run:
             self.gap("?", entry, before, "its hub, or Redis, was started anew")
             last = before
