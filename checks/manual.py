@@ -9,6 +9,7 @@ from program import PATIENCE, ROOT
 
 PAGES = os.path.join(ROOT, "packaging", "man")
 COMPLETIONS = os.path.join(ROOT, "packaging", "completions")
+BRIDGE = "bridge"  # which has a page, and is no mode
 SHELLS = ("bash", "zsh", "fish")
 
 # Offers what bash would at the end of the line $2, by the completion in the file $1.

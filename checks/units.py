@@ -1,4 +1,4 @@
-"""The package's units, topichub@.socket and topichub@.service, as far as they can be tried without a systemd of their own."""
+"""The package's units, topichub@.socket, topichub@.service and topichub-bridge@.service, as far as they can be tried without a systemd of their own."""
 import contextlib
 import os
 import re
@@ -17,6 +17,7 @@ from sessions import Client
 FOLDER = "usr/lib/systemd/system"
 SOCKET = "topichub@.socket"
 SERVICE = "topichub@.service"
+BRIDGE = "topichub-bridge@.service"
 # Gives what comes behind it the descriptor $1 as 3, as systemd does.
 AS_THIRD = 'exec 3<&"$1"; shift; exec "$@"'
 
@@ -84,7 +85,7 @@ def ends_in_order(tally, program, line):
 
 def tries(tally, folder, program):
     """The units in this folder, with this program."""
-    paths = [os.path.join(folder, it) for it in (SERVICE, SOCKET)]
+    paths = [os.path.join(folder, it) for it in (SERVICE, SOCKET, BRIDGE)]
     if shutil.which("systemd-analyze"):
         ran = subprocess.run(["systemd-analyze", "--man=no", "verify", *paths], capture_output=True, text=True, timeout=PATIENCE)
         told = [line for line in ran.stderr.splitlines() if "topichub" in line]

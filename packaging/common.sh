@@ -192,14 +192,15 @@ put() {
 # stage FOLDER ZSH: bin and share in the folder, zsh's completion in the folder ZSH of zsh's own.
 stage() {
     share=$1/share
-    put 755 "$room/topichub" "$1/bin"
+    put 755 "$room/topichub" "$root/lib/python/topichub/bridge.py" "$1/bin"
+    mv "$1/bin/bridge.py" "$1/bin/topichub-bridge"
     put 644 "$here"/man/*.1 "$share/man/man1"
     put 644 "$here/completions/topichub.bash" "$share/bash-completion/completions"
     mv "$share/bash-completion/completions/topichub.bash" "$share/bash-completion/completions/topichub"
     put 644 "$here/completions/topichub.zsh" "$share/zsh/$2"
     mv "$share/zsh/$2/topichub.zsh" "$share/zsh/$2/_topichub"
     put 644 "$here/completions/topichub.fish" "$share/fish/vendor_completions.d"
-    put 644 "$here/debian/topichub@.service" "$here/debian/topichub@.socket" "$1/lib/systemd/system"
+    put 644 "$here"/debian/topichub*@.* "$1/lib/systemd/system"
     stage_documents "$share/doc/topichub"
 }
 

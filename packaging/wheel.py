@@ -13,7 +13,7 @@ import tomllib
 import zipfile
 
 # What of pyproject.toml goes into the metadata. Anything else there ends the script, so that nothing is lost unseen.
-KNOWN = {"name", "version", "description", "readme", "requires-python", "license", "classifiers"}
+KNOWN = {"name", "version", "description", "readme", "requires-python", "license", "classifiers", "optional-dependencies", "scripts"}
 
 
 class Wheel:
@@ -51,6 +51,8 @@ def metadata(project, version, readme):
     lines = ["Metadata-Version: 2.1", f"Name: {project['name']}", f"Version: {version}", f"Summary: {project['description']}",
              f"License: {project['license']['text']}", *(f"Classifier: {it}" for it in project["classifiers"]),
              f"Requires-Python: {project['requires-python']}", "Description-Content-Type: text/markdown"]
+    for extra, needs in project["optional-dependencies"].items():
+        lines += [f"Provides-Extra: {extra}", *(f'Requires-Dist: {it}; extra == "{extra}"' for it in needs)]
     return "\n".join(lines).encode() + b"\n\n" + readme
 
 
@@ -73,6 +75,8 @@ def main():
     wheel.add(f"{info}/METADATA", metadata(project, version, read(place, project["readme"])))
     wheel.add(f"{info}/WHEEL", f"Wheel-Version: 1.0\nGenerator: topichub packaging/wheel\nRoot-Is-Purelib: false\n"
               f"Tag: {python}-{abi}-{platform}\n".encode())
+    scripts = "".join(f"{script} = {where}\n" for script, where in project["scripts"].items())
+    wheel.add(f"{info}/entry_points.txt", f"[console_scripts]\n{scripts}".encode())
     wheel.add(f"{info}/copyright", read(root, "packaging", "debian", "copyright"))
     wheel.end(info)
 
