@@ -11,11 +11,15 @@
 mod client;
 mod connections;
 mod keep_serving;
+mod limits;
+mod lock;
+mod node;
 mod outcome;
 mod part;
 mod parts;
 mod serve;
 mod socket;
+mod streams;
 mod words;
 
 pub use outcome::Outcome;
