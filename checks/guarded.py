@@ -372,6 +372,21 @@ def private(folder):
         0, text, f"topichub: {kept}: a trace could not be written; the server goes on\n")
 
 
+def unfinished(folder):
+    """What other starts have left is told and stays, and so does what is none of it."""
+    path, traces = os.path.join(folder, "unfinished"), os.path.join(folder, "left")
+    for start, names in (("17", ("a.trace.part", "b.trace.part", "c.trace")), ("18", ("d.trace.part",)), ("of-the-user", ("e.trace.part",))):
+        os.makedirs(os.path.join(traces, start))
+        for name in names:
+            written(os.path.join(traces, start, name))
+    before = {at: sorted(names) for at, _, names in os.walk(traces) if names}
+    with Server(path, None, words=["--at-once", "2", "--until-eof", "--traces", traces]) as server:
+        status, _, told = ended(server)
+    yield "a start says how many traces of other starts were never finished", (status, told) == (
+        0, f"topichub: {traces}: unfinished traces of other starts, which end in .part: 3\n")
+    yield "and leaves them", {at: sorted(names) for at, _, names in os.walk(traces) if names} == before
+
+
 def folders_of_others(folder):
     del folder
     with for_all("a folder for traces that belongs to another user") as (folder, copy):
@@ -522,5 +537,5 @@ def clocked(folder):
     yield "who does not read is let go after five seconds of the clock", is_ended and took < 60
 
 
-TRIED = (no_locks, locks, locks_of_others, modes, never_open, removes, stales, private, folders_of_others, few_descriptors,
+TRIED = (no_locks, locks, locks_of_others, modes, never_open, removes, stales, private, unfinished, folders_of_others, few_descriptors,
          closed_streams, empty_words, other_sockets, clocked)

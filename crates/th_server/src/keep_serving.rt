@@ -9,6 +9,7 @@ use crate::parts::{FolderFault, Keeper, Store, folder, is_unnamed};
 use crate::serve::Teller;
 use crate::socket;
 use crate::socket::{Socket, SocketFault};
+use crate::unfinished::tell_of_others;
 use std::alloc::Global;
 use std::fs::File;
 use std::io::{Eprint, ErrorKind, Input, Print, Read};
@@ -340,6 +341,9 @@ pub(crate) fn keep_serving<
     tell_if_few(rt, path, how.at_once);
     let (end, fault) = match folder(rt, alloc, traces) {
         Ok(folder) => {
+            if let Some(dir) = traces {
+                tell_of_others(rt, alloc, dir);
+            }
             let folder = folder.as_ref().map(|name| name.as_str());
             (serve_on(rt, alloc, &made, folder, how), None)
         }

@@ -20,6 +20,7 @@ mod parts;
 mod serve;
 mod socket;
 mod streams;
+mod unfinished;
 mod words;
 
 pub use outcome::Outcome;

@@ -1,4 +1,7 @@
 //! The lock of a server, on a file beside its socket.
+ghost use Rattle.std.specs.Prelude.{◌≡◌, IfOk, None};
+ghost use Rattle.std.specs.Fs.{IsFile, file_type};
+
 use crate::node::{Node, is_own};
 use crate::socket::SocketFault;
 use std::alloc::{AllocError, Global};
@@ -67,7 +70,9 @@ pub(crate) struct Lock {
 }
 
 // What keeps a file from being that of a lock.
-fn fault_of(found: &Metadata) -> Option<LockFault> {
+fn fault_of(found: &Metadata) -> Option<LockFault>
+    ensures regular { result ≡ None → IsFile (file_type found.now) }
+{
     if found.is_symlink() {
         Some(LockFault::Link)
     } else if !found.is_file() {
@@ -117,7 +122,9 @@ fn open<R: Files<File = File>>(rt: &R, name: &str) -> Result<Option<(File, bool)
 }
 
 // Locks the file, of which this was found once it was open.
-fn hold(file: &File, found: &Metadata) -> Result<(), SocketFault> {
+fn hold(file: &File, found: &Metadata) -> Result<(), SocketFault>
+    ensures regular { IfOk result (λ _. IsFile (file_type found.now)) }
+{
     if let Some(fault) = fault_of(found) {
         return Err(SocketFault::Lock(fault));
     }

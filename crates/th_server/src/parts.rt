@@ -1,4 +1,6 @@
 //! The parts of histories that a hub has cut: they go to files of a folder, or are let go.
+ghost use Rattle.std.specs.Prelude.{◌≡◌, None, false};
+
 use crate::node::is_own;
 use crate::part::{Part, entries_of, file_of, put_trace};
 use std::alloc::Global;
@@ -108,7 +110,9 @@ fn folder_at<R: Files + Clock>(rt: &R, alloc: Global, dir: &str) -> Result<Strin
 }
 
 /// Whether a folder is wanted and has no name.
-pub(crate) fn is_unnamed(dir: Option<&str>) -> bool {
+pub(crate) fn is_unnamed(dir: Option<&str>) -> bool
+    ensures unwanted { dir.entry ≡ None → result ≡ false }
+{
     match dir {
         None => false,
         Some(dir) => dir.is_empty(),

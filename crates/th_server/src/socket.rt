@@ -3,6 +3,7 @@ use crate::lock;
 use crate::lock::{Lock, LockFault};
 use crate::node::Node;
 use crate::parts::FolderFault;
+use crate::streams::open_closed;
 use os::FromRawFd;
 use std::alloc::Global;
 use std::fmt::Display;
@@ -233,6 +234,9 @@ pub(crate) fn make<R: Files<File = File> + Net>(
     path: &str,
     replaces: bool,
 ) -> Result<Socket, SocketFault> {
+    if !open_closed(rt) {
+        return Err(SocketFault::Streams);
+    }
     if path.is_empty() {
         return Err(SocketFault::Unnamed);
     }
@@ -275,7 +279,14 @@ fn as_socket(listener: UnixListener) -> Result<Socket, SocketFault> {
 }
 
 // The socket that was handed over as this descriptor, and is bound at the path.
-fn inherited<R: Files>(rt: &R, path: &str, descriptor: u64) -> Result<Socket, SocketFault> {
+fn inherited<R: Files<File = File>>(
+    rt: &R,
+    path: &str,
+    descriptor: u64,
+) -> Result<Socket, SocketFault> {
+    if !open_closed(rt) {
+        return Err(SocketFault::Streams);
+    }
     let Ok(found) = fs::symlink_metadata(rt, path) else {
         return Err(SocketFault::Missing);
     };

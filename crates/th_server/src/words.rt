@@ -10,7 +10,6 @@ use crate::outcome::Outcome;
 use crate::parts::Store;
 use crate::serve::serve;
 use crate::socket::SocketFault;
-use crate::streams::open_closed;
 use std::alloc::{AllocError, Global};
 use std::fs::File;
 use std::io::{Eprint, Input, Print};
@@ -98,16 +97,6 @@ fn serve_asked<
 {
     let alloc = rt.alloc();
     let (end, sessions) = match &serving {
-        _ if !open_closed(rt) => {
-            explain(
-                rt,
-                path.as_str(),
-                &End::Socket,
-                Some(SocketFault::Streams),
-                people,
-            );
-            (End::Socket, Vec::new(alloc))
-        }
         Serving::Sessions(count) => {
             let (served, fault) = serve(rt, alloc, path.as_str(), *count);
             let (end, sessions) = match served {
