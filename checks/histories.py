@@ -3,12 +3,12 @@
 What is due is written in docs/FORMATS.md, "A server that stands". How many events a topic has is counted by hand, from the lines
 that are sent: each line that is an event is one, a `RESUB` is two, and a session that ends spends its handles."""
 import contextlib
+import ctypes
 import glob
 import os
 import re
 import select
 import socket
-import stat
 import subprocess
 import threading
 
@@ -20,6 +20,8 @@ GROUP = 64  # lines that are carried out together at most
 MANY = 1_000_000  # entries that a trace has at most
 TIMEVAL = 16  # bytes that a limit of time of a socket has, all of them 0 where there is none
 PART = re.compile(r"([a-z0-9_-]{1,32})\.([0-9]{20})\.trace")
+# Requests of Linux's ptrace, and how one waits for a thread that is no process.
+SEIZE, INTERRUPT, DETACH, EACH_THREAD = 0x4206, 0x4207, 17, 0x40000000
 # How many lines are sent before their replies are read.
 AHEAD = 4_096
 
@@ -359,49 +361,58 @@ def full_disk(folder):
         yield "and nothing else is left", len(os.listdir(kept)) == len(parts)
 
 
-def read_until(file, path):
-    """What comes from a file until something has this path."""
-    came = []
+def writer_of(server, client, kept):
+    """The thread that writes the parts of broadcast topics: of those that are awake when the first part is cut, the one that is not
+    awake for an event that cuts nothing."""
+    resting = server.settled()
+    client.ask(b"READERS t")
+    served = server.settled(since=resting)
+    sent_ahead(client, b"PUB t x\n", 98)
+    client.ask(b"PUB t x")
+    eventually(lambda: parts_of(kept, "t") != [])
+    cut = server.settled(since=served)
+    found, = {it for it in cut if cut[it] != served[it]} - {it for it in served if served[it] != resting[it]}
+    return int(found)
 
-    def is_there():
-        is_whole = os.path.lexists(path)
-        while chunk := file.read():
-            came.append(chunk)
-        return is_whole
 
-    eventually(is_there)
-    return b"".join(came)
+@contextlib.contextmanager
+def standing_still(thread):
+    """A thread of a child, which stands still meanwhile, as one does whose disk hangs; whether it can be had do so."""
+    ptrace = ctypes.CDLL(None, use_errno=True).ptrace
+    ptrace.argtypes = [ctypes.c_long, ctypes.c_long, ctypes.c_void_p, ctypes.c_void_p]
+    is_held = ptrace(SEIZE, thread, None, None) == 0
+    if is_held:
+        ptrace(INTERRUPT, thread, None, None)
+        os.waitpid(thread, EACH_THREAD)
+    try:
+        yield is_held
+    finally:
+        if is_held:
+            ptrace(DETACH, thread, None, None)
 
 
 def slow_disk(folder):
     traces = os.path.join(folder, "slow")
     with standing(os.path.join(folder, "hangs"), "--history", "100", "--memory", "1024", "--traces", traces) as server:
         kept, = starts(traces)
-        first = os.path.join(kept, "t.00000000000000000001.trace.part")
-        os.mkfifo(first)  # whoever opens it waits until somebody reads it
         with contextlib.closing(Client(server.path)) as client:
             for line in (b"OPEN t B 1", b"BIND t", b"SUB t"):
                 client.ask(line)
-            # There is room for 5 parts beside the one that is being written.
-            told = sent_ahead(client, b"PUB t x\n", 98), {client.ask(b"PUB t x")}
-            server.settled()  # the first part is that one
-            for _ in range(1_000):
-                told += {client.ask(b"PUB t x")},
-        yield "where a disk hangs the server goes on", set.union(*told) == {b"OK 1", b"OK 1\n"}
-        whole = first.removesuffix(".part")
-        with open(first, "rb", buffering=0, opener=lambda path, flags: os.open(path, flags | os.O_NONBLOCK)) as file:
-            begun = read_until(file, whole)
+            with standing_still(writer_of(server, client, kept)) as is_held:
+                if not is_held:
+                    leave_out("serve", "no thread of a child can be stopped", "a disk that hangs")
+                    return
+                # There is room for 5 parts.
+                told = {client.ask(b"PUB t x") for _ in range(1_000)}
+                written = parts_of(kept, "t")
         ends = ended(server)
+    yield "where a disk hangs the server goes on", (told, len(written)) == ({b"OK 1\n"}, 1)
     yield "and says once that parts are left out", ends == (
         0, "listening\ndone 1\n", f"topichub: {kept}: traces are left out, since they come faster than they are written\n")
-    yield "the file that it hung at has its name then", stat.S_ISFIFO(os.stat(whole).st_mode)
-    os.remove(whole)
-    with open(whole, "wb") as file:
-        file.write(begun)
     lasting, last = runs_of(parts_of(kept, "t"))
     yield "what was written is one history up to what was left out", lasting[0][0] == 1 and joined(lasting) == sum(
         entries for _, entries, _ in lasting) >= 600
-    yield "and so is what was written behind that", joined(last) == last[0][1] and last[0][0] + last[0][1] - 1 == 1_103
+    yield "and so is what was written behind that", joined(last) == last[0][1] and last[0][0] + last[0][1] - 1 == 1_104
 
 
 def no_folder(folder):

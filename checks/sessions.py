@@ -11,23 +11,27 @@ from program import eventually, patience, program
 
 
 class Server:
-    """A server of so many sessions, or one that stands, by its other words; it may have so many files open at a time, and is given
-    these descriptors. `first` is the first line that it printed: it listens, or has ended without one."""
+    """A server of so many sessions, or one that stands, by its other words; it may have so many files open at a time, is given
+    these descriptors, and begins with this in its process. `file` is the program, or words to start it by; `how` is for Popen.
+    `first` is the first line that it printed: it listens, or has ended without one."""
 
-    def __init__(self, path, sessions, environment=None, files=None, words=None, pass_fds=()):
+    def __init__(self, path, sessions, environment=None, files=None, words=None, pass_fds=(), begin=None, file=None, **how):
         self.path = path
+        file = [file] if isinstance(file, str) else file or [program()]
         words = words or ["--sessions", str(sessions)]
 
-        def begin():
+        def prepare():
             signal.signal(signal.SIGINT, signal.SIG_DFL)
             if files is not None:
                 resource.setrlimit(resource.RLIMIT_NOFILE, (files, files))
+            if begin is not None:
+                begin()
 
         # A shell has what it starts in the background ignore SIGINT, and so would all below it.
-        self.process = subprocess.Popen([program(), "serve", path, *words],
+        self.process = subprocess.Popen([*file, "serve", path, *words],
                                         stdin=subprocess.PIPE if "--until-eof" in words else subprocess.DEVNULL,
                                         stdout=subprocess.PIPE, stderr=subprocess.PIPE, text=True, env=environment,
-                                        preexec_fn=begin, pass_fds=pass_fds)
+                                        preexec_fn=prepare, pass_fds=pass_fds, **how)
         timer = threading.Timer(patience(), self.process.kill)
         timer.start()
         self.first = self.process.stdout.readline()

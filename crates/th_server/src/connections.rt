@@ -8,6 +8,8 @@ use std::sync::{Arc, Mutex, Wait};
 /// The connections of the sessions that are there, each at the place of the worker that serves it, and whether the server goes on.
 #[derive(Drop)]
 pub(crate) struct Connections {
+    // Who has it waits for the next connection. The system takes a descriptor for each that waits, before anybody comes.
+    pub(crate) turn: Mutex<()>,
     streams: Mutex<Vec<Option<Arc<UnixStream>>>>,
     // Sessions that have begun.
     begun: AtomicU64,
@@ -23,6 +25,7 @@ impl Connections {
             streams.push(None)?;
         }
         Ok(Connections {
+            turn: Mutex::new(()),
             streams: Mutex::new(streams),
             begun: AtomicU64::new(0),
             ending: AtomicBool::new(false),

@@ -4,10 +4,12 @@ ghost use Rattle.th_program.specs.declared.end.End.TheVariants.{Done};
 
 use crate::client::Client;
 use crate::connections::Connections;
-use crate::parts::{Keeper, Store, folder};
+use crate::limits::tell_if_few;
+use crate::parts::{FolderFault, Keeper, Store, folder, is_unnamed};
 use crate::serve::Teller;
 use crate::socket;
 use crate::socket::{Socket, SocketFault};
+use crate::unfinished::tell_of_others;
 use std::alloc::Global;
 use std::fs::File;
 use std::io::{Eprint, ErrorKind, Input, Print, Read};
@@ -17,7 +19,7 @@ use std::rt::Files;
 use std::sync::{Arc, Wait};
 use std::thread;
 use std::thread::{JoinHandle, Scope, Threads, sleep};
-use std::time::{Clock, Duration};
+use std::time::{Clock, Duration, Instant};
 use th_lines::Counted;
 use th_model::Kind;
 use th_program::{End, Standing};
@@ -25,7 +27,7 @@ use th_session::{Bounds, Keeping, SessionFault, run_session};
 use th_shared::{Histories, SharedDesk};
 use th_sockets::Observer;
 
-// How long a worker waits after a connection that could not be accepted, in milliseconds: descriptors may come back.
+// How long no connection is waited for after one that could not be accepted, in milliseconds: descriptors may come back.
 const PAUSE: u64 = 100;
 
 // How long sessions may take to their end once their input is ended, in milliseconds.
@@ -84,6 +86,28 @@ fn accept<R: Eprint>(
     Ok(kept)
 }
 
+// The next connection, for one worker after another. `None` where none came to a socket that was handed over, none could be accepted,
+// or none is to begin any more.
+fn next<R: Wait + Clock + Eprint>(
+    rt: &R,
+    alloc: Global,
+    listener: &UnixListener,
+    connections: &Connections,
+) -> Option<Arc<UnixStream>> {
+    let _turn = connections.turn.lock(rt);
+    if connections.is_ending() {
+        return None;
+    }
+    match accept(rt, alloc, listener, connections) {
+        Ok(stream) => Some(stream),
+        Err(ErrorKind::WouldBlock) => None,
+        Err(_) => {
+            sleep(rt, Duration::from_millis(PAUSE));
+            None
+        }
+    }
+}
+
 // Serves one connection after another at this place, until the server ends.
 fn work<R: Wait + Clock + Clone + Eprint>(
     rt: &R,
@@ -97,14 +121,8 @@ fn work<R: Wait + Clock + Clone + Eprint>(
         if connections.is_ending() {
             return;
         }
-        let stream = match accept(rt, alloc, listener, connections) {
-            Ok(stream) => stream,
-            // Nobody came to a socket that was handed over.
-            Err(ErrorKind::WouldBlock) => continue,
-            Err(_) => {
-                sleep(rt, Duration::from_millis(PAUSE));
-                continue;
-            }
+        let Some(stream) = next(rt, alloc, listener, connections) else {
+            continue;
         };
         let Ok(theirs) = Arc::try_clone(&stream) else {
             continue;
@@ -156,17 +174,32 @@ fn read_to_end<R: Input + Wait>(rt: &R) {
     }
 }
 
+// Whether so many milliseconds have gone by since then, as far as there is a clock.
+fn has_passed<R: Clock>(rt: &R, since: Option<Instant>, millis: u64) -> bool {
+    match since.map(|since| since.elapsed(rt)) {
+        Some(Ok(time)) => time >= Duration::from_millis(millis),
+        _ => false,
+    }
+}
+
+// Waits until nobody is served any more, and no longer than `LAST`.
+fn wait_for_all<R: Wait + Clock>(rt: &R, connections: &Connections) {
+    let begun = Instant::now(rt).ok();
+    // A sleep takes longer than it is asked to, and so would all of them together.
+    for _ in 0..LAST {
+        if !connections.is_any(rt) || has_passed(rt, begun, LAST) {
+            return;
+        }
+        sleep(rt, Duration::from_millis(1));
+    }
+}
+
 // Ends all sessions: each one's input, and after a while both its sides.
 fn end_all<R: Wait + Clock>(rt: &R, made: &Socket, connections: &Connections) {
     connections.end();
     made.close();
     connections.shut(rt, Shutdown::Read);
-    for _ in 0..LAST {
-        if !connections.is_any(rt) {
-            return;
-        }
-        sleep(rt, Duration::from_millis(1));
-    }
+    wait_for_all(rt, connections);
     connections.shut(rt, Shutdown::Both);
 }
 
@@ -297,17 +330,24 @@ pub(crate) fn keep_serving<
 >(rt: &R, alloc: Global, path: &str, how: &Standing) -> (End, Option<SocketFault>)
     ensures fault { IsSome result.1 → result.0 ≢ Done }
 {
+    let traces = how.traces.as_ref().map(|dir| dir.as_str());
+    if is_unnamed(traces) {
+        return (End::Write, Some(SocketFault::Traces(FolderFault::Unnamed)));
+    }
     let made = match socket::find(rt, alloc, path, how) {
         Ok(made) => made,
         Err(fault) => return (End::Socket, Some(fault)),
     };
-    let traces = how.traces.as_ref().map(|dir| dir.as_str());
+    tell_if_few(rt, path, how.at_once);
     let (end, fault) = match folder(rt, alloc, traces) {
         Ok(folder) => {
+            if let Some(dir) = traces {
+                tell_of_others(rt, alloc, dir);
+            }
             let folder = folder.as_ref().map(|name| name.as_str());
             (serve_on(rt, alloc, &made, folder, how), None)
         }
-        Err(()) => (Err(End::Write), Some(SocketFault::Traces)),
+        Err(fault) => (Err(End::Write), Some(SocketFault::Traces(fault))),
     };
     made.leave(rt, path);
     match end {

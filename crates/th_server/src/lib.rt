@@ -11,11 +11,16 @@
 mod client;
 mod connections;
 mod keep_serving;
+mod limits;
+mod lock;
+mod node;
 mod outcome;
 mod part;
 mod parts;
 mod serve;
 mod socket;
+mod streams;
+mod unfinished;
 mod words;
 
 pub use outcome::Outcome;

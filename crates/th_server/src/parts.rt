@@ -1,8 +1,13 @@
 //! The parts of histories that a hub has cut: they go to files of a folder, or are let go.
+ghost use Rattle.std.specs.Prelude.{◌≡◌, None, false};
+
+use crate::node::is_own;
 use crate::part::{Part, entries_of, file_of, put_trace};
 use std::alloc::Global;
 use std::fs;
+use std::fs::{DirBuilder, OpenOptions};
 use std::io::{Eprint, ErrorKind};
+use std::os::unix::fs::{DirBuilderExt, OpenOptionsExt};
 use std::rt::Files;
 use std::sync::Wait;
 use std::sync::atomic::{AtomicBool, Ordering};
@@ -12,9 +17,29 @@ use th_model::{Kind, Name};
 use th_registry::Channel;
 use th_registry::channel::TopicSegment;
 use th_shared::{Ended, Histories, SharedDesk};
+use thiserror::Error;
 
 // How many folders are tried, where the first names are taken.
 const TRIES: u64 = 1000;
+
+// Nobody but the user who serves may read a trace, or find it.
+const FOLDER_MODE: u32 = 0o700;
+
+const FILE_MODE: u32 = 0o600;
+
+/// Why there is no folder for traces.
+#[derive(Clone, Copy, Debug, Drop, Error, PartialEq, Eq)]
+pub(crate) enum FolderFault {
+    /// It has no name.
+    #[error("the folder for the traces has no name")]
+    Unnamed,
+    /// It is not there, or none can be made in it.
+    #[error("no folder for the traces can be made")]
+    Unmade,
+    /// Who owns it could have traces written elsewhere.
+    #[error("the folder for the traces belongs to another user")]
+    Foreign,
+}
 
 /// Where the traces of parts are written: a runtime with files. Threads have it by this bound, since one on files has types of its
 /// own and cannot be taken to another thread.
@@ -39,14 +64,31 @@ pub(crate) struct Keeper<'a> {
     has_lost: AtomicBool,
 }
 
+// A folder that nobody but the user who serves may enter. It is made with those that it is below, where they are not there.
+fn private_folders() -> DirBuilder {
+    let mut how = DirBuilder::new();
+    how.recursive(true).mode(FOLDER_MODE);
+    how
+}
+
+// Whether it belongs to the user who serves: nobody else can put something else in the place of what is in it.
+fn is_own_folder<R: Files>(rt: &R, dir: &str) -> Result<(), FolderFault> {
+    match fs::metadata(rt, dir) {
+        Ok(found) if is_own(&found) => Ok(()),
+        Ok(_) => Err(FolderFault::Foreign),
+        Err(_) => Err(FolderFault::Unmade),
+    }
+}
+
 // A folder of its own for this start, below the one that is named: its name is the time, in seconds since 1970.
-fn folder_at<R: Files + Clock>(rt: &R, alloc: Global, dir: &str) -> Option<String> {
-    fs::create_dir_all(rt, dir).ok()?;
+fn folder_of_start<R: Files + Clock>(rt: &R, alloc: Global, dir: &str) -> Option<String> {
     let since = SystemTime::now(rt).ok()?.duration_since(UNIX_EPOCH).ok()?;
+    let mut how = DirBuilder::new();
+    how.mode(FOLDER_MODE);
     for later in 0..TRIES {
         let seconds = since.as_secs().saturating_add(later);
         let name = format!(in alloc; "{dir}/{seconds}").ok()?;
-        match fs::create_dir(rt, name.as_str()) {
+        match how.create(rt, name.as_str()) {
             Ok(()) => return Some(name),
             Err(e) if e.kind() == ErrorKind::AlreadyExists => {}
             Err(_) => return None,
@@ -55,17 +97,39 @@ fn folder_at<R: Files + Clock>(rt: &R, alloc: Global, dir: &str) -> Option<Strin
     None
 }
 
-/// The folder of this start below the one that is named, if one is. `Err` where it could not be made.
+// The same, where the one that is named may be used.
+fn folder_at<R: Files + Clock>(rt: &R, alloc: Global, dir: &str) -> Result<String, FolderFault> {
+    if private_folders().create(rt, dir).is_err() {
+        return Err(FolderFault::Unmade);
+    }
+    is_own_folder(rt, dir)?;
+    match folder_of_start(rt, alloc, dir) {
+        Some(name) => Ok(name),
+        None => Err(FolderFault::Unmade),
+    }
+}
+
+/// Whether a folder is wanted and has no name.
+pub(crate) fn is_unnamed(dir: Option<&str>) -> bool
+    ensures unwanted { dir.entry ≡ None → result ≡ false }
+{
+    match dir {
+        None => false,
+        Some(dir) => dir.is_empty(),
+    }
+}
+
+/// The folder of this start below the one that is named, if one is; or why it could not be made.
 pub(crate) fn folder<R: Files + Clock>(
     rt: &R,
     alloc: Global,
     dir: Option<&str>,
-) -> Result<Option<String>, ()> {
+) -> Result<Option<String>, FolderFault> {
     match dir {
         None => Ok(None),
         Some(dir) => match folder_at(rt, alloc, dir) {
-            Some(folder) => Ok(Some(folder)),
-            None => Err(()),
+            Ok(folder) => Ok(Some(folder)),
+            Err(fault) => Err(fault),
         },
     }
 }
@@ -79,12 +143,29 @@ fn next_part<R: Wait>(rt: &R, histories: &Histories, kind: Kind) -> Option<Part>
     Some(Part::new(part))
 }
 
-// Writes the trace of a part to a new file.
-fn write_trace<R: Files>(rt: &R, alloc: Global, path: &str, part: &TopicSegment) -> bool {
-    let Ok(file) = fs::create(rt, path) else {
+// Makes a file that nobody but the user who serves may read, where nothing stands yet.
+fn create<R: Files>(rt: &R, path: &str) -> Option<R::File> {
+    let mut how = OpenOptions::new();
+    how.write(true).create_new(true).mode(FILE_MODE);
+    how.open(rt, path).ok()
+}
+
+// Writes a part to a new file of this name, which has the other one until it is whole.
+fn write_file<R: Files>(
+    rt: &R,
+    alloc: Global,
+    path: &str,
+    unfinished: &str,
+    part: &TopicSegment,
+) -> bool {
+    let Some(file) = create(rt, unfinished) else {
         return false;
     };
-    put_trace(alloc, part, &mut Counted::new(file))
+    if put_trace(alloc, part, &mut Counted::new(file)) && fs::rename(rt, unfinished, path).is_ok() {
+        return true;
+    }
+    let _ = fs::remove_file(rt, unfinished);
+    false
 }
 
 // Writes a part to a file of this folder. It has its name once it is whole, and until then a name that ends otherwise.
@@ -108,13 +189,7 @@ fn write_part<R: Files>(
     let Ok(unfinished) = format!(in alloc; "{folder}/{name}.part") else {
         return false;
     };
-    if write_trace(rt, alloc, unfinished.as_str(), part)
-        && fs::rename(rt, unfinished.as_str(), path.as_str()).is_ok()
-    {
-        return true;
-    }
-    let _ = fs::remove_file(rt, unfinished.as_str());
-    false
+    write_file(rt, alloc, path.as_str(), unfinished.as_str(), part)
 }
 
 impl<'a> Keeper<'a> {

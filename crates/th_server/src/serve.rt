@@ -4,13 +4,11 @@ ghost use Rattle.th_program.specs.declared.end.End.TheVariants.{Done};
 ghost use Rattle.th_server.specs.Serving.{sessions_of};
 
 use crate::socket;
-use crate::socket::{MODE, SocketFault};
+use crate::socket::SocketFault;
 use std::alloc::Global;
-use std::fs;
-use std::fs::Permissions;
+use std::fs::File;
 use std::io::{Eprint, Print};
 use std::net::Net;
-use std::os::unix::fs::PermissionsExt;
 use std::os::unix::net::UnixListener;
 use std::rt::Files;
 use std::sync::Wait;
@@ -94,7 +92,9 @@ fn say_done<R: Print>(rt: &R, ended: Vec<Attended>) -> Result<Vec<Attended>, End
 
 /// Makes a socket at the path, serves so many connections, and removes the socket. The sessions, once all of them have ended; or what
 /// ended the server. Where something stands at the path already it stays, and nobody is served. Where it could not be made, why.
-pub fn serve<R: Threads + Wait + Clock + Clone + Send + Sync + Print + Eprint + Files + Net>(
+pub fn serve<
+    R: Threads + Wait + Clock + Clone + Send + Sync + Print + Eprint + Files<File = File> + Net,
+>(
     rt: &R,
     alloc: Global,
     path: &str,
@@ -105,14 +105,12 @@ pub fn serve<R: Threads + Wait + Clock + Clone + Send + Sync + Print + Eprint + 
     ensures all { IfOk result.0 (λ ended. vec_len ended ≡ sessions) }
     ensures fault { IfErr result.0 (λ end. end ≢ Done) }
 {
-    let Ok(listener) = UnixListener::bind(rt, path) else {
-        return (Err(End::Socket), Some(socket::why_unbound(rt, path)));
+    let made = match socket::make(rt, alloc, path, false) {
+        Ok(made) => made,
+        Err(fault) => return (Err(End::Socket), Some(fault)),
     };
-    let served = match fs::set_permissions(rt, path, Permissions::from_mode(MODE)) {
-        Ok(()) => attend(rt, alloc, &listener, sessions),
-        Err(_) => Err(End::Socket),
-    };
-    let _ = fs::remove_file(rt, path);
+    let served = attend(rt, alloc, &made.listener, sessions);
+    made.leave(rt, path);
     match served {
         Ok(ended) => (say_done(rt, ended), None),
         Err(end) => (Err(end), None),

@@ -1,13 +1,18 @@
-//! The socket of a server that stands.
+//! The socket of a server.
+use crate::lock;
+use crate::lock::{Lock, LockFault};
+use crate::node::Node;
+use crate::parts::FolderFault;
+use crate::streams::open_closed;
 use os::FromRawFd;
 use std::alloc::Global;
 use std::fmt::Display;
 use std::fs::{File, Permissions};
-use std::io::ErrorKind;
+use std::io::{Eprint, ErrorKind};
 use std::net::{Net, Shutdown};
-use std::os::fd::OwnedFd;
-use std::os::unix::fs::{FileTypeExt, PermissionsExt};
-use std::os::unix::net::{UnixListener, UnixStream};
+use std::os::fd::{AsFd, AsRawFd, OwnedFd};
+use std::os::unix::fs::{FileTypeExt, MetadataExt, PermissionsExt};
+use std::os::unix::net::{SocketAddr, UnixListener, UnixStream};
 use std::rt::Files;
 use std::time::Duration;
 use std::{fs, io};
@@ -18,25 +23,43 @@ use thiserror::Error;
 // connection could wake it sooner, and one that this server made would be left to the next one wherever a client came first.
 const TURN: u64 = 1;
 
-/// Nobody but the user who serves may connect.
-pub(crate) const MODE: u32 = 0o600;
+// Nobody but the user who serves may connect.
+const MODE: u32 = 0o600;
+
+// All the bits of a mode that say what may be done.
+const RIGHTS: u32 = 0o7777;
+
+// As many connections may wait to be accepted as the system allows.
+const BACKLOG: i32 = -1;
 
 /// Why there is no socket.
 #[derive(Clone, Copy, Debug, Drop, Error, PartialEq, Eq)]
 pub(crate) enum SocketFault {
+    /// A standard stream is closed, and stays so.
+    #[error("a standard stream is closed, and there is no null device for it")]
+    Streams,
+    /// There is no path.
+    #[error("the path is empty")]
+    Unnamed,
     /// Another server has the lock.
     #[error("a server answers there")]
     Answers,
+    /// What stands where the lock should be is none.
+    #[error("{0}")]
+    Lock(LockFault),
     /// Something stands at the path.
     #[error("something stands there; with --at-once, --replace takes the place of a socket whose server is gone")]
     Stands,
     /// What stands at the path is no socket.
     #[error("it is no socket, so --replace leaves it")]
     NoSocket,
+    /// What stands at the path is a socket, and nobody knows whether its server is gone.
+    #[error("its server has left no lock, so --replace leaves it")]
+    Other,
     /// There is no file of the lock.
     #[error("no file can be made beside it")]
-    Lock,
-    /// It could not be bound, or not linked to the path.
+    Beside,
+    /// It could not be bound, or takes no connections.
     #[error("no socket can be made there")]
     Bind,
     /// What was handed over is not at the path.
@@ -45,126 +68,225 @@ pub(crate) enum SocketFault {
     /// What was handed over is no socket.
     #[error("the descriptor that was handed over is no socket")]
     NotHanded,
+    /// What was handed over is no socket of this kind.
+    #[error("the socket that was handed over is no Unix socket that takes connections")]
+    NoListener,
     /// There is a socket, and no folder for traces.
-    #[error("no folder for the traces can be made")]
-    Traces,
+    #[error("{0}")]
+    Traces(FolderFault),
     /// There was no memory.
     #[error("no memory")]
     Short,
 }
 
-/// A socket at a path, and the lock beside it.
+// What a server has made, and so removes.
+#[derive(Drop)]
+struct Made {
+    // Who has it is the one server at this path, from before the socket is made until it is removed.
+    lock: Lock,
+    node: Node,
+}
+
+/// A socket at a path.
 #[derive(Drop)]
 pub(crate) struct Socket {
     pub(crate) listener: UnixListener,
-    // Who has it is the one server at this path, from before the socket is made until it is removed. It ends with the process.
+    // The same socket, with the calls that a listener has not. It is made with it, since at the end there may be no descriptor left.
+    stream: UnixStream,
     // None where the socket was handed over: then it belongs to whoever made it.
-    lock: Option<File>,
+    made: Option<Made>,
+}
+
+impl SocketFault {
+    /// Tells people what was wrong, and where.
+    pub(crate) fn tell<R: Eprint>(self, rt: &R, path: &str) {
+        let _ = match self {
+            SocketFault::Lock(fault) => eprintln!(rt; "topichub: {path}.lock: {fault}"),
+            SocketFault::Unnamed => eprintln!(rt; "topichub: {}", SocketFault::Unnamed),
+            fault => eprintln!(rt; "topichub: {path}: {fault}"),
+        };
+    }
 }
 
 impl Socket {
-    // The listener as a stream, which has the calls that a listener has not.
-    fn as_stream(&self) -> io::Result<UnixStream> {
-        Ok(UnixStream::from(OwnedFd::from(self.listener.try_clone()?)))
-    }
-
     /// Nobody gets a connection any more at a socket that was made here: whoever waits for one is woken, and so is whoever waits to be
     /// accepted. One that was handed over goes on without this server: who waits there sees within a `TURN` that the server ends.
     pub(crate) fn close(&self) {
-        if self.lock.is_some() {
-            if let Ok(stream) = self.as_stream() {
-                let _ = stream.shutdown(Shutdown::Both);
-            }
+        if self.made.is_some() {
+            let _ = self.stream.shutdown(Shutdown::Both);
         }
     }
 
-    /// Removes the socket at the path if it was made here, and leaves one that was handed over as it was.
+    /// Removes the socket at the path if it was made here, and leaves whatever else may stand there; one that was handed over is left as
+    /// it was.
     pub(crate) fn leave<R: Files>(self, rt: &R, path: &str) {
-        if self.lock.is_some() {
-            let _ = fs::remove_file(rt, path);
-        } else if let Ok(stream) = self.as_stream() {
-            let _ = stream.set_read_timeout(None);
+        // As long as it listens, no other file is the same node.
+        let Socket {
+            listener: _listener,
+            stream,
+            made,
+        } = self;
+        match made {
+            Some(Made { lock, node }) => {
+                node.remove(rt, path);
+                lock.end(rt);
+            }
+            None => {
+                let _ = stream.set_read_timeout(None);
+            }
         }
     }
 }
 
-/// Why no socket could be bound at the path.
-pub(crate) fn why_unbound<R: Files>(rt: &R, path: &str) -> SocketFault {
+// The same socket as a stream.
+fn as_stream(listener: &UnixListener) -> io::Result<UnixStream> {
+    Ok(UnixStream::from(OwnedFd::from(listener.try_clone()?)))
+}
+
+// Has the socket take connections, if it is of a kind that does.
+fn listen(listener: &UnixListener) -> bool {
+    libc::net::listen(listener.as_raw_fd(), BACKLOG) == 0
+}
+
+// Why no socket could be bound at the path.
+fn why_unbound<R: Files>(rt: &R, path: &str) -> SocketFault {
     match fs::symlink_metadata(rt, path) {
         Ok(_) => SocketFault::Stands,
         Err(_) => SocketFault::Bind,
     }
 }
 
-// Removes what stands at the path, where it is a socket at which nobody answers.
-fn remove_stale<R: Files + Net>(rt: &R, path: &str) -> Result<(), SocketFault> {
+// Removes what stands at the path, where it is the socket of a server that is gone: the one that had this lock before. Nobody is
+// asked, since to connect would be a session of a server that lives.
+fn remove_stale<R: Files>(
+    rt: &R,
+    alloc: Global,
+    path: &str,
+    lock: &Lock,
+) -> Result<(), SocketFault> {
     let Ok(found) = fs::symlink_metadata(rt, path) else {
         return Ok(());
     };
     if !found.file_type().is_socket() {
         return Err(SocketFault::NoSocket);
     }
-    match UnixStream::connect(rt, path) {
-        Ok(_) => Err(SocketFault::Answers),
-        Err(e) if e.kind() == ErrorKind::ConnectionRefused => match fs::remove_file(rt, path) {
-            Ok(()) => Ok(()),
-            Err(_) => Err(SocketFault::Bind),
-        },
-        Err(_) => Err(SocketFault::Answers),
+    let node = Node::of(&found);
+    if !lock.was_of(alloc, node) {
+        return Err(SocketFault::Other);
     }
+    node.remove(rt, path);
+    Ok(())
 }
 
-// A socket under a name of its own, which nobody may connect to but who serves.
-fn bound<R: Files + Net>(rt: &R, name: &str) -> Result<UnixListener, SocketFault> {
-    let _ = fs::remove_file(rt, name);
-    let Ok(listener) = UnixListener::bind(rt, name) else {
+// A socket at the path that takes no connections yet, so that it has its mode before anybody can connect.
+fn bind<R: Files + Net>(rt: &R, path: &str) -> Result<(UnixListener, Node), SocketFault> {
+    let Ok(address) = SocketAddr::from_pathname(path) else {
         return Err(SocketFault::Bind);
     };
-    match fs::set_permissions(rt, name, Permissions::from_mode(MODE)) {
-        Ok(()) => Ok(listener),
-        Err(_) => Err(SocketFault::Bind),
+    let Ok(socket) = rt.unix_socket() else {
+        return Err(SocketFault::Bind);
+    };
+    // Its file has this mode from the start then, less the process's mask.
+    libc::fchmod(socket.as_raw_fd(), MODE);
+    if rt.bind_unix(socket.as_fd(), &address).is_err() {
+        return Err(why_unbound(rt, path));
+    }
+    let Ok(found) = fs::symlink_metadata(rt, path) else {
+        return Err(SocketFault::Bind);
+    };
+    let node = Node::of(&found);
+    if found.mode() & RIGHTS != MODE
+        && fs::set_permissions(rt, path, Permissions::from_mode(MODE)).is_err()
+    {
+        node.remove(rt, path);
+        return Err(SocketFault::Bind);
+    }
+    Ok((UnixListener::from(socket), node))
+}
+
+// A socket at the path that takes connections, by who has the lock.
+fn make_with<R: Files + Net>(
+    rt: &R,
+    alloc: Global,
+    path: &str,
+    replaces: bool,
+    lock: &Lock,
+) -> Result<(UnixListener, UnixStream, Node), SocketFault> {
+    if replaces {
+        remove_stale(rt, alloc, path, lock)?;
+    }
+    let (listener, node) = bind(rt, path)?;
+    lock.note(alloc, node);
+    match as_stream(&listener) {
+        Ok(stream) if listen(&listener) => Ok((listener, stream, node)),
+        _ => {
+            node.remove(rt, path);
+            Err(SocketFault::Bind)
+        }
     }
 }
 
-// Makes a socket at the path, with its mode before anybody can connect: it is bound beside it, and linked to the path. Where
-// something stands there it stays, but for a socket whose server is gone, where such a one is to be replaced. Whether it is gone
-// is decided by a lock on `PATH.lock`, a file that is left when the server ends.
-fn make<R: Files<File = File> + Net>(
+/// Makes a socket at the path. Where something stands there it stays, but for a socket whose server is gone, where such a one is to be
+/// replaced. Whether it is gone is decided by a lock on `PATH.lock`.
+pub(crate) fn make<R: Files<File = File> + Net>(
     rt: &R,
     alloc: Global,
     path: &str,
     replaces: bool,
 ) -> Result<Socket, SocketFault> {
-    let Ok(lock_name) = format!(in alloc; "{path}.lock") else {
-        return Err(SocketFault::Short);
-    };
-    let Ok(name) = format!(in alloc; "{path}.new") else {
-        return Err(SocketFault::Short);
-    };
-    let Ok(lock) = File::create(rt, lock_name.as_str()) else {
-        return Err(SocketFault::Lock);
-    };
-    if lock.try_lock().is_err() {
-        return Err(SocketFault::Answers);
+    if !open_closed(rt) {
+        return Err(SocketFault::Streams);
     }
-    if replaces {
-        remove_stale(rt, path)?;
+    if path.is_empty() {
+        return Err(SocketFault::Unnamed);
     }
-    let listener = bound(rt, name.as_str())?;
-    let linked = fs::hard_link(rt, name.as_str(), path);
-    let _ = fs::remove_file(rt, name.as_str());
-    match linked {
+    let lock = lock::take(rt, alloc, path)?;
+    match make_with(rt, alloc, path, replaces, &lock) {
+        Ok((listener, stream, node)) => Ok(Socket {
+            listener,
+            stream,
+            made: Some(Made { lock, node }),
+        }),
+        Err(fault) => {
+            lock.give_up(rt);
+            Err(fault)
+        }
+    }
+}
+
+// What this descriptor is, where it is a socket that takes connections.
+fn as_socket(listener: UnixListener) -> Result<Socket, SocketFault> {
+    match listener.local_addr() {
+        Ok(_) => {}
+        // It is a socket of another family.
+        Err(e) if e.kind() == ErrorKind::InvalidInput => return Err(SocketFault::NoListener),
+        Err(_) => return Err(SocketFault::NotHanded),
+    }
+    if !listen(&listener) {
+        return Err(SocketFault::NoListener);
+    }
+    let Ok(stream) = as_stream(&listener) else {
+        return Err(SocketFault::NotHanded);
+    };
+    match stream.set_read_timeout(Some(Duration::from_secs(TURN))) {
         Ok(()) => Ok(Socket {
             listener,
-            lock: Some(lock),
+            stream,
+            made: None,
         }),
-        Err(e) if e.kind() == ErrorKind::AlreadyExists => Err(SocketFault::Stands),
-        Err(_) => Err(SocketFault::Bind),
+        Err(_) => Err(SocketFault::NotHanded),
     }
 }
 
 // The socket that was handed over as this descriptor, and is bound at the path.
-fn inherited<R: Files>(rt: &R, path: &str, descriptor: u64) -> Result<Socket, SocketFault> {
+fn inherited<R: Files<File = File>>(
+    rt: &R,
+    path: &str,
+    descriptor: u64,
+) -> Result<Socket, SocketFault> {
+    if !open_closed(rt) {
+        return Err(SocketFault::Streams);
+    }
     let Ok(found) = fs::symlink_metadata(rt, path) else {
         return Err(SocketFault::Missing);
     };
@@ -175,18 +297,7 @@ fn inherited<R: Files>(rt: &R, path: &str, descriptor: u64) -> Result<Socket, So
         return Err(SocketFault::Missing);
     };
     // Whoever started the server says that this is a socket that listens, and gives it up to the server.
-    let listener = unsafe { UnixListener::from_raw_fd(descriptor) };
-    let handed = Socket {
-        listener,
-        lock: None,
-    };
-    match handed.as_stream() {
-        Ok(stream)
-            if stream
-                .set_read_timeout(Some(Duration::from_secs(TURN)))
-                .is_ok() => Ok(handed),
-        _ => Err(SocketFault::NotHanded),
-    }
+    as_socket(unsafe { UnixListener::from_raw_fd(descriptor) })
 }
 
 /// The socket of a server that is to run so: the one that was handed over, or one that is made at the path.

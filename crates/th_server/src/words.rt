@@ -57,7 +57,7 @@ fn explain<R: Eprint>(rt: &R, path: &str, end: &End, fault: Option<SocketFault>,
     }
     if let Some(fault) = fault {
         if wanted {
-            let _ = eprintln!(rt; "topichub: {path}: {fault}");
+            fault.tell(rt, path);
         }
     }
 }
