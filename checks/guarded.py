@@ -4,6 +4,7 @@ to touch, what it removes, and which descriptors it has.
 What is due is written in docs/FORMATS.md, "Sessions" and "A server that stands". What takes another user is tried where root runs it,
 as the users 10001, who serves, and 10002; what takes `strace` to be seen, where that is installed. What is left out is said."""
 import contextlib
+import fcntl
 import os
 import shutil
 import signal
@@ -22,17 +23,6 @@ from tries import leave_out
 OWN, OTHER = 10001, 10002
 MASKS = 0o000, 0o022, 0o077
 OLD = b"", 0o644  # the file of a lock as servers left it once: what was in it, and its mode
-# Locks a file by its name, and says so: a line `locked`, or why not. It holds the lock until its input ends.
-LOCKS = """
-import fcntl, sys
-try:
-    file = open(sys.argv[1], "rb")
-    fcntl.flock(file, fcntl.LOCK_EX | fcntl.LOCK_NB)
-    print("locked", flush=True)
-except OSError as fault:
-    print(fault.strerror, flush=True)
-sys.stdin.read()
-"""
 
 
 def mode_of(path):
@@ -88,12 +78,33 @@ def for_all(others="files of another user"):
 
 
 @contextlib.contextmanager
-def as_other(script, *words):
-    """A script that another user runs; it may go on until its input ends."""
-    with subprocess.Popen(["python3", "-c", script, *words], stdin=subprocess.PIPE, stdout=subprocess.PIPE, text=True, user=OTHER,
-                          group=OTHER, extra_groups=[]) as process:
-        yield process
-        process.stdin.close()
+def locked_by_other(path):
+    """A file that another user locks meanwhile, as far as he can: `locked`, or why not."""
+    said, says = os.pipe()
+    until, goes_on = os.pipe()
+    child = os.fork()
+    if child == 0:  # not by another program, since he may not be able to read ours
+        try:
+            os.close(goes_on)
+            os.setgroups([])
+            os.setgid(OTHER)
+            os.setuid(OTHER)
+            try:
+                fcntl.flock(os.open(path, os.O_RDONLY), fcntl.LOCK_EX | fcntl.LOCK_NB)
+                os.write(says, b"locked")
+            except OSError as fault:
+                os.write(says, fault.strerror.encode())
+            os.read(until, 1)
+        finally:
+            os._exit(0)
+    for it in (says, until):
+        os.close(it)
+    try:
+        yield os.read(said, 100).decode()
+    finally:
+        for it in (goes_on, said):
+            os.close(it)
+        os.waitpid(child, 0)
 
 
 def owned(path, user=OTHER):
@@ -193,16 +204,14 @@ def locks_of_others(folder):
         yield "also to root", refused(path, f"{lock}: it belongs to another user", file=copy)
         os.remove(lock)
         with Server(path, None, words=["--at-once", "2", "--until-eof"], begin=lambda: os.umask(0), **how) as server:
-            with as_other(LOCKS, lock) as other:
-                told = other.stdout.readline()
-            yield "nobody else can open the lock of a server", (server.first, told, ended(server)[0]) == (
-                "listening\n", "Permission denied\n", 0)
+            with locked_by_other(lock) as told:
+                pass
+            yield "nobody else can open the lock of a server", (server.first, told, ended(server)[0]) == ("listening\n", "Permission denied", 0)
         written(lock, *OLD)
         owned(lock, OWN)
-        with as_other(LOCKS, lock) as other:
-            told = other.stdout.readline()
+        with locked_by_other(lock) as told:
             is_refused = refused(path, f"{lock}: somebody has locked it, and its mode lets other users do so", **how)
-        yield "one of an older server that another user has locked is refused by its name", (told, is_refused) == ("locked\n", True)
+        yield "one of an older server that another user has locked is refused by its name", (told, is_refused) == ("locked", True)
 
 
 # ---- what it makes, and what it removes
