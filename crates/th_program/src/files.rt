@@ -1,17 +1,19 @@
 //! Traces in files, checked.
-ghost use Rattle.std.specs.Prelude.{◌≡◌, ◌≢◌, Option, None, List, ℕ, IfOk, IfSome, IsSome, OnErr, Ok, Err, map, string_bytes, true};
+ghost use Rattle.std.specs.Prelude.{◌≡◌, ◌≢◌, ◌+◌, ◌≤◌, ◌^◌, Option, None, List, ℕ, IfOk, IfSome, IsSome, OnErr, Ok, Err, map, string_bytes, true};
 ghost use Rattle.std.specs.Io.KnownBytes.{Appends};
-ghost use Rattle.th_program.specs.Files.{AreFiles, EachIsTold, EndsFiles, EndsJoined, IsNext, IsOutcome, TellsBroken, broken_line, end_of, entries_of, fault_line, fault_word, file_line, worse};
+ghost use Rattle.th_program.specs.Files.{AreFiles, EachIsTold, EndsFiles, EndsJoined, EndsNamed, EndsUnlisted, IsNext, IsOutcome, TellsBroken, broken_line, end_of, entries_of, fault_line, fault_word, file_line, joined_line, place_of, place_told, worse};
 ghost use Rattle.th_program.specs.Run.{IsSaid, errors_of};
 
 use crate::end::{End, status};
-use crate::modes::{Mode, ModeFault};
-use crate::part_names::follows;
-use crate::program::{explain, run_short, say, write_line, write_text, write_verdict};
+use crate::listed::{ListFault, listed};
+use crate::modes::{Mode, ModeFault, Sources};
+use crate::part_names::{Place, placed};
+use crate::program::{explain, run_short, say, write_number, write_text, write_verdict};
+use crate::shown::{say_shown, write_shown};
 use crate::words::mode;
 use std::alloc::Global;
 use std::fs::File;
-use std::io::{Read, Write};
+use std::io::{ErrorKind, Read, Write};
 use std::{fs, io};
 use th_check::{CheckFault, Joined, Joining, Verdict, check_explained};
 use th_lines::Counted;
@@ -37,8 +39,16 @@ impl Opens for HostRuntime {
     type File = File;
 
     fn open(&self, name: &str) -> io::Result<File> {
+        if !is_stream(name) && !fs::metadata(self, name)?.is_file() {
+            return Err(ErrorKind::InvalidInput.into());
+        }
         fs::open(self, name)
     }
+}
+
+// Whether the name is that of an open descriptor. Whatever it is, somebody has opened it to be read.
+fn is_stream(name: &str) -> bool {
+    name == "/dev/stdin" || name.starts_with("/dev/fd/") || name.starts_with("/proc/self/fd/")
 }
 
 // The words that tell a fault.
@@ -90,7 +100,7 @@ fn say_fault<E: Write>(errors: &mut Counted<E>, name: &str, fault: CheckFault)
     ensures still { errors.new.failures ≡ 0 → errors.old.failures ≡ 0 }
 {
     say(errors, b"topichub: ");
-    say(errors, name.as_bytes());
+    say_shown(errors, name.as_bytes());
     say(errors, b": ");
     say(errors, fault_word(fault).as_bytes());
     say(errors, b"\n");
@@ -102,7 +112,7 @@ fn write_file<W: Write>(output: &mut Counted<W>, name: &str, verdict: Verdict) -
         (W.contents output.old.device) (W.contents output.new.device)
         (file_line (name.now, Ok verdict)) }
 {
-    if !write_text(output, name.as_bytes()) {
+    if !write_shown(output, name.as_bytes()) {
         return false;
     }
     if !write_text(output, b": ") {
@@ -228,7 +238,7 @@ fn write_gap<W: Write>(output: &mut Counted<W>, name: &str) -> bool
     if !write_text(output, b"gap ") {
         return false;
     }
-    if !write_text(output, name.as_bytes()) {
+    if !write_shown(output, name.as_bytes()) {
         return false;
     }
     write_text(output, b"\n")
@@ -263,10 +273,50 @@ fn tell_broken<W: Write, E: Write>(
     end
 }
 
+// Writes where a history of so many entries stands, if that is known; `false` where the writer failed.
+fn write_place<W: Write>(output: &mut Counted<W>, place: Option<Place<'_>>, count: u64) -> bool
+    ensures { result ≡ true → IfSome place (λ p. p.first + count ≤ 2 ^ 64) → Appends
+        (W.contents output.old.device) (W.contents output.new.device)
+        (place_told (place_of place) count) }
+{
+    let Some(place) = place else {
+        return true;
+    };
+    let Some(more) = count.checked_sub(1) else {
+        return true;
+    };
+    if !write_number(output, b" ", place.first) {
+        return false;
+    }
+    if !write_number(output, b"-", place.first.saturating_add(more)) {
+        return false;
+    }
+    if !write_text(output, b" ") {
+        return false;
+    }
+    write_shown(output, place.topic)
+}
+
+// Writes the line that tells of a history; `false` where the writer failed.
+fn write_joined<W: Write>(output: &mut Counted<W>, count: u64, place: Option<Place<'_>>) -> bool
+    ensures { result ≡ true → IfSome place (λ p. p.first + count ≤ 2 ^ 64) → Appends
+        (W.contents output.old.device) (W.contents output.new.device)
+        (joined_line count (place_of place)) }
+{
+    if !write_number(output, b"joined ", count) {
+        return false;
+    }
+    if !write_place(output, place, count) {
+        return false;
+    }
+    write_text(output, b"\n")
+}
+
 /// Checks these files as one history, in their order: each is to be legal, and to begin with the picture to which the
-/// entries of the one before it lead. Where two neighbours have names of parts of a topic's history, they are also to be
-/// parts of one topic, and the number of the second is to be that of the first and its entries. `output` gets one line: how many entries they have, or which file is the first that
-/// breaks the history; no file behind that is read. A file that there is no verdict on is told of in `errors`, and so is, to
+/// entries of the one before it lead. Files with names of parts of a topic's history are also to be parts of one topic, and
+/// the number in each name is to be that of the history's first event and the entries before the file. `output` gets one
+/// line: how many entries they have, and, where a name tells it, from which event to which; or which file is the first that
+/// breaks the history. No file behind that is read. A file that there is no verdict on is told of in `errors`, and so is, to
 /// people at a terminal, what is wrong with a trace. More than 2^64 - 1 entries are too long.
 pub fn check_joined<O: Opens, W: Write, E: Write>(
     alloc: Global,
@@ -281,8 +331,7 @@ pub fn check_joined<O: Opens, W: Write, E: Write>(
 {
     let mut history = Joining::new();
     let mut count: u64 = 0;
-    let mut before: &[u8] = b"";
-    let mut entries: u64 = 0;
+    let mut place: Option<Place<'_>> = None;
     for name in names {
         let mut text = Vec::new(alloc);
         let said = add_file(alloc, files, name.as_str(), &mut history, &mut text);
@@ -290,19 +339,17 @@ pub fn check_joined<O: Opens, W: Write, E: Write>(
             let wrong = if people { Some(text.as_slice()) } else { None };
             return tell_broken(output, errors, name.as_str(), said, wrong);
         };
-        let path = name.as_bytes();
-        if !follows(before, entries, path) {
-            return tell_broken(output, errors, name.as_str(), Ok(Joined::Apart), None);
-        }
         let Some(sum) = count.checked_add(more) else {
             say_fault(errors, name.as_str(), CheckFault::TooLong);
             return End::TooLong;
         };
+        let Ok(next) = placed(place, count, sum, name.as_bytes()) else {
+            return tell_broken(output, errors, name.as_str(), Ok(Joined::Apart), None);
+        };
         count = sum;
-        before = path;
-        entries = more;
+        place = next;
     }
-    if write_line(output, b"joined ", count) {
+    if write_joined(output, count, place) {
         End::Done
     } else {
         explain(errors, &End::Write);
@@ -310,36 +357,84 @@ pub fn check_joined<O: Opens, W: Write, E: Write>(
     }
 }
 
+// Says why a list names no files: the end of the run.
+fn refuse_list<E: Write>(errors: &mut Counted<E>, list: &str, why: Option<ListFault>) -> End
+    ensures { EndsUnlisted result }
+{
+    let said: &str = match why {
+        Some(ListFault::Unread(fault)) => {
+            say_fault(errors, list, fault);
+            return end_of(Err(fault));
+        }
+        Some(ListFault::NotText) => ": a name in it is not UTF-8\n",
+        None => ": it names no file\n",
+    };
+    say(errors, b"topichub: ");
+    say_shown(errors, list.as_bytes());
+    say(errors, said.as_bytes());
+    End::Usage
+}
+
+// Checks the files of these names, each by itself or as one history.
+fn check_named<O: Opens, W: Write, E: Write>(
+    alloc: Global,
+    files: &O,
+    names: &[String],
+    joined: bool,
+    output: &mut Counted<W>,
+    errors: &mut Counted<E>,
+    people: bool,
+) -> End
+    ensures { EndsNamed (O.holds files.now) joined (map string_bytes names.now)
+        (W.contents output.old.device) (W.contents output.new.device) people
+        (errors_of E.contents errors.old) (errors_of E.contents errors.new) result }
+{
+    if joined {
+        check_joined(alloc, files, names, output, errors, people)
+    } else {
+        check_files(alloc, files, names, output, errors, people)
+    }
+}
+
 /// Checks the files that the words name, the program's name first, each by itself or as one history; `None`, with nothing
-/// done, where they name none.
-pub fn check_by_words<O: Opens, W: Write, E: Write>(
+/// done, where they name none. A list of files that is `-` is the input.
+pub fn check_by_words<O: Opens, R: Read, W: Write, E: Write>(
     alloc: Global,
     files: &O,
     words: &[&str],
+    input: &mut R,
     output: &mut Counted<W>,
     errors: &mut Counted<E>,
     people: bool,
 ) -> Option<End>
-    ensures ends { IfSome result (EndsFiles (O.holds files.now) (map (λ w. w.now) words.now)
+    ensures ends { IfSome result (EndsFiles
+        (O.holds files.now) (R.remaining input.old) (map (λ w. w.now) words.now)
         (W.contents output.old.device) (W.contents output.new.device) people
         (errors_of E.contents errors.old) (errors_of E.contents errors.new)) }
     ensures asked { AreFiles (map (λ w. w.now) words.now) → IsSome result }
-    ensures none { result ≡ None → (output.new ≡ output.old) × (errors.new ≡ errors.old) }
+    ensures none { result ≡ None
+        → (input.new ≡ input.old) × (output.new ≡ output.old) × (errors.new ≡ errors.old) }
 {
-    match mode(alloc, words) {
-        Ok(
-            Mode::CheckFiles {
-                files: names,
-                joined,
-            },
-        ) => {
-            let names = names.as_slice();
-            if joined {
-                return Some(check_joined(alloc, files, names, output, errors, people));
-            }
-            Some(check_files(alloc, files, names, output, errors, people))
-        }
-        Err(ModeFault::Short) => Some(run_short(errors)),
-        _ => None,
-    }
+    let (sources, joined) = match mode(alloc, words) {
+        Ok(Mode::CheckFiles { sources, joined }) => (sources, joined),
+        Err(ModeFault::Short) => return Some(run_short(errors)),
+        _ => return None,
+    };
+    let names = match sources {
+        Sources::Words(names) => names,
+        Sources::List(list) => match listed(alloc, files, list.as_str(), input) {
+            Ok(names) if names.is_empty() => return Some(refuse_list(errors, list.as_str(), None)),
+            Ok(names) => names,
+            Err(fault) => return Some(refuse_list(errors, list.as_str(), Some(fault))),
+        },
+    };
+    Some(check_named(
+        alloc,
+        files,
+        names.as_slice(),
+        joined,
+        output,
+        errors,
+        people,
+    ))
 }

@@ -165,6 +165,10 @@ pub const CHECK_FILES: &str = "Files with a trace each; without any, one from st
 /// Its option.
 pub const CHECK_JOINED: &str = "The files, in this order, are to be one history";
 
+/// Its word for files that are named elsewhere.
+pub const CHECK_LIST: &str =
+    "The files that LIST names, each ended by NUL or by LF; - is standard input";
+
 /// What is wrong where it is given without files.
 pub const NO_FILES: &str =
     "error: the argument '--joined' wants files\n\nFor more information, try '--help'.\n";
@@ -172,6 +176,10 @@ pub const NO_FILES: &str =
 /// What stands below the text on wrong words where they begin with `check`.
 pub const CHECK_INPUT: &str =
     "\nTraces come from files, or one from standard input, as in: topichub check < FILE\n";
+
+/// What stands there instead where one of them seems to be a name that begins with `-`.
+pub const CHECK_DASHED: &str =
+    "\nA name that begins with - stands behind --, or is given as ./NAME: topichub check -- NAME\n";
 
 /// What stands below the options of the mode `check`.
 pub const CHECK_AFTER: &str = "\
