@@ -5,4 +5,7 @@ mod Writing
 mod GivenWords
 mod Checking
 mod Telling
+mod Placing
+mod Showing
+mod Listing
 mod PartNames

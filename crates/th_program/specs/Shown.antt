@@ -1,5 +1,5 @@
 -- How a name is printed, so that it stands on its line and does nothing to a terminal.
-use Rattle.std.specs.Prelude.{ℕ, Bool, List, [], ◌∷◌, ◌==◌, ◌&&◌, ◌||◌, nat_lt, if◌then◌else◌}
+use Rattle.std.specs.Prelude.{ℕ, zero, suc, Bool, List, [], ◌∷◌, ◌==◌, ◌&&◌, ◌||◌, nat_lt, if◌then◌else◌}
 
 -- the byte is a control character
 abbrev pub is_control : ℕ → Bool
@@ -15,10 +15,16 @@ control_at [] = 0
 control_at (b ∷ []) = if is_control b then 1 else 0
 control_at (b ∷ c ∷ later) = if is_control b then 1 else if are_control b c then 2 else 0
 
+-- what is printed in the place of one
+abbrev pub mark : ℕ → List ℕ
+mark zero = []
+mark (suc n) = 63 ∷ []
+
 -- the text, with `?` in the place of each control character
 unfoldable pub shown : List ℕ → List ℕ
 shown [] = []
 shown (b ∷ []) = (if is_control b then 63 else b) ∷ []
 shown (b ∷ c ∷ later) =
-    if are_control b c then 63 ∷ shown later
-    else (if is_control b then 63 else b) ∷ shown (c ∷ later)
+    if is_control b then 63 ∷ shown (c ∷ later)
+    else if are_control b c then 63 ∷ shown later
+    else b ∷ shown (c ∷ later)

@@ -5,6 +5,7 @@ ghost use Rattle.th_program.specs.Files.{AreFiles, EachIsTold, EndsFiles, EndsJo
 ghost use Rattle.th_program.specs.Run.{IsSaid, errors_of};
 
 use crate::end::{End, status};
+use crate::folders::check_folder;
 use crate::listed::{ListFault, listed};
 use crate::modes::{Mode, ModeFault, Sources};
 use crate::part_names::{Place, placed};
@@ -33,6 +34,15 @@ pub trait Opens {
     /// Where the file cannot be opened.
     fn open(&self, name: &str) -> io::Result<Self::File>
         ensures { IfOk result (λ file. Self.File.remaining file ≡ holds self.now name.now) };
+
+    /// The paths of what stands in the folder with this name; `None` where it is no folder.
+    ///
+    /// # Errors
+    ///
+    /// Where the folder cannot be read, or for want of memory.
+    fn list(&self, _alloc: Global, _name: &str) -> io::Result<Option<Vec<String>>> {
+        Ok(None)
+    }
 }
 
 impl Opens for HostRuntime {
@@ -43,6 +53,22 @@ impl Opens for HostRuntime {
             return Err(ErrorKind::InvalidInput.into());
         }
         fs::open(self, name)
+    }
+
+    fn list(&self, alloc: Global, name: &str) -> io::Result<Option<Vec<String>>> {
+        if is_stream(name) || !fs::metadata(self, name)?.is_dir() {
+            return Ok(None);
+        }
+        let mut found = Vec::new(alloc);
+        for entry in fs::read_dir(self, name)? {
+            match entry {
+                Ok(entry) => found.push(String::from_str(alloc, entry.path().as_str())?)?,
+                // (the names of parts are text)
+                Err(e) if e.kind() == ErrorKind::InvalidFilename => {}
+                Err(e) => return Err(e),
+            }
+        }
+        Ok(Some(found))
     }
 }
 
@@ -77,7 +103,7 @@ fn end_of(outcome: Result<Verdict, CheckFault>) -> End
 }
 
 // Of two ends the first that says what stopped a check, else the first that finds a fault in a trace.
-fn worse(one: End, other: End) -> End
+pub(crate) fn worse(one: End, other: End) -> End
     ensures { result ≡ worse one other }
 {
     if status(&one) == 1 {
@@ -389,11 +415,22 @@ fn check_named<O: Opens, W: Write, E: Write>(
         (W.contents output.old.device) (W.contents output.new.device) people
         (errors_of E.contents errors.old) (errors_of E.contents errors.new) result }
 {
-    if joined {
-        check_joined(alloc, files, names, output, errors, people)
-    } else {
-        check_files(alloc, files, names, output, errors, people)
+    if !joined {
+        return check_files(alloc, files, names, output, errors, people);
     }
+    if let [name] = names {
+        match files.list(alloc, name.as_str()) {
+            Ok(Some(found)) => {
+                return check_folder(alloc, files, name.as_str(), found, output, errors, people);
+            }
+            Ok(None) => {}
+            Err(_) => {
+                say_fault(errors, name.as_str(), CheckFault::Read);
+                return End::Read;
+            }
+        }
+    }
+    check_joined(alloc, files, names, output, errors, people)
 }
 
 /// Checks the files that the words name, the program's name first, each by itself or as one history; `None`, with nothing

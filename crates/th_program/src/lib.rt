@@ -13,6 +13,7 @@ mod advice;
 mod advising;
 mod end;
 mod files;
+mod folders;
 mod help;
 mod listed;
 mod modes;

@@ -1,9 +1,9 @@
 //! Names of files that are parts of a topic's history.
-ghost use Rattle.std.specs.Prelude.{◌≡◌, ◌≢◌, ◌↔◌, ◌+◌, ◌<◌, ◌≤◌, ◌^◌, ◌++◌, ℕ, IfOk, IfSome, IsTrue, None, Some, length, string_bytes, true};
+ghost use Rattle.std.specs.Prelude.{◌≡◌, ◌≢◌, ◌↔◌, ◌+◌, ◌<◌, ◌≤◌, ◌^◌, ◌++◌, ℕ, List, IfOk, IfSome, IsTrue, None, Some, length, string_bytes, true};
 ghost use Rattle.std.specs.Str.{IsAscii};
 ghost use Rattle.std.specs.Str.Parse.{AllDigits, digits_value};
 ghost use Rattle.th_model.specs.Names.{is_name};
-ghost use Rattle.th_program.specs.PartNames.{Agrees, GoesOn, IsUnnamed, Says, SaysPart, digits_of, file_of, part_name};
+ghost use Rattle.th_program.specs.PartNames.{Agrees, GoesOn, IsNamed, IsUnnamed, Says, SaysPart, digits_of, file_of, part_name};
 
 use std::alloc::{AllocError, Global};
 use std::str;
@@ -124,6 +124,17 @@ fn part_of(path: &[u8]) -> Option<Part<'_>>
         topic,
         number: number_of(digits),
     })
+}
+
+/// The topic in the name of the file with this path, if it is named as a part is.
+pub(crate) fn topic_of(path: &[u8]) -> Option<&[u8]>
+    ensures some { IfSome result (λ t. (digits : List ℕ) × IsNamed path.now t.now digits) }
+    ensures none { result ≡ None → IsUnnamed path.now }
+{
+    match part_of(path) {
+        Some(part) => Some(part.topic),
+        None => None,
+    }
 }
 
 // Where a history stands that has so many entries before this part, if it stands anywhere.

@@ -3,7 +3,7 @@ ghost use Rattle.std.specs.Prelude.{◌≡◌, ◌≤◌, ◌<◌, ◌-◌, ◌�
 ghost use Rattle.std.specs.Io.KnownBytes.{Appends};
 ghost use Rattle.th_lines.specs.Device.{one_more};
 ghost use Rattle.th_program.specs.Run.{IsSaid, errors_of};
-ghost use Rattle.th_program.specs.Shown.{are_control, control_at, is_control, shown};
+ghost use Rattle.th_program.specs.Shown.{are_control, control_at, is_control, mark, shown};
 
 use crate::program::write_text;
 use std::io::Write;
@@ -41,6 +41,13 @@ fn control_at(name: &[u8], at: usize) -> usize
     }
 }
 
+// What is printed in the place of a control character of so many bytes.
+fn mark(control: usize) -> &'static [u8]
+    ensures { result.now ≡ mark control }
+{
+    if control > 0 { b"?" } else { b"" }
+}
+
 // Where the next control character stands from this place on, or the end.
 fn plain_end(name: &[u8], from: usize) -> usize
     requires within { from ≤ length name.now }
@@ -73,7 +80,7 @@ pub(crate) fn write_shown<W: Write>(writer: &mut Counted<W>, name: &[u8]) -> boo
             return false;
         }
         let control = control_at(name, end);
-        if control > 0 && !write_text(writer, b"?") {
+        if !write_text(writer, mark(control)) {
             return false;
         }
         at = end + control;
