@@ -240,6 +240,50 @@ abbrev pub TellsBroken : List ℕ → Result Joined CheckFault → (before after
 TellsBroken name said before after ends =
     ends ≢ end.Write → (ends ≡ end_by said) × IsToldBy name said before after
 
+-- the files that are named as parts of this topic's history
+abbrev pub AreOf : List ℕ → List (List ℕ) → Type 0
+AreOf topic = AllByRecursion (λ name. (digits : List ℕ) × IsNamed name topic digits)
+
+-- topics with their files, one at least of each; no topic stands twice, one behind the other
+abbrev pub AreTopics : List (List ℕ × List (List ℕ)) → Type 0
+AreTopics [] = Unit {0}
+AreTopics (one ∷ []) = AreOf one.0 one.1 × (one.1 ≢ [])
+AreTopics (one ∷ next ∷ later) =
+    (AreOf one.0 one.1 × (one.1 ≢ [])) × (one.0 ≢ next.0) × AreTopics (next ∷ later)
+
+-- the files of all of them
+abbrev pub files_in : List (List ℕ × List (List ℕ)) → List (List ℕ)
+files_in [] = []
+files_in (one ∷ later) = one.1 ++ files_in later
+
+-- those of each are one history, or are told not to be; the run ends by the worst of it
+abbrev pub EndsEach : (List ℕ → Option (List ℕ)) → List (List ℕ × List (List ℕ)) → (so_far : End)
+    → (before after : Option (List ℕ)) → End → Type 0
+EndsEach holds [] so_far before after ends = (after ≡ before) × (ends ≡ so_far)
+EndsEach holds (one ∷ later) so_far before after ends = (mid : Option (List ℕ)) × (said : End)
+    × EndsJoined holds one.1 before mid said × EndsEach holds later (worse so_far said) mid after ends
+
+-- how a run ends that checks the files of each topic in a folder
+pub record EndsFolder (holds : List ℕ → Option (List ℕ)) (before after : Option (List ℕ))
+    (ends : End) : Type 0 where
+  pub topics : List (List ℕ × List (List ℕ))
+  pub are : AreTopics topics
+  pub each : EndsEach holds topics end.Done before after ends
+
+-- how a run ends that could not read a folder, or found none there
+abbrev pub EndsUnread : End → (before after : Option (List ℕ)) → Type 0
+EndsUnread end.Read before after = after ≡ before
+EndsUnread end.Short before after = after ≡ before
+EndsUnread end.Usage before after = after ≡ before
+EndsUnread so before after = ⊥
+
+-- how a run ends that checks histories: one of these files, or of a folder that stands alone one of each topic
+abbrev pub EndsHistories : (List ℕ → Option (List ℕ)) → List (List ℕ)
+    → (before after : Option (List ℕ)) → End → Type 0
+EndsHistories holds names before after ends = EndsJoined holds names before after ends
+    ⊎ ((folder : List ℕ) × (names ≡ folder ∷ []) × (holds folder ≡ None)
+    × (ends ≢ end.Write → EndsFolder holds before after ends ⊎ EndsUnread ends before after))
+
 -- the words ask rightly to check files
 pub record AreFiles (words : List (List ℕ)) : Type 0 where
   pub taken : fault_of command_line words ≡ []
@@ -247,18 +291,11 @@ pub record AreFiles (words : List (List ℕ)) : Type 0 where
   pub files : HasFiles (arguments_by words)
   pub named : IsSome (files_of (arguments_by words)) ⊎ IsSome (list_of (arguments_by words))
 
--- the files that are named by words, or by a list of which this is known
-abbrev pub AreNames : (List ℕ → Option (List ℕ)) → Option (List (List ℕ)) → Option (List ℕ)
-    → List (List ℕ) → Type 0
-AreNames held (Some files) list names = names ≡ files
-AreNames held None (Some list) names = IfSome (held list) (λ bytes. names ≡ listed bytes)
-AreNames held None None names = ⊥
-
 -- how a run ends that checks these files
 abbrev pub EndsNamed : (List ℕ → Option (List ℕ)) → Bool → List (List ℕ)
     → (before after : Option (List ℕ)) → Bool → Errors → Errors → End → Type 0
 EndsNamed holds true names before after people errors errors' ends =
-    EndsJoined holds names before after ends
+    EndsHistories holds names before after ends
 EndsNamed holds false names before after people errors errors' ends =
     ends ≢ end.Write → EachIsTold holds names before after people errors errors' ends
 
@@ -270,13 +307,29 @@ EndsUnlisted end.Short = Unit {0}
 EndsUnlisted end.Usage = Unit {0}
 EndsUnlisted so = ⊥
 
--- It checks the files that these words name, or ends for want of memory, or because of their list, with nothing on
--- standard output.
+-- how a run ends that checks the files that a list names, of which this is known
+abbrev pub EndsListed : (List ℕ → Option (List ℕ)) → Bool → Option (List ℕ)
+    → (before after : Option (List ℕ)) → Bool → Errors → Errors → End → Type 0
+EndsListed holds is_one list before after people errors errors' ends =
+    ((names : List (List ℕ)) × IfSome list (λ bytes. names ≡ listed bytes)
+    × EndsNamed holds is_one names before after people errors errors' ends)
+    ⊎ (EndsUnlisted ends × (after ≡ before))
+
+-- the same of files that are named by words, or by a list
+abbrev pub EndsSources : (List ℕ → Option (List ℕ)) → (input : Option (List ℕ)) → Bool
+    → Option (List (List ℕ)) → Option (List ℕ)
+    → (before after : Option (List ℕ)) → Bool → Errors → Errors → End → Type 0
+EndsSources holds input is_one (Some names) list before after people errors errors' ends =
+    EndsNamed holds is_one names before after people errors errors' ends
+EndsSources holds input is_one None (Some list) before after people errors errors' ends =
+    EndsListed holds is_one (held_by holds input list) before after people errors errors' ends
+EndsSources holds input is_one None None before after people errors errors' ends = ⊥
+
+-- It checks the files that these words name, or ends for want of memory with nothing on standard output.
 abbrev pub EndsFiles : (List ℕ → Option (List ℕ)) → (input : Option (List ℕ)) → List (List ℕ)
     → (before after : Option (List ℕ)) → Bool → Errors → Errors → End → Type 0
 EndsFiles holds input words before after people errors errors' ends =
     let rows = arguments_by words in
-    ((names : List (List ℕ)) × AreNames (held_by holds input) (files_of rows) (list_of rows) names
-    × EndsNamed holds (is_joined rows) names before after people errors errors' ends)
+    EndsSources holds input (is_joined rows) (files_of rows) (list_of rows) before after people
+    errors errors' ends
     ⊎ ((ends ≡ end.Short) × (after ≡ before))
-    ⊎ (IsSome (list_of rows) × EndsUnlisted ends × (after ≡ before))

@@ -1,7 +1,8 @@
 //! Traces in files, checked.
 ghost use Rattle.std.specs.Prelude.{◌≡◌, ◌≢◌, ◌+◌, ◌≤◌, ◌^◌, Option, None, List, ℕ, IfOk, IfSome, IsSome, OnErr, Ok, Err, map, string_bytes, true};
 ghost use Rattle.std.specs.Io.KnownBytes.{Appends};
-ghost use Rattle.th_program.specs.Files.{AreFiles, EachIsTold, EndsFiles, EndsJoined, EndsNamed, EndsUnlisted, IsNext, IsOutcome, TellsBroken, broken_line, end_of, entries_of, fault_line, fault_word, file_line, joined_line, place_of, place_told, worse};
+ghost use Rattle.th_program.specs.Files.{AreFiles, EachIsTold, EndsFiles, EndsHistories, EndsJoined, EndsListed, EndsNamed, EndsUnlisted, IsNext, IsOutcome, TellsBroken, broken_line, end_of, entries_of, fault_line, fault_word, file_line, joined_line, place_of, place_told, worse};
+ghost use Rattle.th_program.specs.Listed.{held_by};
 ghost use Rattle.th_program.specs.Run.{IsSaid, errors_of};
 
 use crate::end::{End, status};
@@ -40,7 +41,9 @@ pub trait Opens {
     /// # Errors
     ///
     /// Where the folder cannot be read, or for want of memory.
-    fn list(&self, _alloc: Global, _name: &str) -> io::Result<Option<Vec<String>>> {
+    fn list(&self, _alloc: Global, _name: &str) -> io::Result<Option<Vec<String>>>
+        ensures { IsSome (holds self.now _name.now) → IfOk result (λ found. found ≡ None) }
+    {
         Ok(None)
     }
 }
@@ -401,6 +404,31 @@ fn refuse_list<E: Write>(errors: &mut Counted<E>, list: &str, why: Option<ListFa
     End::Usage
 }
 
+// Checks the files of these names as one history, or, of a folder that stands alone, those of each topic.
+fn check_histories<O: Opens, W: Write, E: Write>(
+    alloc: Global,
+    files: &O,
+    names: &[String],
+    output: &mut Counted<W>,
+    errors: &mut Counted<E>,
+    people: bool,
+) -> End
+    ensures { EndsHistories (O.holds files.now) (map string_bytes names.now)
+        (W.contents output.old.device) (W.contents output.new.device) result }
+{
+    let [name] = names else {
+        return check_joined(alloc, files, names, output, errors, people);
+    };
+    match files.list(alloc, name.as_str()) {
+        Ok(None) => check_joined(alloc, files, names, output, errors, people),
+        Ok(Some(found)) => check_folder(alloc, files, name.as_str(), found, output, errors, people),
+        Err(_) => {
+            say_fault(errors, name.as_str(), CheckFault::Read);
+            End::Read
+        }
+    }
+}
+
 // Checks the files of these names, each by itself or as one history.
 fn check_named<O: Opens, W: Write, E: Write>(
     alloc: Global,
@@ -415,22 +443,38 @@ fn check_named<O: Opens, W: Write, E: Write>(
         (W.contents output.old.device) (W.contents output.new.device) people
         (errors_of E.contents errors.old) (errors_of E.contents errors.new) result }
 {
-    if !joined {
-        return check_files(alloc, files, names, output, errors, people);
+    if joined {
+        check_histories(alloc, files, names, output, errors, people)
+    } else {
+        check_files(alloc, files, names, output, errors, people)
     }
-    if let [name] = names {
-        match files.list(alloc, name.as_str()) {
-            Ok(Some(found)) => {
-                return check_folder(alloc, files, name.as_str(), found, output, errors, people);
-            }
-            Ok(None) => {}
-            Err(_) => {
-                say_fault(errors, name.as_str(), CheckFault::Read);
-                return End::Read;
-            }
-        }
+}
+
+// Checks the files that a list names.
+fn check_list<O: Opens, R: Read, W: Write, E: Write>(
+    alloc: Global,
+    files: &O,
+    list: &str,
+    joined: bool,
+    input: &mut R,
+    output: &mut Counted<W>,
+    errors: &mut Counted<E>,
+    people: bool,
+) -> End
+    ensures { EndsListed (O.holds files.now) joined
+        (held_by (O.holds files.now) (R.remaining input.old) list.now)
+        (W.contents output.old.device) (W.contents output.new.device) people
+        (errors_of E.contents errors.old) (errors_of E.contents errors.new) result }
+{
+    let names = match listed(alloc, files, list, input) {
+        Ok(names) => names,
+        Err(fault) => return refuse_list(errors, list, Some(fault)),
+    };
+    let names = names.as_slice();
+    if names.is_empty() {
+        return refuse_list(errors, list, None);
     }
-    check_joined(alloc, files, names, output, errors, people)
+    check_named(alloc, files, names, joined, output, errors, people)
 }
 
 /// Checks the files that the words name, the program's name first, each by itself or as one history; `None`, with nothing
@@ -452,26 +496,18 @@ pub fn check_by_words<O: Opens, R: Read, W: Write, E: Write>(
     ensures none { result ≡ None
         → (input.new ≡ input.old) × (output.new ≡ output.old) × (errors.new ≡ errors.old) }
 {
-    let (sources, joined) = match mode(alloc, words) {
-        Ok(Mode::CheckFiles { sources, joined }) => (sources, joined),
-        Err(ModeFault::Short) => return Some(run_short(errors)),
-        _ => return None,
-    };
-    let names = match sources {
-        Sources::Words(names) => names,
-        Sources::List(list) => match listed(alloc, files, list.as_str(), input) {
-            Ok(names) if names.is_empty() => return Some(refuse_list(errors, list.as_str(), None)),
-            Ok(names) => names,
-            Err(fault) => return Some(refuse_list(errors, list.as_str(), Some(fault))),
+    match mode(alloc, words) {
+        Ok(Mode::CheckFiles { sources, joined }) => match sources {
+            Sources::Words(names) => {
+                let names = names.as_slice();
+                Some(check_named(alloc, files, names, joined, output, errors, people))
+            }
+            Sources::List(list) => {
+                let list = list.as_str();
+                Some(check_list(alloc, files, list, joined, input, output, errors, people))
+            }
         },
-    };
-    Some(check_named(
-        alloc,
-        files,
-        names.as_slice(),
-        joined,
-        output,
-        errors,
-        people,
-    ))
+        Err(ModeFault::Short) => Some(run_short(errors)),
+        _ => None,
+    }
 }

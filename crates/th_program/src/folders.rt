@@ -1,5 +1,6 @@
 //! The histories of the topics whose parts stand in a folder.
-ghost use Rattle.std.specs.Prelude.{◌≡◌, ◌≢◌, ◌≤◌, ◌<◌, IfOk, map, string_bytes, length};
+ghost use Rattle.std.specs.Prelude.{◌≡◌, ◌≢◌, ◌⊎◌, ◌≤◌, ◌<◌, IfOk, map, string_bytes, length};
+ghost use Rattle.th_program.specs.Files.{EndsFolder, EndsUnread};
 ghost use Rattle.th_program.specs.Files.{EndsFolder};
 
 use crate::end::End;
@@ -46,7 +47,13 @@ pub(crate) fn check_folder<O: Opens, W: Write, E: Write>(
     output: &mut Counted<W>,
     errors: &mut Counted<E>,
     people: bool,
-) -> End {
+) -> End
+    ensures { result ≢ End.Write →
+        EndsFolder (O.holds files.now)
+        (W.contents output.old.device) (W.contents output.new.device) result
+        ⊎ EndsUnread result
+        (W.contents output.old.device) (W.contents output.new.device) }
+{
     let Ok(parts) = parts_in(alloc, found) else {
         return run_short(errors);
     };
