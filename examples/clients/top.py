@@ -14,7 +14,9 @@ that receiver, but everybody else sees it: a PUB answers one receiver more, is n
 for a second.
 """
 import contextlib
+import os
 import shutil
+import signal
 import sys
 import time
 
@@ -107,12 +109,42 @@ def table(topics, values):
 def screen(path, rows):
     """A screen full of the table."""
     width, height = shutil.get_terminal_size()
-    shown, beyond = rows[:height - 2], len(rows) - (height - 2)
+    room = max(1, height - 1)
+    shown, beyond = rows[:room], len(rows) - room
     if beyond > 0:
         shown[-1] = f".. and {beyond + 1} more"
     first = f"{path}  {time.strftime('%H:%M:%S')}  {len(rows) - 1} topics"
     lines = [first[:width], REVERSE + shown[0][:width] + PLAIN, *(row[:width] for row in shown[1:])]
-    return HOME + "".join(line + END_OF_LINE + "\n" for line in lines) + REST
+    return HOME + "\n".join(line + END_OF_LINE for line in lines[:max(1, height)]) + REST
+
+
+def show(text):
+    sys.stdout.write(text)
+    sys.stdout.flush()
+
+
+def stop(number, _):
+    """Ctrl-Z: the screen as it was, as long as others have it."""
+    show(SHOWN)
+    signal.signal(number, signal.SIG_DFL)
+    os.kill(os.getpid(), number)
+    signal.signal(number, stop)
+    show(HIDDEN)
+
+
+@contextlib.contextmanager
+def screen_of_its_own():
+    """A screen of our own, until we end: by Ctrl-C, or by a signal that ends us."""
+    signal.signal(signal.SIGTSTP, stop)
+    for number in (signal.SIGTERM, signal.SIGHUP):
+        signal.signal(number, lambda number, _: sys.exit(128 + number))
+    show(HIDDEN)
+    try:
+        with contextlib.suppress(KeyboardInterrupt):
+            yield
+    finally:
+        with contextlib.suppress(OSError):  # where the terminal is gone
+            show(SHOWN)
 
 
 def watch(hub, path, values):
@@ -121,8 +153,7 @@ def watch(hub, path, values):
     due = time.monotonic()
     while True:
         look(hub, topics, values)
-        sys.stdout.write(screen(path, table(topics, values)))
-        sys.stdout.flush()
+        show(screen(path, table(topics, values)))
         due += SECOND
         time.sleep(max(0, due - time.monotonic()))
 
@@ -142,17 +173,13 @@ def main():
     about.add_argument("--once", action="store_true", help="print one table, and end")
     about.add_argument("--values", action="store_true", help="count values too, by a receiver on each topic")
     words = about.parse_args()
-    if not (words.once or sys.stdout.isatty()):
-        about.error("standard output is no terminal; --once prints one table")
+    if not (words.once or sys.stdout.isatty() and os.environ.get("TERM", "dumb") != "dumb"):
+        about.error("standard output is no terminal that can be drawn on; --once prints one table")
     hub = connected(words.path)
     if words.once:
         return once(hub, words.values)
-    sys.stdout.write(HIDDEN)
-    try:
-        with contextlib.suppress(KeyboardInterrupt):
-            watch(hub, words.path, words.values)
-    finally:
-        sys.stdout.write(SHOWN)
+    with screen_of_its_own():
+        watch(hub, words.path, words.values)
     return None
 
 

@@ -172,7 +172,8 @@ module _ {W D G : Type 0} (says : D → (q : Query) → Said q → D → Type 0)
     takes = λ from lines many t. (
       same ∙ t.0,
       gate ∙ t.1,
-      more_let (strict from.0.gate) taken lines row many t.2 (row_let (strict from.0.gate) (strict old.0.gate) taken count row (ap strict t.1) is.counted these),
+      more_let (strict from.0.gate) taken lines row many t.2
+          (row_let (strict from.0.gate) (strict old.0.gate) taken count row (ap strict t.1) is.counted these),
       answers_both t.3 (subst (λ (k : Keeping). Answers (line_turn k says) (quitting false (stands contents old)) row
           (quitting false (stands contents new))) t.0 ends),
     );
@@ -190,7 +191,7 @@ module _ {W D G : Type 0} (says : D → (q : Query) → Said q → D → Type 0)
         (row_let (strict from.0.gate) (strict old.0.gate) taken count row (ap strict t.1) is.counted these) in
         subst (λ (w : Stop). IsOver says strict contents from (lines ++ row) w new) (sym ends.0) (
           false,
-          breaks_off_after from.0.keeping says (strict from.0.gate) taken (stands contents from) (stands contents old) (stands contents new) lines row
-              many t.2 t.3 false false (b, let_done),
+          breaks_off_after from.0.keeping says (strict from.0.gate) taken (stands contents from) (stands contents old)
+              (stands contents new) lines row many t.2 t.3 false false (b, let_done),
         );
   }

@@ -65,8 +65,8 @@ module _ {D : Type 0} (keeping : Keeping) (says : D → (q : Query) → Said q �
       (false, (breaks_here false ((at, false), before) (line ∷ []) after said, none_let gate answered))
 
   -- it was not let through
-  out_here : (line : Line) (at : Kept × D) (before after : Output) (why : Stop) → Enters {A = Unit {0}} gate answered before after (Err why) →
-      Halts keeping says gate answered (at, before) (line ∷ []) why (at, after)
+  out_here : (line : Line) (at : Kept × D) (before after : Output) (why : Stop) →
+      Enters {A = Unit {0}} gate answered before after (Err why) → Halts keeping says gate answered (at, before) (line ∷ []) why (at, after)
   out_here line at before after stop.Quit never = absurd never
   out_here line at before after stop.Gate said = held_here (MayHold gate) line at before after said.0 said.1
   out_here line at before after stop.Gone never = absurd never
@@ -166,11 +166,12 @@ module _ {D : Type 0} (keeping : Keeping) (says : D → (q : Query) → Said q �
       unfolding breaks_off_after breaks_after
       held_after May b = (
         breaks_off_after true false b.0,
-        may_behind May (answered + length b.0.0.done) (0 + length (lines ++ b.0.0.done)) b.0.0.later (behind_all answered lines b.0.0.done many)
-            b.1,
+        may_behind May (answered + length b.0.0.done) (0 + length (lines ++ b.0.0.done)) b.0.0.later
+            (behind_all answered lines b.0.0.done many) b.1,
       )
 
-      pub halts_after : (why : Stop) → Halts keeping says gate answered old more why new → Halts keeping says gate 0 from (lines ++ more) why new
+      pub halts_after : (why : Stop) → Halts keeping says gate answered old more why new →
+          Halts keeping says gate 0 from (lines ++ more) why new
       halts_after stop.Quit b = breaks_off_after true true b
       halts_after stop.Gate b = held_after (MayHold gate) b
       halts_after stop.Gone b = held_after (MayGiveUp gate) b
@@ -233,8 +234,8 @@ module _ {W D G : Type 0} (says : D → (q : Query) → Said q → D → Type 0)
       subst (λ (x : Kept × D). over lines x) (λ i. (sym actor i, sym desk i))
       (subst (λ (ls : List Line). over ls at) (append-nil lines) (
         false,
-        breaks_off_after from.0.keeping says gate (length lines) (stands contents from) (stands contents old) (at, out) lines [] refl t.2 t.3
-            false false b,
+        breaks_off_after from.0.keeping says gate (length lines) (stands contents from) (stands contents old) (at, out) lines []
+            refl t.2 t.3 false false b,
       ))
 
 -- A run from its beginning on, its devices before and after it, and where it stands.

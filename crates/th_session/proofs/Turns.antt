@@ -32,7 +32,7 @@ use Rattle.th_session.specs.declared.keeping.Keeping.TheVariants.{All, Nothing}
 use Rattle.th_session.specs.Answer as desk
 use Rattle.th_session.specs.Held.{Holding, handles_at}
 use Rattle.th_session.specs.Kept.{Kept, kept_by}
-use Rattle.th_session.specs.Rows.{AreThere, Carried, CarriesFirst, CarriesLines, CarriesOut, ReadsTo, ReceiveEach, ReceivesRow, SendEach, SendsRow, told_by, with_more}
+use Rattle.th_session.specs.Rows.{AreThere, Carried, CarriesFirst, CarriesLines, CarriesOut, ReadsTo, ReceiveEach, RowBy, SendEach, told_by, with_more}
 use Rattle.th_session.specs.Run.{IsAnswered, line_turn}
 use Rattle.th_session.specs.Script.{Answer, Plays, Say, Told, acting, at_topic, kept, script}
 use Rattle.th_session.specs.Table.{is_for, judged, own}
@@ -55,7 +55,7 @@ AskEach kind s name (l ∷ ls) [] = ⊥
 AskEach kind s name (l ∷ ls) (e ∷ es) = Asks kind s name l e × AskEach kind s name ls es
 
 -- sends
-sends_ask : (s : Handles TxId RxId) (t : TxId) (name : Bytes) (lines values : List Bytes) → s.sender ≡ Some t →
+pub sends_ask : (s : Handles TxId RxId) (t : TxId) (name : Bytes) (lines values : List Bytes) → s.sender ≡ Some t →
     SendEach name lines values → AskEach Kinds.Broadcast s name lines (sends_of t values)
 sends_ask s t name [] [] holds p = tt
 sends_ask s t name [] (v ∷ vs) holds p = absurd p
@@ -72,7 +72,7 @@ sends_ask s t name (l ∷ ls) (v ∷ vs) holds p = (
 )
 
 -- what a receiver does
-receives_ask : (kind : Kind) (s : Handles TxId RxId) (r : RxId) (verb : ReceiverVerb) (name : Bytes) (lines : List Bytes) →
+pub receives_ask : (kind : Kind) (s : Handles TxId RxId) (r : RxId) (verb : ReceiverVerb) (name : Bytes) (lines : List Bytes) →
     receives kind verb ≡ true → s.receiver ≡ Some r → ReceiveEach name verb lines →
     AskEach kind s name lines (times (length lines) (Receives r verb))
 receives_ask kind s r verb name [] fits holds p = tt
@@ -206,7 +206,8 @@ module _ {D : Type 0} (says : D → (q : Query) → Said q → D → Type 0) (fo
         AskEach found.kind (handles_at had.handles n) name done made → InRow says n made rs old new →
         has ≡ with_more had (on_topic n rs) → CarriesFirst says lines (had, old) count (has, new)
     carries [] later [] [] count many parts p q e =
-        inl (sym many, λ i. ((e ∙ ap (λ (l : List (TopicId × ChannelReceipt)). record had { receipts = l }) (append-nil had.receipts)) i, q i))
+        let same = e ∙ ap (λ (l : List (TopicId × ChannelReceipt)). record had { receipts = l }) (append-nil had.receipts) in
+        inl (sym many, λ i. (same i, q i))
     carries [] later (m ∷ made) rs count many parts p q e = absurd p
     carries [] later [] (r ∷ rs) count many parts p q e = absurd q
     carries (l ∷ done) later made rs count many parts p q e =
@@ -225,7 +226,6 @@ module _ {D : Type 0} (says : D → (q : Query) → Said q → D → Type 0) (fo
         carries f.done f.later m.made m.added count m.counted f.parts f.ask m.row
         (e ∙ ap (λ (l : List (TopicId × ChannelReceipt)). record had { receipts = l }) m.behind)
 
-  -- sends in a row, of lines that ask for them
   module _ (had : Kept) (h : Holding) (receipts : List (TopicId × ChannelReceipt)) (old new : D)
       (at : says old (Find name) (Some found) old) (count : ℕ) (lines : List Bytes) where
     abbrev has_now : Kept
@@ -237,25 +237,14 @@ module _ {D : Type 0} (says : D → (q : Query) → Said q → D → Type 0) (fo
     same_held : h ≡ had.handles → has_now ≡ record had { receipts = receipts }
     same_held p = ap (λ (k : Holding). record had { handles = k; receipts = receipts }) p
 
-    pub sends_carry : (values : List Bytes) → found.kind ≡ Kinds.Broadcast → SendEach name lines values →
-        SendsRow says n had.handles h values had.receipts receipts old new count →
+    -- events that its own handle made in a row, of lines that ask it for them
+    pub row_carries : {H : Type 0} (handle : Option H) (events : H → List Event) →
+        ((by : H) → handle ≡ Some by → AskEach found.kind (handles_at had.handles n) name lines (events by)) →
+        RowBy says n handle events had.handles h had.receipts receipts old new count →
         CarriesFirst says lines (had, old) count (has_now, new)
-    sends_carry values kind p (same, inl none) = none_made same none.0 none.1 none.2
-    sends_carry values kind p (same, inr (t, holds, made)) =
-        let asks = subst (λ (k : Kind). AskEach k (handles_at had.handles n) name lines (sends_of t values)) (sym kind)
-        (sends_ask (handles_at had.handles n) t name lines values holds p) in
-        carries_row had has_now old new at lines (sends_of t values) receipts count asks made (same_held same)
-
-    -- what a receiver does in a row
-    pub receives_carry : (verb : ReceiverVerb) (most : ℕ) → receives found.kind verb ≡ true → length lines ≡ most →
-        ReceiveEach name verb lines →
-        ReceivesRow says n had.handles h verb most had.receipts receipts old new count →
-        CarriesFirst says lines (had, old) count (has_now, new)
-    receives_carry verb most fits many p (same, inl none) = none_made same none.0 none.1 none.2
-    receives_carry verb most fits many p (same, inr (r, holds, made)) =
-        let asks = subst (λ (k : ℕ). AskEach found.kind (handles_at had.handles n) name lines (times k (Receives r verb))) many
-        (receives_ask found.kind (handles_at had.handles n) r verb name lines fits holds p) in
-        carries_row had has_now old new at lines (times most (Receives r verb)) receipts count asks made (same_held same)
+    row_carries handle events asks (same, inl none) = none_made same none.0 none.1 none.2
+    row_carries handle events asks (same, inr (by, holds, made)) =
+        carries_row had has_now old new at lines (events by) receipts count (asks by holds) made (same_held same)
 
 -- lines that are the same
 pub same_each : (name : Bytes) (verb : ReceiverVerb) (line : Bytes) (k : ℕ) → command_of line ≡ Some (On name (ByReceiver verb)) →

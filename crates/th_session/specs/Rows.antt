@@ -1,7 +1,5 @@
 -- Lines of a session that are carried out in a row, each of which is answered by its own event.
-use Rattle.std.specs.Prelude.{◌≡◌, ◌⊎◌, ℕ, ◌≤◌, Bool, true, false, List, [], ◌∷◌, ◌++◌, length, map, Some, Result, Ok, Err, IsOk, ◌<◌}
-use Rattle.th_model.specs.declared.handles.TxId.{TxId}
-use Rattle.th_model.specs.declared.handles.RxId.{RxId}
+use Rattle.std.specs.Prelude.{◌≡◌, ◌⊎◌, ℕ, ◌≤◌, Bool, true, false, List, [], ◌∷◌, ◌++◌, length, map, Option, Some, Result, Ok, Err, IsOk, ◌<◌}
 use Rattle.th_model.specs.declared.verb.ReceiverVerb.{ReceiverVerb}
 use Rattle.th_model.specs.declared.verb.SenderVerb.TheVariants.{Send}
 use Rattle.th_lines.specs.Answering.{Answers, Breaks, Turned}
@@ -13,15 +11,15 @@ use Rattle.th_lines.specs.Replies.{spell}
 use Rattle.th_lines.specs.declared.command.Action.TheVariants.{ByReceiver, BySender}
 use Rattle.th_lines.specs.declared.command.Command.TheVariants.{On}
 use Rattle.th_registry.specs.Calls.{Bytes}
-use Rattle.th_registry.specs.Events.{Receives}
+use Rattle.th_registry.specs.Events.{Event}
 use Rattle.th_registry.specs.Hub.{Query, Said}
 use Rattle.th_registry.specs.Receipts.{ChannelReceipt, reply_in}
-use Rattle.th_registry.specs.Rows.{MadeInRow, on_topic, sends_of, times}
+use Rattle.th_registry.specs.Rows.{MadeInRow, on_topic}
 use Rattle.th_registry.specs.declared.opening.TopicId.{TopicId}
 use Rattle.th_session.specs.declared.keeping.Keeping.{Keeping}
 use Rattle.th_session.specs.declared.fault.Stop.{Stop}
 use Rattle.th_session.specs.declared.fault.Stop.TheVariants as stop
-use Rattle.th_session.specs.Held.{Holding, handles_at}
+use Rattle.th_session.specs.Held.{Holding}
 use Rattle.th_session.specs.Kept.{Kept, kept_by}
 use Rattle.th_session.specs.Run.{line_turn, quitting}
 use Rattle.th_session.specs.Table.{replied_channel}
@@ -48,24 +46,14 @@ with_more had more = record had { receipts = had.receipts ++ more }
 abbrev pub told_by : ChannelReceipt → List ℕ
 told_by receipt = spell (replied_channel (reply_in receipt))
 
--- On a topic whose handles are these, sends of these values were made in a row by the actor's own sender, the first ones, so
--- many; or none.
-abbrev pub SendsRow : {D : Type 0} → (D → (q : Query) → Said q → D → Type 0) → (n : ℕ)
-    → (h h' : Holding) → List Bytes → (receipts receipts' : List (TopicId × ChannelReceipt))
-    → (old new : D) → ℕ → Type 0
-SendsRow says n h h' values receipts receipts' old new count = (h' ≡ h)
-    × (((count ≡ 0) × (receipts' ≡ receipts) × (new ≡ old))
-    ⊎ ((t : TxId) × ((handles_at h n).sender ≡ Some t)
-    × MadeInRow says n (sends_of t values) receipts receipts' old new count))
-
--- The same of what the actor's own receiver does so often.
-abbrev pub ReceivesRow : {D : Type 0} → (D → (q : Query) → Said q → D → Type 0) → (n : ℕ)
-    → (h h' : Holding) → ReceiverVerb → (most : ℕ)
+-- On a topic the actor's own handle, where it holds one, made the first ones of these events in a row, so many; or none.
+abbrev pub RowBy : {D H : Type 0} → (D → (q : Query) → Said q → D → Type 0) → (n : ℕ)
+    → Option H → (events : H → List Event) → (h h' : Holding)
     → (receipts receipts' : List (TopicId × ChannelReceipt)) → (old new : D) → ℕ → Type 0
-ReceivesRow says n h h' verb most receipts receipts' old new count = (h' ≡ h)
+RowBy {D} {H} says n handle events h h' receipts receipts' old new count = (h' ≡ h)
     × (((count ≡ 0) × (receipts' ≡ receipts) × (new ≡ old))
-    ⊎ ((r : RxId) × ((handles_at h n).receiver ≡ Some r)
-    × MadeInRow says n (times most (Receives r verb)) receipts receipts' old new count))
+    ⊎ ((by : H) × (handle ≡ Some by)
+    × MadeInRow says n (events by) receipts receipts' old new count))
 
 -- a line, and those that stand whole in the bytes behind it: these are the first of them, and the rest stands here
 abbrev pub ReadsTo : (line ahead : List ℕ) → List Bytes → (rest : List ℕ) → Type 0

@@ -221,7 +221,8 @@ module _ {D : Type 0} (keeping : Keeping) (says : D → (q : Query) → Said q �
     abbrev pub Serves : {A : Type 0} → Line → (Kept × D) × Output → (Kept × D) × Output →
         Result A Stop → Type 0
     Serves line old new (Ok a) = IsLet gate answered
-        × (text : List ℕ) × line_turn (old.0, false) line text (new.0, false) × Adds text old.1 new.1
+        × (text : List ℕ) × line_turn (old.0, false) line text (new.0, false)
+        × Adds text old.1 new.1
     Serves line old new (Err why) = Halts old (line ∷ []) why new
 
   -- From an actor that has nothing on, these lines were let through and answered in turn by this text; and whether the last was

@@ -1,16 +1,121 @@
 //! One line answered: from its bytes to the bytes of its answer.
 ghost use Rattle.std.specs.Prelude.{◌≡◌};
-ghost use Rattle.th_lines.specs.Output.{output};
+ghost use Rattle.th_lines.specs.Output.{AddsOrFails, output};
+ghost use Rattle.th_lines.specs.Replies.{spell};
+ghost use Rattle.th_lines.specs.declared.reply.Reply.{Reply};
+ghost use Rattle.th_registry.specs.Receipts.{reply_in};
 ghost use Rattle.th_session.specs.Answer.{Answers, Puts, PutsTold, refused};
 ghost use Rattle.th_session.specs.Kept.{Tells, told};
+ghost use Rattle.th_session.specs.Table.{replied_channel};
 
-use crate::as_reply::append_told;
 use crate::session::{Answer, Session};
 use crate::trace::append_trace;
 use std::alloc::Global;
 use std::io::Write;
-use th_lines::{Code, Counted, LineFault, Reply, WriteBuffer, WriteFailed, read_command};
-use th_registry::Desk;
+use th_lines::{
+    Code, Counted, LineFault, Reply, ValueWord, WriteBuffer, WriteFailed, read_command,
+};
+use th_model::{BReply, Value, WReply};
+use th_registry::channel::TopicReceipt;
+use th_registry::{Channel, Desk};
+
+/// What a channel of some kind replied, as an actor is told it.
+pub(crate) trait AsReply {
+    /// The reply that is told.
+    ghost told: { Self → Reply };
+
+    /// Puts its text behind what waits. A value stays where it is.
+    fn append<W: Write>(
+        &self,
+        out: &mut WriteBuffer,
+        writer: &mut Counted<W>,
+    ) -> Result<(), WriteFailed>
+        ensures { AddsOrFails (spell (told self.now))
+            (output W.contents writer.old out.old) (output W.contents writer.new out.new) result };
+}
+
+impl AsReply for BReply<Value> {
+    ghost use Rattle.th_session.specs.Table.{replied_broadcast};
+
+    ghost told = { replied_broadcast };
+
+    #[inline(always)]
+    fn append<W: Write>(
+        &self,
+        out: &mut WriteBuffer,
+        writer: &mut Counted<W>,
+    ) -> Result<(), WriteFailed> {
+        let plain = match self {
+            BReply::Value(value) => return out.append_value(writer, ValueWord::Value, value),
+            BReply::Sent(n) => Reply::Count(*n),
+            BReply::NoReceivers(_) => Reply::Refused(Code::NoReceivers),
+            BReply::Exhausted(_) => Reply::Refused(Code::Exhausted),
+            BReply::Empty => Reply::Empty,
+            BReply::Closed => Reply::Closed,
+            BReply::Lagged(n) => Reply::Lagged(*n),
+            BReply::NewRx(_) => Reply::Done,
+            BReply::NewTx(_) => Reply::Done,
+            BReply::Count(n) => Reply::Count(*n),
+            BReply::Done => Reply::Done,
+            BReply::TooMany => Reply::Refused(Code::TooMany),
+            BReply::NoHandle(_) => Reply::Refused(Code::NotHeld),
+        };
+        out.append(writer, &plain)
+    }
+}
+
+impl AsReply for WReply<Value> {
+    ghost use Rattle.th_session.specs.Table.{replied_watch};
+
+    ghost told = { replied_watch };
+
+    #[inline(always)]
+    fn append<W: Write>(
+        &self,
+        out: &mut WriteBuffer,
+        writer: &mut Counted<W>,
+    ) -> Result<(), WriteFailed> {
+        let plain = match self {
+            WReply::Was(value) => return out.append_value(writer, ValueWord::Was, value),
+            WReply::Shown(value, true) => return out.append_value(writer, ValueWord::New, value),
+            WReply::Shown(value, false) => return out.append_value(writer, ValueWord::Same, value),
+            WReply::Done => Reply::Done,
+            WReply::NoReceivers(_) => Reply::Refused(Code::NoReceivers),
+            WReply::Exhausted(_) => Reply::Refused(Code::Exhausted),
+            WReply::Modified(true) => Reply::Yes,
+            WReply::Modified(false) => Reply::No,
+            WReply::Changed(true) => Reply::Yes,
+            WReply::Changed(false) => Reply::No,
+            WReply::Marked => Reply::Changed,
+            WReply::NotYet => Reply::NotYet,
+            WReply::Closed => Reply::Closed,
+            WReply::Gone(true) => Reply::Yes,
+            WReply::Gone(false) => Reply::No,
+            WReply::NewRx(_) => Reply::Done,
+            WReply::NewTx(_) => Reply::Done,
+            WReply::Count(n) => Reply::Count(*n),
+            WReply::TooMany => Reply::Refused(Code::TooMany),
+            WReply::NoHandle(_) => Reply::Refused(Code::NotHeld),
+        };
+        out.append(writer, &plain)
+    }
+}
+
+// What the topic replied, by the receipt.
+#[inline(always)]
+pub(crate) fn append_told<W: Write>(
+    receipt: &TopicReceipt,
+    out: &mut WriteBuffer,
+    writer: &mut Counted<W>,
+) -> Result<(), WriteFailed>
+    ensures { AddsOrFails (spell (replied_channel (reply_in receipt.now)))
+        (output W.contents writer.old out.old) (output W.contents writer.new out.new) result }
+{
+    match receipt {
+        Channel::Broadcast(receipt) => receipt.reply().append(out, writer),
+        Channel::Watch(receipt) => receipt.reply().append(out, writer),
+    }
+}
 
 // The answer to a line that gave no command.
 pub(crate) fn refused(fault: LineFault) -> Answer

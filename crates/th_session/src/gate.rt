@@ -7,7 +7,8 @@ ghost use Rattle.std.specs.Prelude.{◌≡◌, ℕ, Bool, true, false};
 /// A gate holds a line back as long as it says no: so it can set the order of the lines of several sessions. Once it has
 /// let a line through it is to go on saying so, since a session may ask again. A session asks for the line that comes next
 /// at most 1,000 times, and sleeps 10 milliseconds between two times. It may ask for a line before it has answered those in
-/// front, where all are the same and wait for values, once more: those that are let through may then be carried out at once.
+/// front, where they are a row with it: sends to one topic, or one wait again and again. Those that are let through may then
+/// be carried out at once.
 pub trait Gate {
     /// Whether it may hold the line of this number of this session back. A gate that does not say may hold back any.
     ghost holds_back: { Self → (session : ℕ) → (line : ℕ) → Bool } = { λ _ _ _. true };

@@ -20,7 +20,6 @@
 
 mod action;
 pub mod answer;
-mod as_reply;
 mod bounds;
 mod fault;
 mod gate;

@@ -4,7 +4,7 @@ ghost use Rattle.th_lines.specs.Output.{AddsOrFails, Flushes, output};
 ghost use Rattle.th_session.specs.Answer.{PutsTold};
 ghost use Rattle.th_session.specs.Rows.{told_by};
 
-use crate::as_reply::append_told;
+use crate::answer::append_told;
 use crate::session::{Answer, Session};
 use std::io::Write;
 use std::thread::sleep;

@@ -9,7 +9,7 @@ ghost use Rattle.th_registry.specs.Pictures.{SeenTopics};
 ghost use Rattle.th_session.specs.Held.{handles_at};
 ghost use Rattle.th_session.specs.Quiet.{PutsQuietly, PutsReply, Stands, action_of, own_call};
 
-use crate::as_reply::AsReply;
+use crate::answer::AsReply;
 use crate::session::Session;
 use crate::table::replied_none;
 use std::io::Write;

@@ -287,40 +287,17 @@ impl Rows {
         let Some(line) = intake.line(true) else {
             return 0;
         };
-        if most == 0 {
+        let is_send = line.starts_with(b"PUB ");
+        let may_be_row = is_send || line.starts_with(b"NEXT ") || line.starts_with(b"CHANGED ");
+        if most == 0 || !may_be_row || !replies.lets(answered, 0) {
             return 0;
         }
-        if line.starts_with(b"PUB ") {
-            if !replies.lets(answered, 0) {
-                return 0;
-            }
-            return self.sends(
-                session,
-                replies,
-                alloc,
-                desk,
-                answered,
-                most,
-                line,
-                intake.ahead(),
-            );
+        let ahead = intake.ahead();
+        if is_send {
+            self.sends(session, replies, alloc, desk, answered, most, line, ahead)
+        } else {
+            receives(session, replies, alloc, desk, answered, most, line, ahead)
         }
-        if line.starts_with(b"NEXT ") || line.starts_with(b"CHANGED ") {
-            if !replies.lets(answered, 0) {
-                return 0;
-            }
-            return receives(
-                session,
-                replies,
-                alloc,
-                desk,
-                answered,
-                most,
-                line,
-                intake.ahead(),
-            );
-        }
-        0
     }
 }
 

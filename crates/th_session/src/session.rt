@@ -1,18 +1,21 @@
 //! One actor, and its commands carried out.
 ghost use Rattle.std.specs.Prelude.{◌≡◌, [], List, ℕ, false, length, option_copied};
 ghost use Rattle.std.specs.Option.{option_map};
+ghost use Rattle.th_registry.specs.Events.{Receives};
 ghost use Rattle.th_registry.specs.Hub.{Find};
+ghost use Rattle.th_registry.specs.Rows.{sends_of, times};
 ghost use Rattle.th_session.specs.Held.{Holding, handles_at, held};
 ghost use Rattle.th_session.specs.Kept.{Tells, kept_by, last_of, with_receipt, with_segment};
-ghost use Rattle.th_session.specs.Rows.{CarriesFirst, ReceiveEach, ReceivesRow, SendEach, SendsRow};
+ghost use Rattle.th_session.specs.Rows.{CarriesFirst, ReceiveEach, RowBy, SendEach};
 ghost use Rattle.th_session.specs.Script.{Ask, Plays, Replied, at_topic, spend_all, traced};
 ghost use Rattle.th_session.specs.Step.{IsStep};
+ghost use Rattle.th_session.specs.Table.{is_for};
 
 use crate::action::act;
 use crate::handles::Handles;
 use crate::keeping::Keeping;
 use crate::quit::quit;
-use crate::table::{is_for, replied_list, replied_none, replied_opening};
+use crate::table::{replied_list, replied_none, replied_opening};
 use std::alloc::Global;
 use std::collections::VecDeque;
 use std::marker::Model;
@@ -20,7 +23,7 @@ use std::time::Duration;
 use th_lines::{Action, Code, Command, Reply};
 use th_model::{Kind, NameRef, ReceiverVerb, Value};
 use th_numbered::ByNumber;
-use th_registry::calls::receives;
+use th_registry::calls::{answers, receives, sends, starts};
 use th_registry::channel::{TopicReceipt, TopicSegment};
 use th_registry::{Desk, TopicId};
 
@@ -61,6 +64,24 @@ impl<D: Desk> Model for Session<D> {
       receipts = s.receipts.items;
       segments = s.segments.items;
     } };
+}
+
+// Whether a kind of topic has the action.
+#[inline(always)]
+fn is_for(kind: Kind, action: &Action) -> bool
+    ensures { result ≡ is_for kind action.now }
+{
+    match action {
+        Action::BySender(verb) => sends(kind, verb),
+        Action::Ask(question) => answers(kind, *question),
+        Action::ByReceiver(verb) => receives(kind, *verb),
+        Action::Resubscribe => match kind {
+            Kind::Broadcast => true,
+            Kind::Watch => false,
+        },
+        Action::Subscribe(start) => starts(kind, *start),
+        Action::Bind | Action::Unbind | Action::Unsubscribe | Action::End => true,
+    }
 }
 
 // An action on the topic of this name.
@@ -143,7 +164,8 @@ fn send_row<D: Desk>(
     values: &mut VecDeque<Value>,
 ) -> usize
     ensures { let h = held D.tx D.rx handles.old.entries in
-        SendsRow D.says topic.0 h (held D.tx D.rx handles.new.entries) values.old.items
+        RowBy D.says topic.0 (handles_at h topic.0).sender (λ t. sends_of t values.old.items)
+        h (held D.tx D.rx handles.new.entries)
         receipts.old.items receipts.new.items desk.old desk.new result }
 {
     let Some(own) = handles.get_mut(topic.0) else {
@@ -168,7 +190,8 @@ fn receive_row<D: Desk>(
     most: usize,
 ) -> usize
     ensures { let h = held D.tx D.rx handles.old.entries in
-        ReceivesRow D.says topic.0 h (held D.tx D.rx handles.new.entries) verb most
+        RowBy D.says topic.0 (handles_at h topic.0).receiver (λ r. times most (Receives r verb))
+        h (held D.tx D.rx handles.new.entries)
         receipts.old.items receipts.new.items desk.old desk.new result }
 {
     let Some(own) = handles.get_mut(topic.0) else {

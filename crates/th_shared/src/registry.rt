@@ -16,11 +16,9 @@ ghost use Rattle.th_shared.specs.Saying.{MaySay};
 
 use crate::handles::{TopicOwner, TopicReceiver, TopicSender};
 use crate::histories::Histories;
-use crate::said::{
-    broadcast_receivers, broadcast_senders, broadcast_told, watch_receivers, watch_senders,
-    watch_told,
-};
+use crate::said::{broadcast_receivers, broadcast_senders, watch_receivers, watch_senders};
 use crate::shares::Shares;
+use crate::told::{broadcast_told, watch_told};
 use crate::topic::{AnyTopic, Topic};
 use indexmap::IndexMap;
 use std::alloc::Global;

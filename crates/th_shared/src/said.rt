@@ -1,8 +1,8 @@
-//! What the channel of a topic says, as it is said of the topic: with the handles and the receipts of either kind.
+//! The new handles of a topic's channel, as they are of the topic: with the receipt, of either kind.
 ghost use Rattle.std.specs.Prelude.{◌≡◌, IfOk};
 ghost use Rattle.th_log.specs.Replies.{broadcast_made_rx as made_broadcast_rx, broadcast_made_tx as made_broadcast_tx, made_by, watch_made_rx as made_watch_rx, watch_made_tx as made_watch_tx};
-ghost use Rattle.th_registry.specs.Events.{NewRx, NewTx, Replied, broadcast_made_rx, broadcast_made_tx, watch_made_rx, watch_made_tx};
-ghost use Rattle.th_registry.specs.Typed.{made_rx, made_tx, outcome_of, replied};
+ghost use Rattle.th_registry.specs.Events.{NewRx, NewTx, broadcast_made_rx, broadcast_made_tx, watch_made_rx, watch_made_tx};
+ghost use Rattle.th_registry.specs.Typed.{made_rx, made_tx, outcome_of};
 ghost use Rattle.th_shared.specs.Doing.{Hands, HandsNew, noted_of};
 ghost use Rattle.th_shared.specs.Numbers.{receiver, sender};
 ghost use Rattle.th_shared.specs.Saying.{IsNumbered, first};
@@ -10,36 +10,9 @@ ghost use Rattle.th_shared.specs.Saying.{IsNumbered, first};
 use crate::handles::{TopicReceiver, TopicSender};
 use crate::new_handle::New;
 use th_block::{Receives, Sends};
-use th_log::Receipt;
 use th_model::{BReply, WReply};
-use th_registry::channel::{HubBroadcast, HubWatch, TopicReceipt};
+use th_registry::channel::{HubBroadcast, HubWatch};
 use th_registry::{Channel, Made, NoEvent};
-
-/// A receipt of a broadcast topic.
-#[inline(always)]
-pub(crate) fn broadcast_told(
-    said: Result<Receipt<HubBroadcast>, NoEvent>,
-) -> Result<TopicReceipt, NoEvent>
-    ensures { replied result
-        ≡ noted_of (λ reply. Replied (Channel.Broadcast reply)) (λ r. Channel.Broadcast r) said }
-{
-    match said {
-        Ok(receipt) => Ok(Channel::Broadcast(receipt)),
-        Err(why) => Err(why),
-    }
-}
-
-/// A receipt of a watch topic.
-#[inline(always)]
-pub(crate) fn watch_told(said: Result<Receipt<HubWatch>, NoEvent>) -> Result<TopicReceipt, NoEvent>
-    ensures { replied result
-        ≡ noted_of (λ reply. Replied (Channel.Watch reply)) (λ r. Channel.Watch r) said }
-{
-    match said {
-        Ok(receipt) => Ok(Channel::Watch(receipt)),
-        Err(why) => Err(why),
-    }
-}
 
 // The sender that was made, with the receipt.
 fn broadcast_sender(new: New<HubBroadcast, Sends>) -> Made<TopicSender>

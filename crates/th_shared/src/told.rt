@@ -2,26 +2,51 @@
 //! the receipt as one of the topic.
 ghost use Rattle.std.specs.Prelude.{◌≡◌, None, Ok, IfErr, IfOk, IfSome, OnOk};
 ghost use Rattle.th_log.specs.Outcome.{counted};
-ghost use Rattle.th_registry.specs.Events.{Asks, DropsRx, DropsTx, Ended, Own, Receives as Received, Resubscribes, Sends as Sent, Subscribes};
+ghost use Rattle.th_registry.specs.Events.{Asks, DropsRx, DropsTx, Ended, Own, Receives as Received, Replied, Resubscribes, Sends as Sent, Subscribes};
 ghost use Rattle.th_registry.specs.Hub.{On};
 ghost use Rattle.th_registry.specs.Typed.{made_rx, replied};
-ghost use Rattle.th_shared.specs.Doing.{Does, IsFullAsSeen, IsNewReceiver, ReceiverMoves};
+ghost use Rattle.th_shared.specs.Doing.{Does, IsFullAsSeen, IsNewReceiver, ReceiverMoves, noted_of};
 ghost use Rattle.th_shared.specs.Kept.{Stays};
 ghost use Rattle.th_shared.specs.Numbers.{known_of, number_of, rolls_of, receiver, sender};
 ghost use Rattle.th_shared.specs.Saying.{IsEvent, MaySay, first};
 
 use crate::handles::{LiveReceiver, TopicOwner, TopicReceiver, TopicSender};
-use crate::said::{
-    broadcast_receiver, broadcast_receivers, broadcast_told, watch_receivers, watch_told,
-};
+use crate::said::{broadcast_receiver, broadcast_receivers, watch_receivers};
 use crate::shares::Shares;
 use crate::{event, new_handle};
 use std::sync::Wait;
 use th_block::Handle;
+use th_log::Receipt;
 use th_model::{Question, ReceiverVerb, SenderVerb, Short, Start, Value};
 use th_registry::channel::{HubBroadcast, HubWatch, TopicReceipt};
 use th_registry::{Channel, Made, NoEvent, TopicId, Unspent};
 use th_seats::Share;
+
+/// A receipt of a broadcast topic.
+#[inline(always)]
+pub(crate) fn broadcast_told(
+    said: Result<Receipt<HubBroadcast>, NoEvent>,
+) -> Result<TopicReceipt, NoEvent>
+    ensures { replied result
+        ≡ noted_of (λ reply. Replied (Channel.Broadcast reply)) (λ r. Channel.Broadcast r) said }
+{
+    match said {
+        Ok(receipt) => Ok(Channel::Broadcast(receipt)),
+        Err(why) => Err(why),
+    }
+}
+
+/// A receipt of a watch topic.
+#[inline(always)]
+pub(crate) fn watch_told(said: Result<Receipt<HubWatch>, NoEvent>) -> Result<TopicReceipt, NoEvent>
+    ensures { replied result
+        ≡ noted_of (λ reply. Replied (Channel.Watch reply)) (λ r. Channel.Watch r) said }
+{
+    match said {
+        Ok(receipt) => Ok(Channel::Watch(receipt)),
+        Err(why) => Err(why),
+    }
+}
 
 /// What a sender does.
 #[inline(always)]

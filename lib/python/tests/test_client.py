@@ -83,6 +83,10 @@ RAISED = [
     (commands.send("t", b"x"), b"ERR 16 not-held", Refused),
     (commands.send("t", b"x"), b"VAL x", ProtocolError),
     (commands.left("t"), b"OK", ProtocolError),
+    (commands.send("t", b"x"), b"ERR", ProtocolError),
+    (commands.send("t", b"x"), b"ERR seventeen", ProtocolError),
+    (commands.recv("t"), b"LAG many", ProtocolError),
+    (commands.topics(), b"OK many", ProtocolError),
 ]
 
 
@@ -131,6 +135,19 @@ def test_a_session_that_has_ended_says_so(tmp_path):
             hub.ask(commands.recv("t"))
     with pytest.raises(OSError):
         Client(str(tmp_path / "nowhere"))
+
+
+def test_a_session_that_was_lost_says_so_to_each_later_command(tmp_path):
+    near, far = socket.socketpair()
+    with pretended(tmp_path, []) as (path, _), Client(path) as hub:
+        hub._socket.close()
+        hub._socket = near
+        far.close()
+        for _ in range(3):
+            with pytest.raises(ConnectionError):
+                hub.ask(commands.bind("t"))
+        with pytest.raises(ConnectionError):
+            hub.answer()
 
 
 def test_commands_may_be_sent_ahead(tmp_path):

@@ -46,13 +46,14 @@ class Client:
             raise
         self._replies = self._socket.makefile("rb")
         self._sent: deque[Command[Any]] = deque()
+        self._fault: Optional[BaseException] = None  # why no command can be sent any more
 
     def ask(self, command: Command[A]) -> A:
         """The answer to a command; of `recv` and `changed` once there is one. Commands sent ahead must have been answered.
 
         Raises what the reply tells (`answers`), and `ConnectionError` where the session has ended.
         """
-        if self._sent:
+        if self._sent and not self._fault:
             raise RuntimeError("the replies to commands that were sent ahead come first")
         self.send(command)
         answer: A = self.answer()
@@ -60,20 +61,22 @@ class Client:
 
     def send(self, command: Command[Any]) -> None:
         """Sends a command ahead. Its answer is that of the first `answer` that no earlier command has."""
+        self._go_on()
         self._sent.append(command)
         try:
             self._socket.sendall(command.line + b"\n")
-        except BaseException:
-            self.close()  # how much of the line was sent is not known
+        except BaseException as fault:
+            self._end(fault)  # how much of the line was sent is not known
             raise
 
     def answer(self) -> Any:
         """The answer to the oldest command that was sent ahead."""
+        self._go_on()
         command = self._sent.popleft()
         try:
             reply = self._read(command)
-        except BaseException:
-            self.close()  # what is read next would be no reply to the next command
+        except BaseException as fault:
+            self._end(fault)  # what is read next would be no reply to the next command
             raise
         return command.answer(reply)
 
@@ -82,10 +85,18 @@ class Client:
         rows = tuple(_line(self._replies.readline()) for _ in range(command.count_rows(reply)))
         return Reply(reply.word, reply.rest, rows)
 
-    def close(self) -> None:
-        """Ends the session. Again it does nothing."""
+    def _go_on(self) -> None:
+        if self._fault:
+            raise ConnectionError(ENDED) from self._fault
+
+    def _end(self, fault: BaseException) -> None:
+        self._fault = fault
         self._replies.close()
         self._socket.close()
+
+    def close(self) -> None:
+        """Ends the session. Again it does nothing."""
+        self._end(self._fault or ConnectionError("it was closed here"))
 
     def __enter__(self) -> Client:
         return self

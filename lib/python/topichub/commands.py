@@ -11,7 +11,7 @@ from __future__ import annotations
 
 import re
 from dataclasses import dataclass
-from typing import Callable, Generic, NoReturn, Optional, TypeVar
+from typing import Callable, Generic, Optional, TypeVar
 
 from .answers import Closed, Empty, Lagged, NoReceivers, ProtocolError, Refused, Shown
 
@@ -42,7 +42,7 @@ class Command(Generic[T]):
 
     def count_rows(self, reply: Reply) -> int:
         """How many lines stand below this first line of the reply."""
-        return int(reply.rest) if self.has_rows and reply.word == b"OK" else 0
+        return (_count(reply) or 0) if self.has_rows else 0
 
     def answer(self, reply: Reply) -> T:
         """What the reply means. Raises what it tells in place of an answer."""
@@ -60,11 +60,14 @@ def reply_of(line: bytes) -> Reply:
     return Reply(word, rest)
 
 
-def _refuse(reply: Reply) -> NoReturn:
+def _refuse(reply: Reply) -> None:
+    """Raises what a refusal tells. One without a number is none."""
     code, _, word = reply.rest.partition(b" ")
+    if not code.isdigit():
+        return
     if int(code) == NO_RECEIVERS:
         raise NoReceivers
-    raise Refused(int(code), word.decode())
+    raise Refused(int(code), word.decode(errors="backslashreplace"))
 
 
 # ---- the fields of a line
@@ -112,7 +115,7 @@ def _sent(reply: Reply) -> Optional[int]:
 
 
 def _received(reply: Reply) -> Optional[bytes]:
-    if reply.word == b"LAG":
+    if reply.word == b"LAG" and reply.rest.isdigit():
         raise Lagged(int(reply.rest))
     if reply.word == b"EMPTY":
         raise Empty
@@ -144,14 +147,14 @@ def _shown(reply: Reply) -> Optional[Shown[bytes]]:
 
 
 def _topics(reply: Reply) -> Optional[dict[str, str]]:
-    if reply.word != b"OK":
+    if _count(reply) is None:
         return None
     rows = (row.decode().partition(" ") for row in reply.rows)
     return {topic: kind for topic, _, kind in rows}
 
 
 def _trace(reply: Reply) -> Optional[bytes]:
-    return b"".join(row + b"\n" for row in reply.rows) if reply.word == b"OK" else None
+    return None if _count(reply) is None else b"".join(row + b"\n" for row in reply.rows)
 
 
 # ---- topics

@@ -35,7 +35,8 @@ pub returns-clause-same : goal.returns-clause-same
 returns-clause-same g c =
     let count : c.loop-count.count ≡ c.args.most = omega (arith, c.loop-count-test.false, c.loop-count.auto.count-end, c.requires.some) in
     subst (λ (k : ℕ). AreThere c.args.line.now c.args.ahead.now (times k c.args.line.now)) count
-    (are_there c.args.line.now c.args.ahead.now c.loop-count.rest.now (times c.loop-count.count c.args.line.now) c.loop-count.invariant.same)
+    (are_there c.args.line.now c.args.ahead.now c.loop-count.rest.now (times c.loop-count.count c.args.line.now)
+    c.loop-count.invariant.same)
 
 pub returns-clause-let_through : goal.returns-clause-let_through
 returns-clause-let_through g c =

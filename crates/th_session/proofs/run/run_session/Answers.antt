@@ -12,14 +12,14 @@ use Rattle.th_session.proofs.run.run_session.Goals as goal
 pub returns-in_default-clause-served : goal.returns-in_default-clause-served
 returns-in_default-clause-served g c =
     served_short c.args.keeping g.D.Desk.says
-    (strictness g.G.Gate.holds_back g.G.Gate.lets g.G.Gate.gives_up (c.args.gate.now, c.args.number)) c.args.bounds.lines c.args.bounds.reads
-    _ _ _ c.new-in_default.ensures
+    (strictness g.G.Gate.holds_back g.G.Gate.lets g.G.Gate.gives_up (c.args.gate.now, c.args.number)) c.args.bounds.lines
+    c.args.bounds.reads _ _ _ c.new-in_default.ensures
 
 pub returns-in_default-new-clause-served : goal.returns-in_default-new-clause-served
 returns-in_default-new-clause-served g c =
     served_short c.args.keeping g.D.Desk.says
-    (strictness g.G.Gate.holds_back g.G.Gate.lets g.G.Gate.gives_up (c.args.gate.now, c.args.number)) c.args.bounds.lines c.args.bounds.reads
-    _ _ _ c.new-in_default-new.ensures
+    (strictness g.G.Gate.holds_back g.G.Gate.lets g.G.Gate.gives_up (c.args.gate.now, c.args.number)) c.args.bounds.lines
+    c.args.bounds.reads _ _ _ c.new-in_default-new.ensures
 
 pub returns-clause-served : goal.returns-clause-served
 returns-clause-served g c =

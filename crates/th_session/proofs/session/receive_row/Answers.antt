@@ -25,7 +25,8 @@ returns-in_default-reserve g c =
 pub returns : goal.returns
 returns g c =
     let holds : c.in-Some.own.now.receiver ≡ Some c.in-Some-receiver.receiver = c.in-Some-receiver.is in
-    let kept = receiver-kept g.D.Desk.tx g.D.Desk.rx c.in-Some.own.now _ c.by_receiver_row.new.receiver holds c.by_receiver_row.ensures.receiver in
+    let kept = receiver-kept g.D.Desk.tx g.D.Desk.rx c.in-Some.own.now _ c.by_receiver_row.new.receiver holds
+    c.by_receiver_row.ensures.receiver in
     let at = sym c.in-Some.ensures.value in
     let there = receiver-there g.D.Desk.tx g.D.Desk.rx c.args.handles.now.entries c.args.topic.0 (Some c.in-Some-receiver.receiver)
     (ap (λ x. x.receiver) (at-in c.args.handles.now.entries c.args.topic.0 _ at) ∙ holds) in

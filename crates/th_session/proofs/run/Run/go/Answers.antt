@@ -60,7 +60,13 @@ returns-clause-ran g c =
     let new : Devices = devices g.R.Read.remaining c.feed-fed.new.reader contents c.settle.new.writer in
     let f = c.feed-fed.new.self in
     let i = c.self.inside in
-    let at : Run = record { kept = i.session; waiting = i.replies.text; gate = i.replies.gate; keeping = i.keeping; owes = g.D.Desk.owes i.owed } in
+    let at : Run = record {
+      kept = i.session;
+      waiting = i.replies.text;
+      gate = i.replies.gate;
+      keeping = i.keeping;
+      owes = g.D.Desk.owes i.owed;
+    } in
     let now : Standing = (at, c.feed-fed.new.desk, c.feed-fed.new.writer) in
     let few : f.taken ≤ f.limit = omega (arith, c.taken-taken.ensures.taken, c.taken-taken.ensures.within) in
     let spent = kept_count c.feed-fed.new.reader.calls ≡ kept_count (c.args.reader.now.calls + c.args.reads) in

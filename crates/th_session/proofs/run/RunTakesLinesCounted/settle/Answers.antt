@@ -14,9 +14,21 @@ returns g c =
     let took = Took g.D.Desk.says strict g.W.Write.contents in
     let over = IsOver g.D.Desk.says strict g.W.Write.contents in
     let Run : Type 0 = Progress g.row.G.Denot in
-    let old : Run = record { kept = i.session; waiting = i.replies.text; gate = i.replies.gate; keeping = i.keeping; owes = g.D.Desk.owes i.owed } in
+    let old : Run = record {
+      kept = i.session;
+      waiting = i.replies.text;
+      gate = i.replies.gate;
+      keeping = i.keeping;
+      owes = g.D.Desk.owes i.owed;
+    } in
     let left = c.settle.new.self in
-    let new : Run = record { kept = i.session; waiting = left.text; gate = left.gate; keeping = i.keeping; owes = g.D.Desk.owes c.settle.new.owed } in
+    let new : Run = record {
+      kept = i.session;
+      waiting = left.text;
+      gate = left.gate;
+      keeping = i.keeping;
+      owes = g.D.Desk.owes c.settle.new.owed;
+    } in
     let P : Run → Result (Unit {0}) Stop → Type 0 =
     λ k r. feeding.Settles took over IsSettled
     (k, c.args.desk.now, c.args.writer.now) r (new, c.settle.new.desk, c.settle.new.writer) in

@@ -12,9 +12,21 @@ returns g c =
     let took = Took g.D.Desk.says strict g.W.Write.contents in
     let over = IsOver g.D.Desk.says strict g.W.Write.contents in
     let Run : Type 0 = Progress g.row.G.Denot in
-    let old : Run = record { kept = i.session; waiting = i.replies.text; gate = i.replies.gate; keeping = i.keeping; owes = g.D.Desk.owes i.owed } in
+    let old : Run = record {
+      kept = i.session;
+      waiting = i.replies.text;
+      gate = i.replies.gate;
+      keeping = i.keeping;
+      owes = g.D.Desk.owes i.owed;
+    } in
     let left = c.serve.new.replies in
-    let new : Run = record { kept = c.serve.new.session; waiting = left.text; gate = left.gate; keeping = i.keeping; owes = g.D.Desk.owes c.serve.new.owed } in
+    let new : Run = record {
+      kept = c.serve.new.session;
+      waiting = left.text;
+      gate = left.gate;
+      keeping = i.keeping;
+      owes = g.D.Desk.owes c.serve.new.owed;
+    } in
     let line = line_given c.args.line in
     subst (λ (k : Run). feeding.Takes took over c.args.taken line (k, c.args.desk.now, c.args.writer.now) c.serve.result
     (new, c.serve.new.desk, c.serve.new.writer)) c.self.view_is

@@ -11,9 +11,21 @@ returns g c =
     let took = Took g.D.Desk.says strict g.W.Write.contents in
     let over = IsOver g.D.Desk.says strict g.W.Write.contents in
     let Run : Type 0 = Progress g.row.G.Denot in
-    let old : Run = record { kept = i.session; waiting = i.replies.text; gate = i.replies.gate; keeping = i.keeping; owes = g.D.Desk.owes i.owed } in
+    let old : Run = record {
+      kept = i.session;
+      waiting = i.replies.text;
+      gate = i.replies.gate;
+      keeping = i.keeping;
+      owes = g.D.Desk.owes i.owed;
+    } in
     let left = c.serve_row.new.replies in
-    let new : Run = record { kept = c.serve_row.new.session; waiting = left.text; gate = left.gate; keeping = i.keeping; owes = g.D.Desk.owes c.serve_row.new.owed } in
+    let new : Run = record {
+      kept = c.serve_row.new.session;
+      waiting = left.text;
+      gate = left.gate;
+      keeping = i.keeping;
+      owes = g.D.Desk.owes c.serve_row.new.owed;
+    } in
     subst (λ (k : Run). feeding.TakesRow took over c.args.taken c.args.most c.args.intake.now (k, c.args.desk.now, c.args.writer.now)
     c.serve_row.result.count c.serve_row.result.end (new, c.serve_row.new.desk, c.serve_row.new.writer)) c.self.view_is
     (row_taken g.D.Desk.says strict g.W.Write.contents c.args.taken c.args.most c.args.intake.now (old, c.args.desk.now, c.args.writer.now)
