@@ -6,6 +6,8 @@ mod GivenWords
 mod Checking
 mod Telling
 mod Placing
+mod GoingOn
+mod Sources
 mod Showing
 mod Listing
 mod PartNames

@@ -1,12 +1,12 @@
 -- Names that are read from a list.
-use Rattle.std.proofs.Common.{◌≡◌, ◌≢◌, ◌∙◌, ℕ, ◌+◌, ◌-◌, ◌<◌, ◌≤◌, Bool, true, false, List, [], ◌∷◌, ◌++◌, length, take, drop, get_or, refl, sym, ap, arith, append_assoc, length-drop, length-take}
+use Rattle.std.proofs.Common.{◌≡◌, ◌≢◌, ◌∙◌, ℕ, ◌+◌, ◌-◌, ◌<◌, ◌≤◌, Bool, true, false, List, [], ◌∷◌, ◌++◌, length, take, drop, get_or, refl, sym, ap, arith, append-nil, append_assoc, length-drop, length-take}
 use Rattle.std.specs.Prelude.{◌==◌, if◌then◌else◌}
 use Rattle.std.proofs.lemmas.Bool.{eq-eqb, ne_eqb}
 use Rattle.std.proofs.lemmas.List.{drop_all, drop_more, get_or-drop, length-take-le, take_more}
 use Rattle.th_program.specs.Listed.{names_in, with_byte}
 
 -- bytes in front of the first name
-glued : List ℕ → List (List ℕ) → List (List ℕ)
+abbrev pub glued : List ℕ → List (List ℕ) → List (List ℕ)
 glued [] names = names
 glued (b ∷ bs) names = with_byte b (glued bs names)
 
@@ -25,8 +25,8 @@ glued_last (b ∷ c ∷ bs) some = ap (with_byte b) (glued_last (c ∷ bs) (omeg
 
 names_byte : (mark b : ℕ) (later : List ℕ) → b ≢ mark → names_in mark (b ∷ later) ≡ with_byte b (names_in mark later)
 unfolding names_in
-names_byte mark b later no =
-    ap (λ (t : Bool). if t then [] ∷ names_in mark later else with_byte b (names_in mark later)) (ne_eqb b mark no)
+names_byte mark b later other =
+    ap (λ (t : Bool). if t then [] ∷ names_in mark later else with_byte b (names_in mark later)) (ne_eqb b mark other)
 
 names_mark : (mark b : ℕ) (later : List ℕ) → b ≡ mark → names_in mark (b ∷ later) ≡ [] ∷ names_in mark later
 unfolding names_in
@@ -54,14 +54,14 @@ module _ (mark : ℕ) (text : List ℕ) (from : ℕ) where
   }
 
   pub name_more : (at : ℕ) → at < length text → get_or text at 0 ≢ mark → IsInName at → IsInName (at + 1)
-  name_more at low no so_far =
+  name_more at low other so_far =
       let b = get_or text at 0 in
       let k = at - from in
       let xs = drop from text in
       let later = names_in mark (drop (at + 1) text) in
       let up = so_far.up in
       let here : names_in mark (drop at text) ≡ with_byte b later =
-      ap (names_in mark) (drop_more text at 0 low) ∙ names_byte mark b (drop (at + 1) text) no in
+      ap (names_in mark) (drop_more text at 0 low) ∙ names_byte mark b (drop (at + 1) text) other in
       let place : from + k ≡ at = omega (arith, up) in
       let count : k + 1 ≡ at + 1 - from = omega (arith, up) in
       let read : get_or xs k 0 ≡ b = get_or-drop from text k 0 ∙ ap (λ (j : ℕ). get_or text j 0) place in
@@ -102,3 +102,10 @@ pub name_read : (mark : ℕ) (text : List ℕ) (at end : ℕ) (names : List (Lis
 name_read mark text at end names one so_far =
     append_assoc names (take (end - at) (drop at text) ∷ []) (names_in mark (drop (end + 1) text))
     ∙ ap (λ (l : List (List ℕ)). names ++ l) (sym one) ∙ so_far
+
+-- and no more
+pub list_read : (mark : ℕ) (text : List ℕ) (at : ℕ) (names : List (List ℕ)) → length text ≤ at
+    → names ++ names_in mark (drop at text) ≡ names_in mark text → names ≡ names_in mark text
+list_read mark text at names past so_far =
+    sym (append-nil names)
+    ∙ ap (λ (l : List (List ℕ)). names ++ l) (sym (ap (names_in mark) (drop_all at text past) ∙ names_none mark)) ∙ so_far

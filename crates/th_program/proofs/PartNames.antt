@@ -1,6 +1,6 @@
 -- What is so of the names of parts.
 use Rattle.std.proofs.Common.{◌≡◌, ℕ, zero, suc, ◌+◌, ◌-◌, ◌/◌, ◌%◌, ◌<◌, ◌≤◌, List, [], ◌∷◌, ◌++◌, length, drop, set, refl, ap, ◌∙◌, sym, Bool, true, false, arith, append_assoc}
-use Rattle.std.proofs.Common.{All, get_or, ◌^◌, ◌≢◌, Ok, Result, length-append, subst, take}
+use Rattle.std.proofs.Common.{All, get_or, ◌^◌, ◌≢◌, Err, Ok, Result, inl, inr, length-append, subst, take}
 use Rattle.std.proofs.Math.Nat.{pow-suc}
 use Rattle.std.proofs.Math.Seq.{drop-append_seam, take-append_seam}
 use Rattle.std.proofs.lemmas.Int.Digits.{digits_push, digits_value_push}
@@ -8,7 +8,7 @@ use Rattle.std.proofs.lemmas.List.{append_cancel_right, take_rest}
 use Rattle.std.proofs.lemmas.Grind.{common_steps}
 use Rattle.std.proofs.lemmas.Slice.Eq.{bytes_eq-Decides}
 use Rattle.std.proofs.lemmas.Str.{digit_value_digit}
-use Rattle.std.proofs.lemmas.Str.Parse.{IsNumeralModel, digit_from_value, numerals_by_value, parse_digits, parse_gives, tells_digits}
+use Rattle.std.proofs.lemmas.Str.Parse.{IsNumeralModel, digit_from_value, numerals_by_value, parse_digits, tells_digits}
 use Rattle.std.specs.Char.{digit_value}
 use Rattle.std.specs.List.{suffix_len}
 use Rattle.std.specs.Str.Parse.{AllDigits, ParsesUnsigned, digits_value}
@@ -16,12 +16,12 @@ use Rattle.std.specs.Prelude.{◌&&◌, codes, nat_lt, nat_le, not}
 use Rattle.std.specs.Str.{IsAscii, bytes_eq}
 use Rattle.std.specs.List.{list_all}
 use Rattle.std.proofs.lemmas.Str.Ascii.{IsAscii-cons, IsAscii-nil, IsAscii-push}
-use Rattle.std.proofs.lemmas.Bool.{eq-eqb, false≢true, ne_eqb}
+use Rattle.std.proofs.lemmas.Bool.{cases_lt, eq-eqb, false≢true, ne_eqb}
 use Rattle.std.proofs.lemmas.List.Elements.{All-get_or}
 use Rattle.std.proofs.lemmas.List.Sums.{suffix_len_is}
 use Rattle.std.proofs.lemmas.List.{drop-set}
 use Rattle.th_model.specs.Names.{is_name, is_name_byte}
-use Rattle.th_program.specs.PartNames.{digits_of, file_of, is_no_slash}
+use Rattle.th_program.specs.PartNames.{IsNamed, digits_of, file_of, is_no_slash}
 
 -- a digit is one
 digit_is_ascii : (n : ℕ) → 48 + n % 10 < 128
@@ -115,12 +115,17 @@ pub digits_are_text : (ds : List ℕ) → AllDigits 10 ds → IsAscii ds
 digits_are_text [] all = IsAscii-nil
 digits_are_text (c ∷ cs) all = IsAscii-cons c cs (omega (arith, digit_from_value c all.0)) (digits_are_text cs all.1)
 
-pub number_read : {E : Type 0} (ds : List ℕ) (r : Result ℕ E) → ParsesUnsigned 64 10 ds r → AllDigits 10 ds → 0 < length ds
-    → digits_value 10 ds < 2 ^ 64 → r ≡ Ok (digits_value 10 ds)
-number_read ds r read all some low = parse_gives own 64 ds r read all some low
+pub number_is : {E : Type 0} (ds : List ℕ) (n : ℕ) (r : Result ℕ E) → r ≡ Ok n → ParsesUnsigned 64 10 ds r → AllDigits 10 ds
+    → digits_value 10 ds ≡ n
+number_is {E} ds n r is read all =
+    sym (parse_digits own {E = E} 64 ds (Ok n) (subst (λ (x : Result ℕ E). ParsesUnsigned 64 10 ds x) is read) all).1
 
-pub number_is : {E : Type 0} (ds : List ℕ) (n : ℕ) → ParsesUnsigned {E} 64 10 ds (Ok n) → AllDigits 10 ds → digits_value 10 ds ≡ n
-number_is {E} ds n read all = sym (parse_digits own 64 ds (Ok n) read all).1
+pub number_none : {E : Type 0} (ds : List ℕ) (e : E) (r : Result ℕ E) → r ≡ Err e → ParsesUnsigned 64 10 ds r → AllDigits 10 ds
+    → 0 < length ds → 2 ^ 64 ≤ digits_value 10 ds
+number_none {E} ds e r is read all some = elim (cases_lt (digits_value 10 ds) (2 ^ 64)) [
+  | inl low ↦ absurd (parse_digits own {E = E} 64 ds (Err e) (subst (λ (x : Result ℕ E). ParsesUnsigned 64 10 ds x) is read) all (some, low))
+  | inr high ↦ high
+]
 
 -- a part's name in its pieces
 named : (t d : List ℕ) → t ++ 46 ∷ (d ++ codes ".trace") ≡ (t ++ 46 ∷ d) ++ codes ".trace"
@@ -163,3 +168,11 @@ whole name front t head digits ends parts dot =
 
 pub same_topic : (u t : List ℕ) (r : Bool) → r ≡ bytes_eq u t → r ≡ true → u ≡ t
 same_topic u t r is same = grind (arith, common_steps, bytes_eq-Decides u t)
+
+-- a name is that of one part alone
+pub same_name : (path t u d e : List ℕ) → IsNamed path t d → IsNamed path u e → (t ≡ u) × (d ≡ e)
+same_name path t u d e one other =
+    let front : List ℕ = t ++ 46 ∷ d in
+    let is : front ≡ u ++ 46 ∷ e = front_of (file_of path) u e front other.is (one.is ∙ named t d) in
+    let topic : t ++ 46 ∷ [] ≡ u ++ 46 ∷ [] = sym (topic_before front t d one.twenty refl) ∙ topic_before front u e other.twenty is in
+    (append_cancel_right t u (46 ∷ []) topic, sym (digits_behind front t d one.twenty refl) ∙ digits_behind front u e other.twenty is)

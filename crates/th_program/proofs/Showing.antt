@@ -1,15 +1,23 @@
 -- A name that is printed in pieces.
-use Rattle.std.proofs.Common.{◌≡◌, ◌∙◌, ℕ, zero, suc, ◌+◌, ◌-◌, ◌<◌, ◌≤◌, Bool, true, false, List, [], ◌∷◌, ◌++◌, length, take, drop, get_or, refl, sym, ap, arith, append_assoc, length-drop}
+use Rattle.std.proofs.Common.{◌≡◌, ◌∙◌, ℕ, zero, suc, ◌+◌, ◌-◌, ◌<◌, ◌≤◌, Bool, true, false, List, [], ◌∷◌, ◌++◌, length, take, drop, get_or, refl, sym, ap, subst, arith, append-nil, append_assoc, length-drop, Option, Some, None}
+use Rattle.std.specs.Io.KnownBytes.{Appends}
+use Rattle.std.proofs.KnownBytes.{Appends-trans}
 use Rattle.std.specs.Prelude.{if◌then◌else◌}
 use Rattle.std.proofs.lemmas.List.{drop-drop, drop_all, drop_more, get_or-drop, take_more}
 use Rattle.th_program.specs.Shown.{are_control, control_at, is_control, mark, shown}
 
 -- a byte that is none
-plain_alone : (t : Bool) (b : ℕ) → (if t then 1 else 0) ≡ 0 → (if t then 63 else b) ≡ b
+abbrev alone : Bool → ℕ
+alone t = if t then 1 else 0
+
+abbrev paired : Bool → Bool → ℕ
+paired t u = if t then 1 else if u then 2 else 0
+
+plain_alone : (t : Bool) (b : ℕ) → alone t ≡ 0 → (if t then 63 else b) ≡ b
 plain_alone true b e = absurd (omega (arith, e))
 plain_alone false b e = refl
 
-plain_first : (t u : Bool) (b : ℕ) (all later : List ℕ) → (if t then 1 else if u then 2 else 0) ≡ 0
+plain_first : (t u : Bool) (b : ℕ) (all later : List ℕ) → paired t u ≡ 0
     → (if t then 63 ∷ all else if u then 63 ∷ later else b ∷ all) ≡ b ∷ all
 plain_first true u b all later e = absurd (omega (arith, e))
 plain_first false true b all later e = absurd (omega (arith, e))
@@ -21,13 +29,13 @@ shown_plain b [] e = ap (λ (x : ℕ). x ∷ []) (plain_alone (is_control b) b e
 shown_plain b (c ∷ later) e = plain_first (is_control b) (are_control b c) b (shown (c ∷ later)) (shown later) e
 
 -- one that is
-marked_alone : (t : Bool) (b : ℕ) → 0 < (if t then 1 else 0) → (if t then 63 else b) ∷ [] ≡ 63 ∷ drop (if t then 1 else 0) (b ∷ [])
+marked_alone : (t : Bool) (b : ℕ) → 0 < alone t → (if t then 63 else b) ∷ [] ≡ 63 ∷ drop (alone t) (b ∷ [])
 marked_alone true b low = refl
 marked_alone false b low = absurd (omega (arith, low))
 
-marked_first : (t u : Bool) (b c : ℕ) (later : List ℕ) → 0 < (if t then 1 else if u then 2 else 0)
+marked_first : (t u : Bool) (b c : ℕ) (later : List ℕ) → 0 < paired t u
     → (if t then 63 ∷ shown (c ∷ later) else if u then 63 ∷ shown later else b ∷ shown (c ∷ later))
-    ≡ 63 ∷ shown (drop (if t then 1 else if u then 2 else 0) (b ∷ c ∷ later))
+    ≡ 63 ∷ shown (drop (paired t u) (b ∷ c ∷ later))
 marked_first true u b c later low = refl
 marked_first false true b c later low = refl
 marked_first false false b c later low = absurd (omega (arith, low))
@@ -60,16 +68,16 @@ marked_at name end n e = marked (drop end name)
 
 -- how many bytes a control character has that stands at some place
 first_control : (b : ℕ) (later : List ℕ) → is_control b ≡ true → control_at (b ∷ later) ≡ 1
-first_control b [] e = ap (λ (t : Bool). if t then 1 else 0) e
-first_control b (c ∷ later) e = ap (λ (t : Bool). if t then 1 else if are_control b c then 2 else 0) e
+first_control b [] e = ap alone e
+first_control b (c ∷ later) e = ap (λ (t : Bool). paired t (are_control b c)) e
 
 last_plain : (b : ℕ) → is_control b ≡ false → control_at (b ∷ []) ≡ 0
-last_plain b e = ap (λ (t : Bool). if t then 1 else 0) e
+last_plain b e = ap alone e
 
 two_bytes : (b c : ℕ) (later : List ℕ) (u : Bool) → is_control b ≡ false → are_control b c ≡ u
-    → control_at (b ∷ c ∷ later) ≡ (if u then 2 else 0)
-two_bytes b c later u e pair = ap (λ (t : Bool). if t then 1 else if are_control b c then 2 else 0) e
-    ∙ ap (λ (v : Bool). if v then 2 else 0) pair
+    → control_at (b ∷ c ∷ later) ≡ paired false u
+two_bytes b c later u e pair = ap (λ (t : Bool). paired t (are_control b c)) e
+    ∙ ap (paired false) pair
 
 module _ (name : List ℕ) (i : ℕ) where
   pub control_past : length name ≤ i → 0 ≡ control_at (drop i name)
@@ -84,7 +92,7 @@ module _ (name : List ℕ) (i : ℕ) where
         ∙ ap (λ (l : List ℕ). control_at (get_or name i 0 ∷ l)) (drop_all (i + 1) name past) ∙ last_plain (get_or name i 0) e)
 
     pub control_two : (u : Bool) → is_control (get_or name i 0) ≡ false → i + 1 < length name
-        → are_control (get_or name i 0) (get_or name (i + 1) 0) ≡ u → (if u then 2 else 0) ≡ control_at (drop i name)
+        → are_control (get_or name i 0) (get_or name (i + 1) 0) ≡ u → paired false u ≡ control_at (drop i name)
     control_two u e more pair = sym (ap control_at (drop_more name i 0 low)
         ∙ ap (λ (l : List ℕ). control_at (get_or name i 0 ∷ l)) (drop_more name (i + 1) 0 more)
         ∙ two_bytes (get_or name i 0) (get_or name (i + 1) 0) (drop (i + 1 + 1) name) u e pair)
@@ -109,3 +117,43 @@ plain_more name from at up low none so_far =
     ∙ ap (λ (x : ℕ). take k xs ++ x ∷ []) read in
     so_far ∙ ap (λ (l : List ℕ). take k xs ++ l) one ∙ sym (append_assoc (take k xs) (b ∷ []) later)
     ∙ ap (λ (l : List ℕ). l ++ later) (sym front)
+
+-- a name is written up to some place
+pub record IsShownTo (name : List ℕ) (old now : Option (List ℕ)) (at : ℕ) : Type 0 where
+  pub done : List ℕ
+  pub wrote : Appends old now done
+  pub rest : done ++ shown (drop at name) ≡ shown name
+
+nothing : (o : Option (List ℕ)) → Appends o o []
+nothing None = tt
+nothing (Some l) = sym (append-nil l)
+
+pub shown_begins : (name : List ℕ) (old : Option (List ℕ)) → IsShownTo name old old 0
+shown_begins name old = record { done = []; wrote = nothing old; rest = refl }
+
+pub shown_next : (name : List ℕ) (old now mid new : Option (List ℕ)) (at end n : ℕ) → IsShownTo name old now at
+    → shown (drop at name) ≡ take (end - at) (drop at name) ++ shown (drop end name)
+    → Appends now mid (take (end - at) (drop at name)) → n ≡ control_at (drop end name) → Appends mid new (mark n)
+    → IsShownTo name old new (end + n)
+shown_next name old now mid new at end n to plain wrote control marks =
+    let piece = take (end - at) (drop at name) in
+    let later = shown (drop (end + n) name) in
+    record {
+      done = to.done ++ (piece ++ mark n);
+      wrote = Appends-trans old now new to.done (piece ++ mark n) to.wrote (Appends-trans now mid new piece (mark n) wrote marks);
+      rest = append_assoc to.done (piece ++ mark n) later
+          ∙ ap (λ (l : List ℕ). to.done ++ l) (append_assoc piece (mark n) later
+          ∙ ap (λ (l : List ℕ). piece ++ l) (sym (marked_at name end n control)) ∙ sym plain)
+          ∙ to.rest;
+    }
+
+none_shown : shown [] ≡ []
+unfolding shown
+none_shown = refl
+
+pub shown_ends : (name : List ℕ) (old new : Option (List ℕ)) (at : ℕ) → length name ≤ at → IsShownTo name old new at
+    → Appends old new (shown name)
+shown_ends name old new at past to =
+    let whole : to.done ≡ shown name =
+    sym (append-nil to.done) ∙ ap (λ (l : List ℕ). to.done ++ l) (sym (ap shown (drop_all at name past) ∙ none_shown)) ∙ to.rest in
+    subst (λ (l : List ℕ). Appends old new l) whole to.wrote

@@ -16,7 +16,7 @@ use Rattle.th_check.specs.declared.verdict.Verdict.TheVariants as verdict
 use Rattle.th_program.specs.declared.end.End.{End}
 use Rattle.th_program.specs.declared.part_names.Misplaced.{Misplaced}
 use Rattle.th_program.specs.declared.part_names.Place.{Place}
-use Rattle.th_program.specs.Files.{AreOneHistory, EachIsTold, EndsJoined, IsBrokenBy, Breaks, IsFile, IsMisplaced, IsNext, IsOutcome, IsTextOf, IsToldBy, Outcome, PartFile, TellsBroken, Told, broken_line, end_by, end_of, entries_in, entries_of, fault_line, file_line, lines_by, place_of, worse, worst}
+use Rattle.th_program.specs.Files.{AreOneHistory, EachIsTold, EndsEach, EndsFolder, EndsJoined, IsBrokenBy, Breaks, IsFile, IsMisplaced, IsNext, IsOutcome, IsTextOf, IsToldBy, Outcome, PartFile, TellsBroken, Told, broken_line, end_by, end_of, entries_in, entries_of, fault_line, file_line, lines_by, place_of, worse, worst}
 use Rattle.th_program.specs.PartNames.{GoesOn}
 use Rattle.th_program.specs.Run.{Errors, IsSaid}
 use Rattle.th_program.proofs.Hearing.{said_more}
@@ -226,4 +226,27 @@ pub no_history : (holds : List ℕ → Option (List ℕ)) → UpTo holds [] 0 No
 no_history holds = record {
   history = record { files = []; named = refl; are = tt; added = (refl, refl); placed = tt };
   counted = refl;
+}
+
+-- histories that are checked one after the other
+each_history : (holds : List ℕ → Option (List ℕ)) (all : List (List (List ℕ))) (names : List (List ℕ)) (begun so_far said : End)
+    (before mid after : Option (List ℕ)) → EndsEach holds all begun before mid so_far → EndsJoined holds names mid after said
+    → EndsEach holds (all ++ names ∷ []) begun before after (worse so_far said)
+each_history holds [] names begun so_far said before mid after each one = (
+  after,
+  said,
+  subst (λ (o : Option (List ℕ)). EndsJoined holds names o after said) each.0 one,
+  (refl, ap (λ (e : End). worse e said) each.1),
+)
+each_history holds (first ∷ later) names begun so_far said before mid after (now, told, joined, rest) one =
+    (now, told, joined, each_history holds later names (worse begun told) so_far said now mid after rest one)
+
+pub folder_begins : (holds : List ℕ → Option (List ℕ)) (before : Option (List ℕ)) → EndsFolder holds before before End.Done
+folder_begins holds before = record { topics = []; each = (refl, refl) }
+
+pub folder_more : (holds : List ℕ → Option (List ℕ)) (names : List (List ℕ)) (so_far said : End) (before mid after : Option (List ℕ))
+    → EndsFolder holds before mid so_far → EndsJoined holds names mid after said → EndsFolder holds before after (worse so_far said)
+folder_more holds names so_far said before mid after folder one = record {
+  topics = folder.topics ++ names ∷ [];
+  each = each_history holds folder.topics names End.Done so_far said before mid after folder.each one;
 }

@@ -240,34 +240,17 @@ abbrev pub TellsBroken : List ℕ → Result Joined CheckFault → (before after
 TellsBroken name said before after ends =
     ends ≢ end.Write → (ends ≡ end_by said) × IsToldBy name said before after
 
--- the files that are named as parts of this topic's history
-abbrev pub AreOf : List ℕ → List (List ℕ) → Type 0
-AreOf topic = AllByRecursion (λ name. (digits : List ℕ) × IsNamed name topic digits)
-
--- topics with their files, one at least of each; no topic stands twice, one behind the other
-abbrev pub AreTopics : List (List ℕ × List (List ℕ)) → Type 0
-AreTopics [] = Unit {0}
-AreTopics (one ∷ []) = AreOf one.0 one.1 × (one.1 ≢ [])
-AreTopics (one ∷ next ∷ later) =
-    (AreOf one.0 one.1 × (one.1 ≢ [])) × (one.0 ≢ next.0) × AreTopics (next ∷ later)
-
--- the files of all of them
-abbrev pub files_in : List (List ℕ × List (List ℕ)) → List (List ℕ)
-files_in [] = []
-files_in (one ∷ later) = one.1 ++ files_in later
-
--- those of each are one history, or are told not to be; the run ends by the worst of it
-abbrev pub EndsEach : (List ℕ → Option (List ℕ)) → List (List ℕ × List (List ℕ)) → (so_far : End)
+-- each of these lists of files is one history, or is told not to be; the run ends by the worst of it
+abbrev pub EndsEach : (List ℕ → Option (List ℕ)) → List (List (List ℕ)) → (so_far : End)
     → (before after : Option (List ℕ)) → End → Type 0
 EndsEach holds [] so_far before after ends = (after ≡ before) × (ends ≡ so_far)
-EndsEach holds (one ∷ later) so_far before after ends = (mid : Option (List ℕ)) × (said : End)
-    × EndsJoined holds one.1 before mid said × EndsEach holds later (worse so_far said) mid after ends
+EndsEach holds (names ∷ later) so_far before after ends = (mid : Option (List ℕ)) × (said : End)
+    × EndsJoined holds names before mid said × EndsEach holds later (worse so_far said) mid after ends
 
 -- how a run ends that checks the files of each topic in a folder
 pub record EndsFolder (holds : List ℕ → Option (List ℕ)) (before after : Option (List ℕ))
     (ends : End) : Type 0 where
-  pub topics : List (List ℕ × List (List ℕ))
-  pub are : AreTopics topics
+  pub topics : List (List (List ℕ))
   pub each : EndsEach holds topics end.Done before after ends
 
 -- how a run ends that could not read a folder, or found none there

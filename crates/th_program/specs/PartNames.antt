@@ -1,5 +1,5 @@
 -- Names of files that are parts of a topic's history (docs/FORMATS.md, "A server that stands").
-use Rattle.std.specs.Prelude.{◌≡◌, ◌<◌, ◌≤◌, ◌+◌, ◌-◌, ◌/◌, ◌%◌, ◌^◌, ◌==◌, ℕ, zero, suc, Bool, List, [], ◌∷◌, ◌++◌, codes, drop, length, not, Option, Some, None, Result, Ok, Err}
+use Rattle.std.specs.Prelude.{◌≡◌, ◌<◌, ◌≤◌, ◌+◌, ◌-◌, ◌/◌, ◌%◌, ◌^◌, ◌==◌, ℕ, zero, suc, Bool, List, [], ◌∷◌, ◌++◌, codes, drop, length, not, Option, Some, None, IfSome, Result, Ok, Err}
 use Rattle.std.specs.List.{suffix_len}
 use Rattle.std.specs.Str.Parse.{AllDigits, digits_value}
 use Rattle.th_program.specs.declared.part_names.Misplaced.{Misplaced}
@@ -60,6 +60,13 @@ SaysPart path topic number =
 abbrev pub Agrees : Option Place → List ℕ → ℕ → Type 0
 Agrees None topic first = Unit {0}
 Agrees (Some p) topic first = (topic ≡ p.topic.now) × (first ≡ p.first)
+
+-- a history of so many entries keeps its place where none of its events has a number above 2^64 - 1
+abbrev pub HasRoom : Option Place → (count : ℕ) → Result (Option Place) Misplaced → Type 0
+HasRoom place count (Ok found) =
+    (found ≡ place) × IfSome place (λ p. p.first + count ≤ 2 ^ 64)
+HasRoom None count (Err e) = ⊥
+HasRoom (Some p) count (Err e) = p.first + count ≤ 2 ^ 64 → ⊥
 
 -- how a history goes on with a file, by the names; the first one that is named as a part says where it stands
 abbrev pub GoesOn : Option Place → (before count : ℕ) → List ℕ → Result (Option Place) Misplaced → Type 0

@@ -304,9 +304,9 @@ fn tell_broken<W: Write, E: Write>(
 
 // Writes where a history of so many entries stands, if that is known; `false` where the writer failed.
 fn write_place<W: Write>(output: &mut Counted<W>, place: Option<Place<'_>>, count: u64) -> bool
-    ensures { result ≡ true → IfSome place (λ p. p.first + count ≤ 2 ^ 64) → Appends
+    ensures { result ≡ true → IfSome place.entry (λ p. p.first + count ≤ 2 ^ 64) → Appends
         (W.contents output.old.device) (W.contents output.new.device)
-        (place_told (place_of place) count) }
+        (place_told (place_of place.entry) count) }
 {
     let Some(place) = place else {
         return true;
@@ -328,9 +328,9 @@ fn write_place<W: Write>(output: &mut Counted<W>, place: Option<Place<'_>>, coun
 
 // Writes the line that tells of a history; `false` where the writer failed.
 fn write_joined<W: Write>(output: &mut Counted<W>, count: u64, place: Option<Place<'_>>) -> bool
-    ensures { result ≡ true → IfSome place (λ p. p.first + count ≤ 2 ^ 64) → Appends
+    ensures { result ≡ true → IfSome place.entry (λ p. p.first + count ≤ 2 ^ 64) → Appends
         (W.contents output.old.device) (W.contents output.new.device)
-        (joined_line count (place_of place)) }
+        (joined_line count (place_of place.entry)) }
 {
     if !write_number(output, b"joined ", count) {
         return false;

@@ -1,5 +1,5 @@
 //! Names of files that are listed in a text.
-ghost use Rattle.std.specs.Prelude.{◌≡◌, ◌≤◌, ◌<◌, ◌+◌, ◌-◌, ◌∷◌, IfOk, IfSome, drop, length, map, string_bytes, take};
+ghost use Rattle.std.specs.Prelude.{◌≡◌, ◌≤◌, ◌<◌, ◌+◌, ◌-◌, ◌∷◌, ◌++◌, [], IfOk, IfSome, drop, length, map, string_bytes, take};
 ghost use Rattle.th_program.specs.Listed.{held_by, listed, mark_of, names_in};
 
 use crate::files::Opens;

@@ -3,7 +3,7 @@ ghost use Rattle.std.specs.Prelude.{◌≡◌, ◌≢◌, ◌↔◌, ◌+◌, �
 ghost use Rattle.std.specs.Str.{IsAscii};
 ghost use Rattle.std.specs.Str.Parse.{AllDigits, digits_value};
 ghost use Rattle.th_model.specs.Names.{is_name};
-ghost use Rattle.th_program.specs.PartNames.{Agrees, GoesOn, IsNamed, IsUnnamed, Says, SaysPart, digits_of, file_of, part_name};
+ghost use Rattle.th_program.specs.PartNames.{Agrees, GoesOn, HasRoom, IsNamed, IsUnnamed, Says, SaysPart, digits_of, file_of, part_name};
 
 use std::alloc::{AllocError, Global};
 use std::str;
@@ -139,12 +139,13 @@ pub(crate) fn topic_of(path: &[u8]) -> Option<&[u8]>
 
 // Where a history stands that has so many entries before this part, if it stands anywhere.
 fn begun<'a>(place: Option<Place<'a>>, before: u64, part: Part<'a>) -> Option<Place<'a>>
-    ensures some { IfSome result (λ p. Agrees place p.topic.now p.first
-        × (p.topic.now ≡ part.topic.now)
-        × (part.number ≡ Some (p.first + before))
-        × (place ≡ None → 1 ≤ p.first)) }
-    ensures none { result ≡ None → (first : ℕ) → 1 ≤ first → Agrees place part.topic.now first
-        → part.number ≢ Some (first + before) }
+    ensures some { IfSome result (λ p. Agrees place.entry p.topic.now p.first
+        × (p.topic.now ≡ part.entry.topic.now)
+        × (part.entry.number ≡ Some (p.first + before))
+        × (p.first + before < 2 ^ 64)
+        × (place.entry ≡ None → 1 ≤ p.first)) }
+    ensures none { result ≡ None → (first : ℕ) → 1 ≤ first → Agrees place.entry part.entry.topic.now first
+        → part.entry.number ≢ Some (first + before) }
 {
     let Some(number) = part.number else {
         return None;
@@ -162,13 +163,20 @@ fn begun<'a>(place: Option<Place<'a>>, before: u64, part: Part<'a>) -> Option<Pl
     }
 }
 
-// Whether a history of so many entries that begins with this event has none with a number above 2^64 - 1.
-fn has_room(first: u64, count: u64) -> bool
-    ensures { 1 ≤ first → (IsTrue result ↔ (first + count ≤ 2 ^ 64)) }
+// A history of so many entries at this place, where none of its events has a number above 2^64 - 1.
+fn bounded<'a>(place: Option<Place<'a>>, count: u64) -> Result<Option<Place<'a>>, Misplaced>
+    ensures { IfSome place.entry (λ p. 1 ≤ p.first) → HasRoom place.entry count result }
 {
-    match first.checked_sub(1) {
-        Some(before) => before.checked_add(count).is_some(),
-        None => true,
+    let Some(Place { first, .. }) = place else {
+        return Ok(place);
+    };
+    let Some(before) = first.checked_sub(1) else {
+        return Ok(place);
+    };
+    if before.checked_add(count).is_some() {
+        Ok(place)
+    } else {
+        Err(Misplaced)
     }
 }
 
@@ -184,17 +192,14 @@ pub(crate) fn placed<'a>(
     count: u64,
     path: &'a [u8],
 ) -> Result<Option<Place<'a>>, Misplaced>
-    ensures { IfSome place (λ p. 1 ≤ p.first) → GoesOn place before count path.now result }
+    ensures { IfSome place.entry (λ p. 1 ≤ p.first)
+        → GoesOn place.entry before count path.now result }
 {
-    let place = match part_of(path) {
-        None => place,
-        Some(part) => match begun(place, before, part) {
-            Some(place) => Some(place),
-            None => return Err(Misplaced),
-        },
+    let Some(part) = part_of(path) else {
+        return bounded(place, count);
     };
-    match place {
-        Some(place) if !has_room(place.first, count) => Err(Misplaced),
-        _ => Ok(place),
+    match begun(place, before, part) {
+        Some(place) => bounded(Some(place), count),
+        None => Err(Misplaced),
     }
 }

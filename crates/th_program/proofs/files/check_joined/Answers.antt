@@ -1,4 +1,4 @@
-use Rattle.std.proofs.Common.{ℕ, ◌+◌, List, [], ◌∷◌, ◌++◌, Option, drop, ap, map, refl, string_bytes, subst, sym, take}
+use Rattle.std.proofs.Common.{Global, String, None, arith, ℕ, ◌+◌, List, [], ◌∷◌, ◌++◌, Option, drop, ap, map, refl, string_bytes, subst, sym, take}
 use Rattle.std.specs.Prelude.{IfOk, IfSome, Ok, Err, Result}
 use Rattle.th_lines.specs.Tally.{Tally}
 use Rattle.th_check.specs.declared.fault.CheckFault.{CheckFault}
@@ -7,7 +7,9 @@ use Rattle.th_check.specs.declared.parts.Joined.{Joined}
 use Rattle.th_check.specs.declared.parts.Joined.TheVariants.{Apart}
 use Rattle.th_program.specs.declared.part_names.Place.{Place}
 use Rattle.th_program.specs.PartNames.{GoesOn}
-use Rattle.th_program.specs.Files.{IsNext, TellsBroken}
+use Rattle.std.specs.Io.KnownBytes.{Appends}
+use Rattle.std.proofs.lemmas.List.{take_all}
+use Rattle.th_program.specs.Files.{IsNext, TellsBroken, joined_line, place_of}
 use Rattle.th_program.proofs.Placing.{place_low, place_room}
 use Rattle.th_program.proofs.Telling.{UpTo, ends_broken, ends_misplaced, goes_on, history_more, never_on, no_history, one_more, split_at}
 use Rattle.th_program.proofs.files.check_joined.Goals as goal
@@ -60,3 +62,61 @@ loop-name-preserved g c =
           (subst (λ (b : List ℕ). GoesOn place count c.in-Some-checked_add.sum b (Ok next)) c.as_bytes.ensures.value goes))));
       same = c.loop-name.invariant.same;
     }
+
+pub loop-name-init : goal.loop-name-init
+loop-name-init g c = record {
+  up = subst (λ (o : Option Picture). UpTo (g.O.Opens.holds c.args.files.now) [] 0 o None) (sym c.new-history.ensures)
+      (no_history (g.O.Opens.holds c.args.files.now));
+  same = refl;
+}
+
+pub returns-in_default-placed : goal.returns-in_default-placed
+returns-in_default-placed g c =
+    let holds = g.O.Opens.holds c.args.files.now in
+    let i = c.loop-name.name-index in
+    let names = c.args.names.now in
+    let name : List ℕ = string_bytes c.name-item.result in
+    let there = c.add_file-said.new.history in
+    let more = c.in-Some.more in
+    let said = c.add_file-said.result in
+    let up = c.loop-name.invariant.up in
+    let place = c.loop-name.place in
+    let count = c.loop-name.count in
+    let e = c.in_default-placed.field-0 in
+    let joins = subst (λ (n : List ℕ). IfOk said (λ s. IsNext (holds n) c.loop-name.history s there)) c.as_str.ensures.value
+    c.add_file-said.ensures.joins in
+    let legal = subst (λ (r : Result Joined CheckFault). IfOk r (λ s. IsNext (holds name) c.loop-name.history s there))
+    (goes_on said more (sym c.in-Some.ensures)) joins in
+    let goes = subst (λ (n : ℕ). GoesOn place count n name (Err e)) c.in-Some-checked_add.ensures.1
+    (subst (λ (b : List ℕ). GoesOn place count c.in-Some-checked_add.sum b (Err e)) c.as_bytes.ensures.value
+    (c.in_default-placed.ensures (place_low up.history.files place up.history.placed))) in
+    let ends = c.tell_broken-in_default-placed.result in
+    let after = g.W.Write.contents c.tell_broken-in_default-placed.new.output.device in
+    let mid = g.W.Write.contents c.loop-name.output.device in
+    let apart : Result Joined CheckFault = Ok Apart in
+    let same = ap (λ (o : Tally g.row.W.Denot). g.W.Write.contents o.device) c.loop-name.invariant.same in
+    let tells = subst (λ (o : Option (List ℕ)). TellsBroken name apart o after ends) same
+    (subst (λ (n : List ℕ). TellsBroken n apart mid after ends) c.as_str-in_default-placed.ensures.value
+    c.tell_broken-in_default-placed.ensures) in
+    ends_misplaced holds (map string_bytes names) (map string_bytes (take i names)) (map string_bytes (drop (i + 1) names)) name
+    (split_at string_bytes names i c.name-item.result c.loop-name-test.true c.name-item.is) count c.loop-name.history there place up
+    _ after more e legal goes ends tells
+
+pub returns-then-write_joined : goal.returns-then-write_joined
+returns-then-write_joined g c =
+    let holds = g.O.Opens.holds c.args.files.now in
+    let names = c.args.names.now in
+    let place = c.loop-name.place in
+    let count = c.loop-name.count in
+    let there = c.loop-name.history in
+    let whole = take_all c.loop-name.name-index names (omega (arith, c.loop-name-test.false)) in
+    let up = subst (λ (l : List (String Global)). UpTo holds (map string_bytes l) count there place) whole c.loop-name.invariant.up in
+    let same = ap (λ (o : Tally g.row.W.Denot). g.W.Write.contents o.device) c.loop-name.invariant.same in
+    let told = c.if-write_joined.ensures refl (place_room up.history.files count place up.history.placed up.counted) in (
+      count,
+      there,
+      place_of place,
+      up.history,
+      subst (λ (o : Option (List ℕ)). Appends o (g.W.Write.contents c.write_joined.new.output.device) (joined_line count (place_of place)))
+          same told,
+    )
