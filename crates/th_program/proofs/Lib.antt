@@ -7,7 +7,7 @@ mod Checking
 mod Telling
 mod Placing
 mod GoingOn
-mod Sources
+mod NamedFiles
 mod Showing
 mod Listing
 mod PartNames

@@ -119,12 +119,14 @@ IsFile holds f =
 abbrev pub StandFrom : (topic : List ℕ) (first before : ℕ) → List PartFile → Type 0
 StandFrom topic first before [] = Unit {0}
 StandFrom topic first before (f ∷ later) =
-    Stands topic first before (before + f.entries) f.name × StandFrom topic first (before + f.entries) later
+    Stands topic first before (before + f.entries) f.name
+    × StandFrom topic first (before + f.entries) later
 
 -- one of the files is named as a part of this topic's history
 abbrev pub IsNamedIn : List ℕ → List PartFile → Type 0
 IsNamedIn topic [] = ⊥
-IsNamedIn topic (f ∷ later) = ((digits : List ℕ) × IsNamed f.name topic digits) ⊎ IsNamedIn topic later
+IsNamedIn topic (f ∷ later) =
+    ((digits : List ℕ) × IsNamed f.name topic digits) ⊎ IsNamedIn topic later
 
 -- where their history stands by the files' names: the topic, and the number of the first event
 abbrev pub IsPlace : List PartFile → Option (List ℕ × ℕ) → Type 0
@@ -245,7 +247,8 @@ abbrev pub EndsEach : (List ℕ → Option (List ℕ)) → List (List (List ℕ)
     → (before after : Option (List ℕ)) → End → Type 0
 EndsEach holds [] so_far before after ends = (after ≡ before) × (ends ≡ so_far)
 EndsEach holds (names ∷ later) so_far before after ends = (mid : Option (List ℕ)) × (said : End)
-    × EndsJoined holds names before mid said × EndsEach holds later (worse so_far said) mid after ends
+    × EndsJoined holds names before mid said
+    × EndsEach holds later (worse so_far said) mid after ends
 
 -- how a run ends that checks the files of each topic in a folder
 pub record EndsFolder (holds : List ℕ → Option (List ℕ)) (before after : Option (List ℕ))

@@ -1,5 +1,5 @@
 -- Names of files that are listed in a text (docs/FORMATS.md, "Files").
-use Rattle.std.specs.Prelude.{ℕ, Bool, false, List, [], ◌∷◌, codes, Option, ◌==◌, ◌||◌, if◌then◌else◌}
+use Rattle.std.specs.Prelude.{ℕ, List, [], ◌∷◌, codes, Option, ◌==◌, if◌then◌else◌}
 use Rattle.std.specs.Str.{bytes_eq}
 
 -- one byte more in front of the first name

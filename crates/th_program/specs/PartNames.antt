@@ -69,7 +69,8 @@ HasRoom None count (Err e) = ⊥
 HasRoom (Some p) count (Err e) = p.first + count ≤ 2 ^ 64 → ⊥
 
 -- how a history goes on with a file, by the names; the first one that is named as a part says where it stands
-abbrev pub GoesOn : Option Place → (before count : ℕ) → List ℕ → Result (Option Place) Misplaced → Type 0
+abbrev pub GoesOn : Option Place → (before count : ℕ) → List ℕ
+    → Result (Option Place) Misplaced → Type 0
 GoesOn place before count path (Ok None) = (place ≡ None) × IsUnnamed path
 GoesOn place before count path (Ok (Some p)) = Agrees place p.topic.now p.first
     × Stands p.topic.now p.first before count path

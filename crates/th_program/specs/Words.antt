@@ -135,7 +135,8 @@ abbrev pub check_line : App
 check_line =
     with_rule
     (with_rule
-    (with_rule (new_app (codes "check")) (record (new_rule (codes "FILE")) { action = Some Append }))
+    (with_rule (new_app (codes "check"))
+    (record (new_rule (codes "FILE")) { action = Some Append }))
     (flag_of (codes "joined")))
     (option_of (codes "files-from"))
 
@@ -274,7 +275,8 @@ AreSources rows (sources.List list) =
 
 -- the files are those of this list
 abbrev pub IsList : Mode → List ℕ → Bool → Type 0
-IsList (CheckFiles (sources.List list) joined) name is_one = (string_bytes list ≡ name) × (joined ≡ is_one)
+IsList (CheckFiles (sources.List list) joined) name is_one =
+    (string_bytes list ≡ name) × (joined ≡ is_one)
 IsList mode name is_one = ⊥
 
 -- the mode that was asked for; one that checks files has those that the words name, and one that serves has what they say

@@ -91,7 +91,8 @@ fn are_digits(bytes: &[u8]) -> bool
 
 // The number that these digits say, where it is below 2^64.
 fn number_of(digits: &[u8]) -> Option<u64>
-    ensures { AllDigits 10 digits.now → 0 < length digits.now → Says (digits_value 10 digits.now) result }
+    ensures { AllDigits 10 digits.now → 0 < length digits.now
+        → Says (digits_value 10 digits.now) result }
 {
     let Ok(text) = str::from_utf8(digits) else {
         return None;
@@ -144,7 +145,8 @@ fn begun<'a>(place: Option<Place<'a>>, before: u64, part: Part<'a>) -> Option<Pl
         × (part.entry.number ≡ Some (p.first + before))
         × (p.first + before < 2 ^ 64)
         × (place.entry ≡ None → 1 ≤ p.first)) }
-    ensures none { result ≡ None → (first : ℕ) → 1 ≤ first → Agrees place.entry part.entry.topic.now first
+    ensures none { result ≡ None → (first : ℕ) → 1 ≤ first
+        → Agrees place.entry part.entry.topic.now first
         → part.entry.number ≢ Some (first + before) }
 {
     let Some(number) = part.number else {

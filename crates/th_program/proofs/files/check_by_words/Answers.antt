@@ -1,7 +1,7 @@
-use Rattle.std.proofs.Common.{inl, map, string_bytes, sym}
+use Rattle.std.proofs.Common.{inl, map, string_bytes}
 use Rattle.th_program.specs.Run.{errors_of}
 use Rattle.th_program.specs.Words.{arguments_by, files_of, is_joined, list_of}
-use Rattle.th_program.proofs.Sources.{list_ends}
+use Rattle.th_program.proofs.NamedFiles.{list_ends}
 use Rattle.th_program.proofs.files.check_by_words.Goals as goal
 
 pub returns-in-Ok-CheckFiles-clause-ends : goal.returns-in-Ok-CheckFiles-clause-ends

@@ -1,11 +1,10 @@
 use Rattle.std.proofs.Common.{Global, String, None, arith, ℕ, ◌+◌, List, [], ◌∷◌, ◌++◌, Option, drop, ap, map, refl, string_bytes, subst, sym, take}
-use Rattle.std.specs.Prelude.{IfOk, IfSome, Ok, Err, Result}
+use Rattle.std.specs.Prelude.{IfOk, Ok, Err, Result}
 use Rattle.th_lines.specs.Tally.{Tally}
 use Rattle.th_check.specs.declared.fault.CheckFault.{CheckFault}
 use Rattle.th_traces.specs.declared.picture.Picture.{Picture}
 use Rattle.th_check.specs.declared.parts.Joined.{Joined}
 use Rattle.th_check.specs.declared.parts.Joined.TheVariants.{Apart}
-use Rattle.th_program.specs.declared.part_names.Place.{Place}
 use Rattle.th_program.specs.PartNames.{GoesOn}
 use Rattle.std.specs.Io.KnownBytes.{Appends}
 use Rattle.std.proofs.lemmas.List.{take_all}

@@ -1,4 +1,4 @@
-use Rattle.std.proofs.Common.{List, Err, Ok, Result, subst, ℕ}
+use Rattle.std.proofs.Common.{List, subst, ℕ}
 use Rattle.std.specs.Str.Parse.{ParsesUnsigned}
 use Rattle.std.proofs.lemmas.Str.{IsUtf8-from_ascii}
 use Rattle.th_program.proofs.PartNames.{digits_are_text, number_is, number_none}

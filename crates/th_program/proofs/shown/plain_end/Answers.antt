@@ -1,7 +1,5 @@
 use Rattle.std.proofs.Common.{◌≡◌, ◌∙◌, arith, sym}
 use Rattle.th_program.proofs.Showing.{plain_more}
-use Rattle.th_program.specs.Shown.{control_at}
-use Rattle.std.proofs.Common.{drop}
 use Rattle.th_program.proofs.shown.plain_end.Goals as goal
 
 pub loop-at-preserved : goal.loop-at-preserved

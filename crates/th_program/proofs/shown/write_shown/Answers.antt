@@ -1,4 +1,4 @@
-use Rattle.std.proofs.Common.{◌∙◌, List, ap, arith, refl, subst, ℕ}
+use Rattle.std.proofs.Common.{◌∙◌, List, arith, refl, subst, ℕ}
 use Rattle.std.specs.Io.KnownBytes.{Appends}
 use Rattle.th_program.proofs.Showing.{shown_ends, shown_next}
 use Rattle.th_program.proofs.shown.write_shown.Goals as goal
