@@ -302,7 +302,9 @@ class Files:
         """The first file was checked before, if any was, and the others have so many entries."""
         before = sum(map(entries_of, self.checked[topic][0]))
         said = run(["check", "--joined", *paths], b"", 5 * PATIENCE).stdout.decode()
-        need(said == f"joined {before + more}\n", f"the files of {topic}, {before + more} entries: {said.strip()}")
+        first = int(paths[0].split(".")[-2])
+        due = f"joined {before + more} {first}-{first + before + more - 1} {topic}\n"
+        need(said == due, f"the files of {topic}, {due.strip()}: {said.strip()}")
         for path in paths[:-1]:
             os.remove(path)
         self.entries += more

@@ -24,6 +24,7 @@ complete -c topichub -n __topichub_at_mode -a help -d 'Print help'
 complete -c topichub -n '__topichub_in; or __topichub_in replay check serve' -s h -l help -d 'Print help'
 complete -c topichub -n __topichub_in -s V -l version -d 'Print the version'
 complete -c topichub -n '__topichub_in check' -l joined -d 'The files are to be one history'
+complete -c topichub -n '__topichub_in check' -l files-from -r -F -d 'The files that a list names'
 complete -c topichub -n '__topichub_in check' -F
 complete -c topichub -n '__topichub_in serve' -l sessions -x -d 'How many connections are served, 1 to 64'
 complete -c topichub -n '__topichub_in serve' -l at-once -x -d 'Any number of connections, so many at a time, 1 to 1024'

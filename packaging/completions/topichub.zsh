@@ -29,6 +29,7 @@ _topichub() {
         check)
             _arguments "$help[@]" \
                 '--joined[the files are to be one history]' \
+                '(*)--files-from=[the files that a list names]:list:_files' \
                 '*:trace:_files' && ret=0
             ;;
         serve)

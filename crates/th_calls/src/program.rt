@@ -36,11 +36,12 @@ pub fn check_with(
     names: &[String],
     output: &mut Counted<File>,
     errors: &mut Counted<File>,
+    input: &mut File,
 ) {
     let _ = rt.open("t.1.trace");
     let _ = check_files(alloc, rt, names, output, errors, true);
     let _ = check_joined(alloc, rt, names, output, errors, true);
-    let _ = check_by_words(alloc, rt, words, output, errors, true);
+    let _ = check_by_words(alloc, rt, words, input, output, errors, true);
 }
 
 pub fn read_words(rt: &HostRuntime, alloc: Global, words: &[&str], given: &[String]) {

@@ -14,7 +14,7 @@ use Rattle.clap.specs.declared.error.kind.ErrorKind.TheVariants as kind
 use Rattle.clap.proofs.OnLiterals.{clap_on_literals}
 use Rattle.th_program.specs.declared.modes.Mode.{Mode}
 use Rattle.th_program.specs.declared.modes.ModeFault.{ModeFault}
-use Rattle.th_program.specs.Words.{AreServe, AsksRightly, IsMode, arguments_by, arguments_of, asked_by, asked_of, command_line, files_of, is_joined}
+use Rattle.th_program.specs.Words.{AreServe, AsksRightly, IsMode, arguments_by, arguments_of, asked_by, asked_of, command_line, files_of, is_joined, list_of}
 
 pub is_plain : is_simple_and_free command_line ≡ true
 is_plain = refl
@@ -31,6 +31,10 @@ check_passes name = refl
 pub no_files : (name : List ℕ) → files_of (arguments_by (name ∷ codes "check" ∷ [])) ≡ None
 unfolding clap_on_literals
 no_files name = refl
+
+pub no_list : (name : List ℕ) → list_of (arguments_by (name ∷ codes "check" ∷ [])) ≡ None
+unfolding clap_on_literals
+no_list name = refl
 
 pub not_joined : (name : List ℕ) → is_joined (arguments_by (name ∷ codes "check" ∷ [])) ≡ false
 unfolding clap_on_literals

@@ -1,5 +1,6 @@
 -- What is read of the words of a mode that serves.
-use Rattle.std.proofs.Common.{◌≡◌, ◌∙◌, ℕ, List, [], Option, Some, None, ap, refl}
+use Rattle.std.proofs.Common.{◌≡◌, ◌∙◌, ℕ, List, [], Option, Some, None, ap, false, refl, sym}
+use Rattle.std.proofs.lemmas.Bool.{false≢true}
 use Rattle.std.specs.Prelude.{is_some}
 use Rattle.std.specs.Borrow.{Bor}
 use Rattle.std.specs.Option.{option_map, unwrap_or}
@@ -13,3 +14,7 @@ pub text_given : (o : Option (Bor (List ℕ))) (d : Bor (List ℕ)) (given : Opt
     option_map (λ s. s.now) o ≡ given → (unwrap_or o d).now ≡ unwrap_or given []
 text_given None d given e h = e ∙ ap (λ (o : Option (List ℕ)). unwrap_or o []) h
 text_given (Some s) d given e h = ap (λ (o : Option (List ℕ)). unwrap_or o []) h
+
+pub none_given : {A : Type 0} (o : Option A) → is_some o ≡ false → o ≡ None
+none_given None e = refl
+none_given (Some a) e = absurd (false≢true (sym e))

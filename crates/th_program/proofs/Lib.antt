@@ -5,4 +5,9 @@ mod Writing
 mod GivenWords
 mod Checking
 mod Telling
+mod Placing
+mod GoingOn
+mod NamedFiles
+mod Showing
+mod Listing
 mod PartNames

@@ -1,27 +1,23 @@
 -- What is so of the names of parts.
 use Rattle.std.proofs.Common.{◌≡◌, ℕ, zero, suc, ◌+◌, ◌-◌, ◌/◌, ◌%◌, ◌<◌, ◌≤◌, List, [], ◌∷◌, ◌++◌, length, drop, set, refl, ap, ◌∙◌, sym, Bool, true, false, arith, append_assoc}
-use Rattle.std.proofs.Common.{All, get_or, ◌^◌, ◌≢◌, Ok, Result, length-append, subst, take}
-use Rattle.std.proofs.Math.Nat.{pow-suc}
+use Rattle.std.proofs.Common.{All, get_or, ◌^◌, ◌≢◌, Err, Ok, Result, inl, inr, length-append, subst, take}
 use Rattle.std.proofs.Math.Seq.{drop-append_seam, take-append_seam}
-use Rattle.std.proofs.lemmas.Int.Digits.{digits_push, digits_value_push}
 use Rattle.std.proofs.lemmas.List.{append_cancel_right, take_rest}
 use Rattle.std.proofs.lemmas.Grind.{common_steps}
 use Rattle.std.proofs.lemmas.Slice.Eq.{bytes_eq-Decides}
-use Rattle.std.proofs.lemmas.Str.{digit_value_digit}
-use Rattle.std.proofs.lemmas.Str.Parse.{IsNumeralModel, numerals_by_value, parse_gives, tells_digits}
-use Rattle.std.specs.Char.{digit_value}
+use Rattle.std.proofs.lemmas.Str.Parse.{IsNumeralModel, digit_from_value, numerals_by_value, parse_digits, tells_digits}
 use Rattle.std.specs.List.{suffix_len}
 use Rattle.std.specs.Str.Parse.{AllDigits, ParsesUnsigned, digits_value}
 use Rattle.std.specs.Prelude.{◌&&◌, codes, nat_lt, nat_le, not}
 use Rattle.std.specs.Str.{IsAscii, bytes_eq}
 use Rattle.std.specs.List.{list_all}
 use Rattle.std.proofs.lemmas.Str.Ascii.{IsAscii-cons, IsAscii-nil, IsAscii-push}
-use Rattle.std.proofs.lemmas.Bool.{eq-eqb, false≢true, ne_eqb}
+use Rattle.std.proofs.lemmas.Bool.{cases_lt, eq-eqb, false≢true, ne_eqb}
 use Rattle.std.proofs.lemmas.List.Elements.{All-get_or}
 use Rattle.std.proofs.lemmas.List.Sums.{suffix_len_is}
 use Rattle.std.proofs.lemmas.List.{drop-set}
 use Rattle.th_model.specs.Names.{is_name, is_name_byte}
-use Rattle.th_program.specs.PartNames.{Follows, IsPartPath, digits_of, file_of, is_no_slash, part_name}
+use Rattle.th_program.specs.PartNames.{IsNamed, digits_of, file_of, is_no_slash}
 
 -- a digit is one
 digit_is_ascii : (n : ℕ) → 48 + n % 10 < 128
@@ -107,108 +103,72 @@ file_alone path none =
     let all : 0 ≡ length path - suffix_len is_no_slash path = omega (arith, count) in
     ap (λ (k : ℕ). drop k path) all
 
--- what so many digits of a number say
-digit_is : (n : ℕ) → digit_value (48 + n % 10) ≡ n % 10
-digit_is n = omega (arith, digit_value_digit (48 + n % 10) (omega arith, omega arith))
-
-pub digits_are : (count n : ℕ) → AllDigits 10 (digits_of count n)
-unfolding digits_of
-digits_are zero n = tt
-digits_are (suc count) n =
-    digits_push 10 (digits_of count (n / 10)) (48 + n % 10) (digits_are count (n / 10)) (omega (arith, digit_is n))
-
-pub digits_count : (count n : ℕ) → length (digits_of count n) ≡ count
-unfolding digits_of
-digits_count zero n = refl
-digits_count (suc count) n =
-    omega (arith, length-append (digits_of count (n / 10)) ((48 + n % 10) ∷ []), digits_count count (n / 10))
-
-digits_say : (count n : ℕ) → n < 10 ^ count → digits_value 10 (digits_of count n) ≡ n
-unfolding digits_of
-digits_say zero n low = omega (arith, low)
-digits_say (suc count) n low =
-    let front : n / 10 < 10 ^ count = omega (arith, low, pow-suc 10 count) in
-    digits_value_push 10 (digits_of count (n / 10)) (48 + n % 10)
-    ∙ omega (arith, digits_say count (n / 10) front, digit_is n)
-
-say : (n : ℕ) → n < 2 ^ 64 → digits_value 10 (digits_of 20 n) ≡ n
-say n low = digits_say 20 n (omega (arith, low))
-
 own : IsNumeralModel (AllDigits 10) (digits_value 10)
 own = numerals_by_value (AllDigits 10) tells_digits
 
--- they are read as that number
-pub number_read : {E : Type 0} (n : ℕ) (r : Result ℕ E) → ParsesUnsigned 64 10 (digits_of 20 n) r → n < 2 ^ 64 → r ≡ Ok n
-number_read {E} n r read low =
-    let value : digits_value 10 (digits_of 20 n) ≡ n = say n low in
-    parse_gives own 64 (digits_of 20 n) r read (digits_are 20 n) (omega (arith, digits_count 20 n))
-    (subst (λ (v : ℕ). v < 2 ^ 64) (sym value) low)
-    ∙ ap (λ (v : ℕ). Ok v) value
+-- digits are text, and are read as their number where there is room for it
+pub digits_are_text : (ds : List ℕ) → AllDigits 10 ds → IsAscii ds
+digits_are_text [] all = IsAscii-nil
+digits_are_text (c ∷ cs) all = IsAscii-cons c cs (omega (arith, digit_from_value c all.0)) (digits_are_text cs all.1)
 
-pub same_number : (n m : ℕ) → n < 2 ^ 64 → m < 2 ^ 64 → digits_of 20 n ≡ digits_of 20 m → n ≡ m
-same_number n m low low' same = sym (say n low) ∙ ap (digits_value 10) same ∙ say m low'
+pub number_is : {E : Type 0} (ds : List ℕ) (n : ℕ) (r : Result ℕ E) → r ≡ Ok n → ParsesUnsigned 64 10 ds r → AllDigits 10 ds
+    → digits_value 10 ds ≡ n
+number_is {E} ds n r is read all =
+    sym (parse_digits own {E = E} 64 ds (Ok n) (subst (λ (x : Result ℕ E). ParsesUnsigned 64 10 ds x) is read) all).1
+
+pub number_none : {E : Type 0} (ds : List ℕ) (e : E) (r : Result ℕ E) → r ≡ Err e → ParsesUnsigned 64 10 ds r → AllDigits 10 ds
+    → 0 < length ds → 2 ^ 64 ≤ digits_value 10 ds
+number_none {E} ds e r is read all some = elim (cases_lt (digits_value 10 ds) (2 ^ 64)) [
+  | inl low ↦ absurd (parse_digits own {E = E} 64 ds (Err e) (subst (λ (x : Result ℕ E). ParsesUnsigned 64 10 ds x) is read) all (some, low))
+  | inr high ↦ high
+]
 
 -- a part's name in its pieces
-named : (t : List ℕ) (n : ℕ) → part_name t n ≡ (t ++ 46 ∷ digits_of 20 n) ++ codes ".trace"
-named t n = sym (append_assoc t (46 ∷ digits_of 20 n) (codes ".trace"))
+named : (t d : List ℕ) → t ++ 46 ∷ (d ++ codes ".trace") ≡ (t ++ 46 ∷ d) ++ codes ".trace"
+named t d = sym (append_assoc t (46 ∷ d) (codes ".trace"))
 
-pub front_of : (name t : List ℕ) (n : ℕ) (front : List ℕ) → name ≡ part_name t n → name ≡ front ++ codes ".trace"
-    → front ≡ t ++ 46 ∷ digits_of 20 n
-front_of name t n front is ends =
-    append_cancel_right front (t ++ 46 ∷ digits_of 20 n) (codes ".trace") (sym ends ∙ is ∙ named t n)
+pub front_of : (name t d front : List ℕ) → name ≡ t ++ 46 ∷ (d ++ codes ".trace") → name ≡ front ++ codes ".trace"
+    → front ≡ t ++ 46 ∷ d
+front_of name t d front is ends = append_cancel_right front (t ++ 46 ∷ d) (codes ".trace") (sym ends ∙ is ∙ named t d)
 
-pub never_without : (name t : List ℕ) (n : ℕ) → name ≡ part_name t n → ((front : List ℕ) → name ≢ front ++ codes ".trace") → ⊥
-never_without name t n is none = none (t ++ 46 ∷ digits_of 20 n) (is ∙ named t n)
+pub never_without : (name t d : List ℕ) → name ≡ t ++ 46 ∷ (d ++ codes ".trace")
+    → ((front : List ℕ) → name ≢ front ++ codes ".trace") → ⊥
+never_without name t d is none = none (t ++ 46 ∷ d) (is ∙ named t d)
 
-pub front_is_long : (front t : List ℕ) (n : ℕ) → front ≡ t ++ 46 ∷ digits_of 20 n → length front ≡ length t + 21
-front_is_long front t n is =
-    ap length is ∙ length-append t (46 ∷ digits_of 20 n) ∙ omega (arith, digits_count 20 n)
+pub front_is_long : (front t d : List ℕ) → length d ≡ 20 → front ≡ t ++ 46 ∷ d → length front ≡ length t + 21
+front_is_long front t d twenty is = ap length is ∙ length-append t (46 ∷ d) ∙ omega (arith, twenty)
 
-pieces : (front t : List ℕ) (n : ℕ) → front ≡ t ++ 46 ∷ digits_of 20 n
-    → (front ≡ (t ++ 46 ∷ []) ++ digits_of 20 n) × (length front - 20 ≡ length (t ++ 46 ∷ []))
-pieces front t n is = (
-  is ∙ sym (append_assoc t (46 ∷ []) (digits_of 20 n)),
-  omega (arith, front_is_long front t n is, length-append t (46 ∷ [])),
+pieces : (front t d : List ℕ) → length d ≡ 20 → front ≡ t ++ 46 ∷ d
+    → (front ≡ (t ++ 46 ∷ []) ++ d) × (length front - 20 ≡ length (t ++ 46 ∷ []))
+pieces front t d twenty is = (
+  is ∙ sym (append_assoc t (46 ∷ []) d),
+  omega (arith, front_is_long front t d twenty is, length-append t (46 ∷ [])),
 )
 
-pub digits_behind : (front t : List ℕ) (n : ℕ) → front ≡ t ++ 46 ∷ digits_of 20 n → drop (length front - 20) front ≡ digits_of 20 n
-digits_behind front t n is =
-    let (whole, at) = pieces front t n is in
-    ap (λ (k : ℕ). drop k front) at ∙ ap (drop (length (t ++ 46 ∷ []))) whole
-    ∙ drop-append_seam (t ++ 46 ∷ []) (digits_of 20 n)
+pub digits_behind : (front t d : List ℕ) → length d ≡ 20 → front ≡ t ++ 46 ∷ d → drop (length front - 20) front ≡ d
+digits_behind front t d twenty is =
+    let (whole, at) = pieces front t d twenty is in
+    ap (λ (k : ℕ). drop k front) at ∙ ap (drop (length (t ++ 46 ∷ []))) whole ∙ drop-append_seam (t ++ 46 ∷ []) d
 
-pub topic_before : (front t : List ℕ) (n : ℕ) → front ≡ t ++ 46 ∷ digits_of 20 n → take (length front - 20) front ≡ t ++ 46 ∷ []
-topic_before front t n is =
-    let (whole, at) = pieces front t n is in
-    ap (λ (k : ℕ). take k front) at ∙ ap (take (length (t ++ 46 ∷ []))) whole
-    ∙ take-append_seam (t ++ 46 ∷ []) (digits_of 20 n)
-
--- a name is that of one part alone
-pub same_part : (path t u : List ℕ) (n m : ℕ) → IsPartPath path t n → IsPartPath path u m → (t ≡ u) × (n ≡ m)
-same_part path t u n m one other =
-    let name = file_of path in
-    let front : List ℕ = t ++ 46 ∷ digits_of 20 n in
-    let is : front ≡ u ++ 46 ∷ digits_of 20 m = front_of name u m front other.0 (one.0 ∙ named t n) in
-    let digits : digits_of 20 n ≡ digits_of 20 m = sym (digits_behind front t n refl) ∙ digits_behind front u m is in
-    let topic : t ++ 46 ∷ [] ≡ u ++ 46 ∷ [] = sym (topic_before front t n refl) ∙ topic_before front u m is in
-    (append_cancel_right t u (46 ∷ []) topic, same_number n m one.1 other.1 digits)
-
--- the two parts are known
-pub follows_by : (before after t u : List ℕ) (n m entries : ℕ) → IsPartPath before t n → IsPartPath after u m → u ≡ t
-    → m ≡ n + entries → Follows before entries after
-follows_by before after t u n m entries one other topic number = record {
-  on = λ t' u' n' m' one' other'.
-      let a = same_part before t' t n' n one' one in
-      let b = same_part after u' u m' m other' other in
-      (b.0 ∙ topic ∙ sym a.0, b.1 ∙ number ∙ ap (λ (k : ℕ). k + entries) (sym a.1));
-}
+pub topic_before : (front t d : List ℕ) → length d ≡ 20 → front ≡ t ++ 46 ∷ d → take (length front - 20) front ≡ t ++ 46 ∷ []
+topic_before front t d twenty is =
+    let (whole, at) = pieces front t d twenty is in
+    ap (λ (k : ℕ). take k front) at ∙ ap (take (length (t ++ 46 ∷ []))) whole ∙ take-append_seam (t ++ 46 ∷ []) d
 
 -- a name of its pieces
-pub whole : (name front t : List ℕ) (n : ℕ) (head digits : List ℕ) → name ≡ front ++ codes ".trace" → front ≡ head ++ digits
-    → head ≡ t ++ 46 ∷ [] → digits ≡ digits_of 20 n → name ≡ part_name t n
-whole name front t n head digits ends parts dot is =
+pub whole : (name front t head digits : List ℕ) → name ≡ front ++ codes ".trace" → front ≡ head ++ digits
+    → head ≡ t ++ 46 ∷ [] → name ≡ t ++ 46 ∷ (digits ++ codes ".trace")
+whole name front t head digits ends parts dot =
     ends ∙ ap (λ (l : List ℕ). l ++ codes ".trace") (parts ∙ ap (λ (l : List ℕ). l ++ digits) dot
-    ∙ ap (λ (l : List ℕ). (t ++ 46 ∷ []) ++ l) is ∙ append_assoc t (46 ∷ []) (digits_of 20 n)) ∙ sym (named t n)
+    ∙ append_assoc t (46 ∷ []) digits) ∙ sym (named t digits)
 
 pub same_topic : (u t : List ℕ) (r : Bool) → r ≡ bytes_eq u t → r ≡ true → u ≡ t
 same_topic u t r is same = grind (arith, common_steps, bytes_eq-Decides u t)
+
+-- a name is that of one part alone
+pub same_name : (path t u d e : List ℕ) → IsNamed path t d → IsNamed path u e → (t ≡ u) × (d ≡ e)
+same_name path t u d e one other =
+    let front : List ℕ = t ++ 46 ∷ d in
+    let is : front ≡ u ++ 46 ∷ e = front_of (file_of path) u e front other.is (one.is ∙ named t d) in
+    let topic : t ++ 46 ∷ [] ≡ u ++ 46 ∷ [] = sym (topic_before front t d one.twenty refl) ∙ topic_before front u e other.twenty is in
+    (append_cancel_right t u (46 ∷ []) topic, sym (digits_behind front t d one.twenty refl) ∙ digits_behind front u e other.twenty is)

@@ -1,5 +1,5 @@
 -- What is told of files that are checked one after the other.
-use Rattle.std.proofs.Common.{inl, inr, length-append, ◌≡◌, ◌∙◌, ℕ, ◌+◌, ◌<◌, Bool, false, List, [], ◌∷◌, ◌++◌, length, take, drop, get_or, map, IfOk, Result, Err, refl, sym, ap, subst, append-nil, append_assoc, arith, Option, Some, None, Ok}
+use Rattle.std.proofs.Common.{inl, inr, ◌≡◌, ◌∙◌, ℕ, ◌+◌, ◌<◌, Bool, false, List, [], ◌∷◌, ◌++◌, length, take, drop, get_or, map, IfOk, Result, Err, refl, sym, ap, subst, append-nil, append_assoc, arith, Option, Some, None, Ok}
 use Rattle.std.specs.Io.KnownBytes.{Appends}
 use Rattle.std.specs.List.{AllByRecursion}
 use Rattle.std.proofs.KnownBytes.{Appends-trans}
@@ -14,10 +14,13 @@ use Rattle.th_check.specs.declared.parts.Joined.{Joined}
 use Rattle.th_check.specs.declared.parts.Joined.TheVariants.{Judged, Apart}
 use Rattle.th_check.specs.declared.verdict.Verdict.TheVariants as verdict
 use Rattle.th_program.specs.declared.end.End.{End}
-use Rattle.th_program.specs.Files.{AreOneHistory, EachIsTold, EndsJoined, IsBrokenBy, AreNumbered, Breaks, IsFile, IsMisnumbered, IsNext, IsOutcome, IsTextOf, IsToldBy, Outcome, PartFile, TellsBroken, Told, broken_line, end_by, end_of, entries_of, fault_line, file_line, lines_by, worse, worst}
-use Rattle.th_program.specs.PartNames.{Follows, part_end}
+use Rattle.th_program.specs.declared.part_names.Misplaced.{Misplaced}
+use Rattle.th_program.specs.declared.part_names.Place.{Place}
+use Rattle.th_program.specs.Files.{AreOneHistory, EachIsTold, EndsEach, EndsFolder, EndsJoined, IsBrokenBy, Breaks, IsFile, IsMisplaced, IsNext, IsOutcome, IsTextOf, IsToldBy, Outcome, PartFile, TellsBroken, Told, broken_line, end_by, end_of, entries_in, entries_of, fault_line, file_line, lines_by, place_of, worse, worst}
+use Rattle.th_program.specs.PartNames.{GoesOn}
 use Rattle.th_program.specs.Run.{Errors, IsSaid}
 use Rattle.th_program.proofs.Hearing.{said_more}
+use Rattle.th_program.proofs.Placing.{place_apart, place_more}
 
 abbrev IsWrite : End → Type 0
 IsWrite End.Write = Unit {0}
@@ -68,62 +71,21 @@ added_more here mid there [] text n m a adds =
 added_more here mid there (t ∷ ts) text n m (next, one, rest, first, later, counted) adds =
     (next, one, rest + m, first, added_more next mid there ts text rest m later adds, omega (arith, counted))
 
--- the last file's name and entries
-abbrev pub last_of : List ℕ × ℕ → List PartFile → List ℕ × ℕ
-last_of so_far [] = so_far
-last_of so_far (f ∷ later) = last_of (f.name, f.entries) later
+entries_more : (files : List PartFile) (f : PartFile) → entries_in (files ++ f ∷ []) ≡ entries_in files + f.entries
+entries_more [] f = omega arith
+entries_more (g ∷ later) f = omega (arith, entries_more later f)
 
-last_more : (so_far : List ℕ × ℕ) (files : List PartFile) (f : PartFile) → last_of so_far (files ++ f ∷ []) ≡ (f.name, f.entries)
-last_more so_far [] f = refl
-last_more so_far (g ∷ later) f = last_more (g.name, g.entries) later f
-
-numbered_more : (so_far : List ℕ × ℕ) (files : List PartFile) (f : PartFile) → AreNumbered files
-    → Follows (last_of so_far files).0 (last_of so_far files).1 f.name → AreNumbered (files ++ f ∷ [])
-numbered_more so_far [] f are follows = tt
-numbered_more so_far (g ∷ []) f are follows = (follows, tt)
-numbered_more so_far (g ∷ h ∷ later) f are follows =
-    (are.0, numbered_more (g.name, g.entries) (h ∷ later) f are.1 follows)
-
-split_last : (so_far : List ℕ × ℕ) (g : PartFile) (later : List PartFile) → (earlier : List PartFile) × (last : PartFile)
-    × (g ∷ later ≡ earlier ++ last ∷ []) × (last_of so_far (g ∷ later) ≡ (last.name, last.entries))
-split_last so_far g [] = ([], g, refl, refl)
-split_last so_far g (h ∷ more) =
-    let found = split_last (g.name, g.entries) h more in
-    (g ∷ found.0, found.1, ap (λ (l : List PartFile). g ∷ l) found.2, found.3)
-
--- nothing is against the first file
-first_follows : (entries : ℕ) (name : List ℕ) → Follows [] entries name
-first_follows entries name = record {
-  on = λ topic other number next is later. absurd (omega (arith, ap length is.0, length-append topic (part_end number)));
-}
-
-misnumbered : (held : Option (List ℕ)) (files : List PartFile) (name : List ℕ) (here there : Option Picture) (m : ℕ)
-    → (Follows (last_of ([], 0) files).0 (last_of ([], 0) files).1 name → ⊥)
-    → IsNext held here (Judged (verdict.Legal m)) there → IsMisnumbered held files name here
-misnumbered held [] name here there m apart next = absurd (apart (first_follows 0 name))
-misnumbered held (g ∷ later) name here there m apart next =
-    let found = split_last ([], 0) g later in
-    record {
-      earlier = found.0;
-      last = found.1;
-      are = found.2;
-      apart = subst (λ (p : List ℕ × ℕ). Follows p.0 p.1 name → ⊥) found.3 apart;
-      count = m;
-      there = there;
-      next = next;
-    }
-
--- the history up to a file of this name and so many entries
+-- the history up to a file
 pub record UpTo (holds : List ℕ → Option (List ℕ)) (names : List (List ℕ)) (count : ℕ) (there : Option Picture)
-    (before : List ℕ) (entries : ℕ) : Type 0 where
-  pub history : AreOneHistory holds names count there
-  pub last : last_of ([], 0) history.files ≡ (before, entries)
+    (place : Option Place) : Type 0 where
+  pub history : AreOneHistory holds names count there (place_of place)
+  pub counted : entries_in history.files ≡ count
 
 module _ (holds : List ℕ → Option (List ℕ)) (names : List (List ℕ)) (name : List ℕ) where
-  pub history_more : (n m : ℕ) (mid there : Option Picture) (before : List ℕ) (entries : ℕ) → UpTo holds names n mid before entries
-      → IsNext (holds name) mid (Judged (verdict.Legal m)) there → Follows before entries name
-      → UpTo holds (names ++ name ∷ []) (n + m) there name m
-  history_more n m mid there before entries up (left, j) follows =
+  pub history_more : (n m : ℕ) (mid there : Option Picture) (place next : Option Place) → UpTo holds names n mid place
+      → IsNext (holds name) mid (Judged (verdict.Legal m)) there → GoesOn place n (n + m) name (Ok next)
+      → UpTo holds (names ++ name ∷ []) (n + m) there next
+  history_more n m mid there place next up (left, j) goes =
       let h = up.history in
       let lines : List Line = lines_of (j.input ++ []) in
       let adds : Adds mid lines m there = j.so [] (λ e. refl) in
@@ -144,10 +106,9 @@ module _ (holds : List ℕ → Option (List ℕ)) (names : List (List ℕ)) (nam
           added = subst (λ (l : List (List Line)). AreAdded None l (n + m) there)
               (sym (map-more (λ (f : PartFile). f.lines) h.files file))
               (added_more None mid there (map (λ (f : PartFile). f.lines) h.files) lines n m h.added adds);
-          numbered = numbered_more ([], 0) h.files file h.numbered
-              (subst (λ (p : List ℕ × ℕ). Follows p.0 p.1 name) (sym up.last) follows);
+          placed = place_more h.files file n up.counted place next h.placed goes;
         };
-        last = last_more ([], 0) h.files file;
+        counted = entries_more h.files file ∙ ap (λ (k : ℕ). k + m) up.counted;
       }
 
 -- the pieces of a list around one of its elements
@@ -175,9 +136,9 @@ never_on said none n e = absurd (none-some n (sym none ∙ ap entries_of e))
 
 -- how a history ends that a file breaks
 module _ (holds : List ℕ → Option (List ℕ)) (names earlier later : List (List ℕ)) (name : List ℕ)
-    (parts : names ≡ earlier ++ name ∷ later) (count : ℕ) (mid there : Option Picture) (so_far : AreOneHistory holds earlier count mid)
-    (before after : Option (List ℕ)) where
-  breaks : (said : Joined) → Breaks (holds name) so_far.files name mid said → Appends before after (broken_line name said)
+    (parts : names ≡ earlier ++ name ∷ later) (count : ℕ) (mid there : Option Picture) (place : Option Place)
+    (up : UpTo holds earlier count mid place) (before after : Option (List ℕ)) where
+  breaks : (said : Joined) → Breaks (holds name) up.history.files name mid said → Appends before after (broken_line name said)
       → IsBrokenBy holds names said before after
   breaks said why told = record {
     earlier = earlier;
@@ -186,7 +147,8 @@ module _ (holds : List ℕ → Option (List ℕ)) (names earlier later : List (L
     parts = parts;
     count = count;
     there = mid;
-    so_far = so_far;
+    place = place_of place;
+    so_far = up.history;
     breaks = why;
     told = told;
   }
@@ -229,15 +191,20 @@ module _ (holds : List ℕ → Option (List ℕ)) (names earlier later : List (L
       (λ no. let t = tells no in
       subst (λ (e : End). EndsJoined holds names before after e) (sym t.0) (by_said said next never t.1))
 
-  pub ends_misnumbered : (prior : List ℕ) (entries m : ℕ) → last_of ([], 0) so_far.files ≡ (prior, entries)
-      → IsNext (holds name) mid (Judged (verdict.Legal m)) there → (Follows prior entries name → ⊥)
+  pub ends_misplaced : (m : ℕ) (e : Misplaced) → IsNext (holds name) mid (Judged (verdict.Legal m)) there
+      → GoesOn place count (count + m) name (Err e)
       → (ends : End) → TellsBroken name (Ok Apart) before after ends → EndsJoined holds names before after ends
-  ends_misnumbered prior entries m last next apart ends tells = by_end ends
+  ends_misplaced m e next goes ends tells = by_end ends
       (λ write. subst (λ (e : End). EndsJoined holds names before after e) (sym write) tt)
       (λ no. let t = tells no in
-      let no_next = subst (λ (p : List ℕ × ℕ). Follows p.0 p.1 name → ⊥) (sym last) apart in
-      subst (λ (e : End). EndsJoined holds names before after e) (sym t.0)
-      (breaks Apart (inr (misnumbered (holds name) so_far.files name mid there m no_next next)) t.1))
+      let file : PartFile = record { name = name; lines = []; entries = m } in
+      let misplaced : IsMisplaced (holds name) up.history.files name mid = record {
+        count = m;
+        there = there;
+        next = next;
+        apart = place_apart up.history.files file count up.counted place e up.history.placed goes;
+      } in
+      subst (λ (e : End). EndsJoined holds names before after e) (sym t.0) (breaks Apart (inr misplaced) t.1))
 
 -- before the first file
 pub nothing_told : (holds : List ℕ → Option (List ℕ)) (before : Option (List ℕ)) (people : Bool) (a : Errors) →
@@ -255,8 +222,31 @@ nothing_told holds before people a same = record {
     nothing_said None = tt
     nothing_said (Some l) = sym (append-nil l)
 
-pub no_history : (holds : List ℕ → Option (List ℕ)) → UpTo holds [] 0 None [] 0
+pub no_history : (holds : List ℕ → Option (List ℕ)) → UpTo holds [] 0 None None
 no_history holds = record {
-  history = record { files = []; named = refl; are = tt; added = (refl, refl); numbered = tt };
-  last = refl;
+  history = record { files = []; named = refl; are = tt; added = (refl, refl); placed = tt };
+  counted = refl;
+}
+
+-- histories that are checked one after the other
+each_history : (holds : List ℕ → Option (List ℕ)) (all : List (List (List ℕ))) (names : List (List ℕ)) (begun so_far said : End)
+    (before mid after : Option (List ℕ)) → EndsEach holds all begun before mid so_far → EndsJoined holds names mid after said
+    → EndsEach holds (all ++ names ∷ []) begun before after (worse so_far said)
+each_history holds [] names begun so_far said before mid after each one = (
+  after,
+  said,
+  subst (λ (o : Option (List ℕ)). EndsJoined holds names o after said) each.0 one,
+  (refl, ap (λ (e : End). worse e said) each.1),
+)
+each_history holds (first ∷ later) names begun so_far said before mid after (now, told, joined, rest) one =
+    (now, told, joined, each_history holds later names (worse begun told) so_far said now mid after rest one)
+
+pub folder_begins : (holds : List ℕ → Option (List ℕ)) (before : Option (List ℕ)) → EndsFolder holds before before End.Done
+folder_begins holds before = record { topics = []; each = (refl, refl) }
+
+pub folder_more : (holds : List ℕ → Option (List ℕ)) (names : List (List ℕ)) (so_far said : End) (before mid after : Option (List ℕ))
+    → EndsFolder holds before mid so_far → EndsJoined holds names mid after said → EndsFolder holds before after (worse so_far said)
+folder_more holds names so_far said before mid after folder one = record {
+  topics = folder.topics ++ names ∷ [];
+  each = each_history holds folder.topics names End.Done so_far said before mid after folder.each one;
 }

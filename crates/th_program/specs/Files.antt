@@ -1,8 +1,9 @@
 -- What a run does that checks files.
-use Rattle.std.specs.Prelude.{◌≡◌, ◌≢◌, ◌⊎◌, ◌==◌, ℕ, Bool, false, true, IsSome, List, [], ◌∷◌, ◌++◌, map, codes, Option, Some, None, Result, Ok, Err, if◌then◌else◌}
+use Rattle.std.specs.Prelude.{◌≡◌, ◌≢◌, ◌⊎◌, ◌==◌, ◌+◌, ◌≤◌, ℕ, zero, suc, Bool, false, true, IfSome, IsSome, List, [], ◌∷◌, ◌++◌, map, codes, Option, Some, None, Result, Ok, Err, if◌then◌else◌}
 use Rattle.std.specs.Fmt.{decimal}
 use Rattle.std.specs.Io.KnownBytes.{Appends, Consumes, IsAtEnd}
 use Rattle.std.specs.List.{AllByRecursion}
+use Rattle.std.specs.Option.{option_map}
 use Rattle.clap.specs.Words.{fault_of}
 use Rattle.th_lines.specs.Lines.{Line, lines_of}
 use Rattle.th_traces.specs.declared.picture.Picture.{Picture}
@@ -16,10 +17,13 @@ use Rattle.th_check.specs.declared.verdict.Verdict.{Verdict}
 use Rattle.th_check.specs.declared.verdict.Verdict.TheVariants as verdict
 use Rattle.th_program.specs.declared.end.End.{End}
 use Rattle.th_program.specs.declared.end.End.TheVariants as end
-use Rattle.th_program.specs.PartNames.{Follows}
+use Rattle.th_program.specs.declared.part_names.Place.{Place}
+use Rattle.th_program.specs.PartNames.{IsNamed, IsUnnamed, Stands}
 use Rattle.th_program.specs.Run.{Errors, IsSaid, verdict_line}
+use Rattle.th_program.specs.Shown.{shown}
 use Rattle.th_program.specs.Status.{status_of}
-use Rattle.th_program.specs.Words.{arguments_by, asked_by, command_line, files_of, is_joined}
+use Rattle.th_program.specs.Listed.{held_by, listed}
+use Rattle.th_program.specs.Words.{HasFiles, arguments_by, asked_by, command_line, files_of, is_joined, list_of}
 use Rattle.th_program.specs.declared.modes.Asked.{Asked}
 
 -- what came of a file: the verdict on it, or why there is none
@@ -65,12 +69,13 @@ fault_word fault.Short = codes "no memory"
 
 -- the line on standard output that tells of a file, and the one on standard error
 abbrev pub file_line : Told → List ℕ
-file_line (name, Ok said) = name ++ (codes ": " ++ verdict_line said)
+file_line (name, Ok said) = shown name ++ (codes ": " ++ verdict_line said)
 file_line (name, Err why) = []
 
 abbrev pub fault_line : Told → List ℕ
 fault_line (name, Ok said) = []
-fault_line (name, Err why) = codes "topichub: " ++ (name ++ (codes ": " ++ (fault_word why ++ 10 ∷ [])))
+fault_line (name, Err why) =
+    codes "topichub: " ++ (shown name ++ (codes ": " ++ (fault_word why ++ 10 ∷ [])))
 
 -- the lines of all files, in their order
 abbrev pub lines_by : (Told → List ℕ) → List Told → List ℕ
@@ -109,28 +114,58 @@ IsFile holds f =
     IsTextOf (holds f.name) f.lines
     × ((part : Part) × IsPart f.lines part × (part.count ≡ f.entries))
 
--- by their names each of the files follows the one before it
-abbrev pub AreNumbered : List PartFile → Type 0
-AreNumbered [] = Unit {0}
-AreNumbered (f ∷ []) = Unit {0}
-AreNumbered (f ∷ g ∷ later) = Follows f.name f.entries g.name × AreNumbered (g ∷ later)
+-- by their names the files may stand one behind the other, from so many entries on in a history that begins with the
+-- event `first` of the topic
+abbrev pub StandFrom : (topic : List ℕ) (first before : ℕ) → List PartFile → Type 0
+StandFrom topic first before [] = Unit {0}
+StandFrom topic first before (f ∷ later) =
+    Stands topic first before (before + f.entries) f.name
+    × StandFrom topic first (before + f.entries) later
 
--- These files are one history with so many entries, which ends there.
+-- one of the files is named as a part of this topic's history
+abbrev pub IsNamedIn : List ℕ → List PartFile → Type 0
+IsNamedIn topic [] = ⊥
+IsNamedIn topic (f ∷ later) =
+    ((digits : List ℕ) × IsNamed f.name topic digits) ⊎ IsNamedIn topic later
+
+-- where their history stands by the files' names: the topic, and the number of the first event
+abbrev pub IsPlace : List PartFile → Option (List ℕ × ℕ) → Type 0
+IsPlace files None = AllByRecursion (λ f. IsUnnamed f.name) files
+IsPlace files (Some (topic, first)) =
+    (1 ≤ first) × StandFrom topic first 0 files × IsNamedIn topic files
+
+-- how many entries they have together
+abbrev pub entries_in : List PartFile → ℕ
+entries_in [] = 0
+entries_in (f ∷ later) = f.entries + entries_in later
+
+-- These files are one history with so many entries, which ends there, and stands at this place by their names.
 pub record AreOneHistory (holds : List ℕ → Option (List ℕ)) (names : List (List ℕ)) (count : ℕ)
-    (there : Option Picture) : Type 0 where
+    (there : Option Picture) (place : Option (List ℕ × ℕ)) : Type 0 where
   pub files : List PartFile
   pub named : map (λ f. f.name) files ≡ names
   pub are : AllByRecursion (IsFile holds) files
   pub added : AreAdded None (map (λ f. f.lines) files) count there
-  pub numbered : AreNumbered files
+  pub placed : IsPlace files place
+
+-- the same of what the code has of it
+abbrev pub place_of : Option Place → Option (List ℕ × ℕ)
+place_of = option_map (λ p. (p.topic.now, p.first))
+
+-- what is told of a history's place: from which event to which, and of which topic
+abbrev pub place_told : Option (List ℕ × ℕ) → ℕ → List ℕ
+place_told None count = []
+place_told (Some (topic, first)) zero = []
+place_told (Some (topic, first)) (suc more) =
+    32 ∷ (decimal first ++ 45 ∷ (decimal (first + more) ++ 32 ∷ shown topic))
 
 -- the line that tells of a history, and the one that tells which file breaks it
-abbrev pub joined_line : ℕ → List ℕ
-joined_line count = codes "joined " ++ (decimal count ++ 10 ∷ [])
+abbrev pub joined_line : ℕ → Option (List ℕ × ℕ) → List ℕ
+joined_line count place = codes "joined " ++ (decimal count ++ (place_told place count ++ 10 ∷ []))
 
 abbrev pub broken_line : List ℕ → Joined → List ℕ
 broken_line name (Judged said) = file_line (name, Ok said)
-broken_line name Apart = codes "gap " ++ (name ++ 10 ∷ [])
+broken_line name Apart = codes "gap " ++ (shown name ++ 10 ∷ [])
 
 -- the file is judged as the next part of a history, by what is known of its bytes
 abbrev pub IsNext : Option (List ℕ) → Option Picture → Joined → Option Picture → Type 0
@@ -143,22 +178,21 @@ entries_of (Ok (Judged said)) = None
 entries_of (Ok Apart) = None
 entries_of (Err why) = None
 
--- the file is legal and begins where the history ends, and by its name it does not follow the last file
-pub record IsMisnumbered (held : Option (List ℕ)) (files : List PartFile) (name : List ℕ)
+-- The file is legal and begins where the history of these files ends, and by its name it stands elsewhere, wherever that
+-- history stands by theirs.
+pub record IsMisplaced (held : Option (List ℕ)) (files : List PartFile) (name : List ℕ)
     (here : Option Picture) : Type 0 where
-  pub earlier : List PartFile
-  pub last : PartFile
-  pub are : files ≡ earlier ++ last ∷ []
-  pub apart : Follows last.name last.entries name → ⊥
   pub count : ℕ
   pub there : Option Picture
   pub next : IsNext held here (Judged (verdict.Legal count)) there
+  pub apart : (topic : List ℕ) (first : ℕ) → 1 ≤ first → StandFrom topic first 0 files
+      → Stands topic first (entries_in files) (entries_in files + count) name → ⊥
 
 -- why this is said of a file that does not go on with the history of these files
 abbrev pub Breaks : Option (List ℕ) → List PartFile → (name : List ℕ) → (here : Option Picture)
     → Joined → Type 0
 Breaks held files name here (Judged said) = IsNext held here (Judged said) here
-Breaks held files name here Apart = IsNext held here Apart here ⊎ IsMisnumbered held files name here
+Breaks held files name here Apart = IsNext held here Apart here ⊎ IsMisplaced held files name here
 
 -- The files before this one are one history, and it does not go on with it: this is said of it.
 pub record IsBrokenBy (holds : List ℕ → Option (List ℕ)) (names : List (List ℕ)) (said : Joined)
@@ -169,7 +203,8 @@ pub record IsBrokenBy (holds : List ℕ → Option (List ℕ)) (names : List (Li
   pub parts : names ≡ earlier ++ name ∷ later
   pub count : ℕ
   pub there : Option Picture
-  pub so_far : AreOneHistory holds earlier count there
+  pub place : Option (List ℕ × ℕ)
+  pub so_far : AreOneHistory holds earlier count there place
   pub breaks : Breaks (holds name) so_far.files name there said
   pub told : Appends before after (broken_line name said)
 
@@ -177,7 +212,8 @@ pub record IsBrokenBy (holds : List ℕ → Option (List ℕ)) (names : List (Li
 abbrev pub EndsJoined : (List ℕ → Option (List ℕ)) → List (List ℕ) → (before after : Option (List ℕ))
     → End → Type 0
 EndsJoined holds names before after end.Done = (count : ℕ) × (there : Option Picture)
-    × AreOneHistory holds names count there × Appends before after (joined_line count)
+    × (place : Option (List ℕ × ℕ)) × AreOneHistory holds names count there place
+    × Appends before after (joined_line count place)
 EndsJoined holds names before after end.Illegal =
     (number : ℕ) × IsBrokenBy holds names (Judged (verdict.Illegal number)) before after
 EndsJoined holds names before after end.Bad =
@@ -206,24 +242,80 @@ abbrev pub TellsBroken : List ℕ → Result Joined CheckFault → (before after
 TellsBroken name said before after ends =
     ends ≢ end.Write → (ends ≡ end_by said) × IsToldBy name said before after
 
+-- each of these lists of files is one history, or is told not to be; the run ends by the worst of it
+abbrev pub EndsEach : (List ℕ → Option (List ℕ)) → List (List (List ℕ)) → (so_far : End)
+    → (before after : Option (List ℕ)) → End → Type 0
+EndsEach holds [] so_far before after ends = (after ≡ before) × (ends ≡ so_far)
+EndsEach holds (names ∷ later) so_far before after ends = (mid : Option (List ℕ)) × (said : End)
+    × EndsJoined holds names before mid said
+    × EndsEach holds later (worse so_far said) mid after ends
+
+-- how a run ends that checks the files of each topic in a folder
+pub record EndsFolder (holds : List ℕ → Option (List ℕ)) (before after : Option (List ℕ))
+    (ends : End) : Type 0 where
+  pub topics : List (List (List ℕ))
+  pub each : EndsEach holds topics end.Done before after ends
+
+-- how a run ends that could not read a folder, or found none there
+abbrev pub EndsUnread : End → (before after : Option (List ℕ)) → Type 0
+EndsUnread end.Read before after = after ≡ before
+EndsUnread end.Short before after = after ≡ before
+EndsUnread end.Usage before after = after ≡ before
+EndsUnread so before after = ⊥
+
+-- how a run ends that checks histories: one of these files, or of a folder that stands alone one of each topic
+abbrev pub EndsHistories : (List ℕ → Option (List ℕ)) → List (List ℕ)
+    → (before after : Option (List ℕ)) → End → Type 0
+EndsHistories holds names before after ends = EndsJoined holds names before after ends
+    ⊎ ((folder : List ℕ) × (names ≡ folder ∷ []) × (holds folder ≡ None)
+    × (ends ≢ end.Write → EndsFolder holds before after ends ⊎ EndsUnread ends before after))
+
 -- the words ask rightly to check files
 pub record AreFiles (words : List (List ℕ)) : Type 0 where
   pub taken : fault_of command_line words ≡ []
   pub asked : asked_by words ≡ Asked.Check
-  pub named : IsSome (files_of (arguments_by words))
+  pub files : HasFiles (arguments_by words)
+  pub named : IsSome (files_of (arguments_by words)) ⊎ IsSome (list_of (arguments_by words))
 
--- how a run ends that checks the files which these words name
+-- how a run ends that checks these files
 abbrev pub EndsNamed : (List ℕ → Option (List ℕ)) → Bool → List (List ℕ)
     → (before after : Option (List ℕ)) → Bool → Errors → Errors → End → Type 0
 EndsNamed holds true names before after people errors errors' ends =
-    EndsJoined holds names before after ends
+    EndsHistories holds names before after ends
 EndsNamed holds false names before after people errors errors' ends =
     ends ≢ end.Write → EachIsTold holds names before after people errors errors' ends
 
--- It ends so, or for want of memory, with nothing on standard output.
-abbrev pub EndsFiles : (List ℕ → Option (List ℕ)) → List (List ℕ)
+-- how a run ends whose list of files is not read, or names none
+abbrev pub EndsUnlisted : End → Type 0
+EndsUnlisted end.Read = Unit {0}
+EndsUnlisted end.TooLong = Unit {0}
+EndsUnlisted end.Short = Unit {0}
+EndsUnlisted end.Usage = Unit {0}
+EndsUnlisted so = ⊥
+
+-- how a run ends that checks the files that a list names, of which this is known
+abbrev pub EndsListed : (List ℕ → Option (List ℕ)) → Bool → Option (List ℕ)
     → (before after : Option (List ℕ)) → Bool → Errors → Errors → End → Type 0
-EndsFiles holds words before after people errors errors' ends =
-    ((names : List (List ℕ)) × (files_of (arguments_by words) ≡ Some names)
-    × EndsNamed holds (is_joined (arguments_by words)) names before after people errors errors' ends)
+EndsListed holds is_one list before after people errors errors' ends =
+    ((names : List (List ℕ)) × IfSome list (λ bytes. names ≡ listed bytes)
+    × EndsNamed holds is_one names before after people errors errors' ends)
+    ⊎ (EndsUnlisted ends × (after ≡ before))
+
+-- the same of files that are named by words, or by a list
+abbrev pub EndsSources : (List ℕ → Option (List ℕ)) → (input : Option (List ℕ)) → Bool
+    → Option (List (List ℕ)) → Option (List ℕ)
+    → (before after : Option (List ℕ)) → Bool → Errors → Errors → End → Type 0
+EndsSources holds input is_one (Some names) list before after people errors errors' ends =
+    EndsNamed holds is_one names before after people errors errors' ends
+EndsSources holds input is_one None (Some list) before after people errors errors' ends =
+    EndsListed holds is_one (held_by holds input list) before after people errors errors' ends
+EndsSources holds input is_one None None before after people errors errors' ends = ⊥
+
+-- It checks the files that these words name, or ends for want of memory with nothing on standard output.
+abbrev pub EndsFiles : (List ℕ → Option (List ℕ)) → (input : Option (List ℕ)) → List (List ℕ)
+    → (before after : Option (List ℕ)) → Bool → Errors → Errors → End → Type 0
+EndsFiles holds input words before after people errors errors' ends =
+    let rows = arguments_by words in
+    EndsSources holds input (is_joined rows) (files_of rows) (list_of rows) before after people
+    errors errors' ends
     ⊎ ((ends ≡ end.Short) × (after ≡ before))

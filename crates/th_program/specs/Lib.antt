@@ -1,6 +1,8 @@
 pub mod Status
 pub mod Words
 pub mod Run
+pub mod Shown
+pub mod Listed
 pub mod PartNames
 pub mod Files
 pub mod Advice

@@ -9,6 +9,9 @@ use Rattle.th_program.specs.declared.modes.Mode.{Mode}
 use Rattle.th_program.specs.declared.modes.Mode.TheVariants.{Check, CheckFiles, Replay, Serve}
 use Rattle.th_program.specs.declared.modes.Serving.{Serving}
 use Rattle.th_program.specs.declared.modes.Serving.TheVariants as serving
+use Rattle.th_program.specs.declared.modes.Sources.{Sources}
+use Rattle.th_program.specs.declared.modes.Sources.TheVariants as sources
+use Rattle.th_program.specs.declared.modes.Sources.TheVariants.{Words}
 use Rattle.th_program.specs.declared.modes.Standing.{Standing}
 use Rattle.th_program.specs.declared.modes.Asked.{Asked}
 use Rattle.th_program.specs.declared.modes.ModeFault.{ModeFault}
@@ -127,12 +130,15 @@ serve_line =
     (with_rule (new_app (codes "serve")) (record (new_rule (codes "PATH")) { required = true }))
     (option_of (codes "sessions"))))
 
--- `check` and its words: files, and whether they are one history
+-- `check` and its words: files, whether they are one history, and a list of files
 abbrev pub check_line : App
 check_line =
     with_rule
-    (with_rule (new_app (codes "check")) (record (new_rule (codes "FILE")) { action = Some Append }))
-    (flag_of (codes "joined"))
+    (with_rule
+    (with_rule (new_app (codes "check"))
+    (record (new_rule (codes "FILE")) { action = Some Append }))
+    (flag_of (codes "joined")))
+    (option_of (codes "files-from"))
 
 -- the command line as `clap` reads it: `replay`, which takes no words, `check` and `serve`
 abbrev pub command_line : App
@@ -251,17 +257,35 @@ files_of rows = all_of (codes "FILE") rows
 abbrev pub is_joined : List Row → Bool
 is_joined rows = is_given (codes "joined") rows
 
--- a history has a file at least
-abbrev pub HasFiles : List Row → Type 0
-HasFiles rows = is_joined rows ≡ true → IsSome (files_of rows)
+-- the list that names them instead
+abbrev pub list_of : List Row → Option (List ℕ)
+list_of rows = first_of (codes "files-from") rows
+
+-- a history has a file at least, and files are named by words or by a list
+pub record HasFiles (rows : List Row) : Type 0 where
+  pub some : is_joined rows ≡ true → IsSome (files_of rows) ⊎ IsSome (list_of rows)
+  pub one : IsSome (files_of rows) → list_of rows ≡ None
+
+-- which files are checked by these words
+abbrev pub AreSources : List Row → Sources → Type 0
+AreSources rows (Words names) =
+    (files_of rows ≡ Some (map string_bytes names.items)) × (list_of rows ≡ None)
+AreSources rows (sources.List list) =
+    (files_of rows ≡ None) × (list_of rows ≡ Some (string_bytes list))
+
+-- the files are those of this list
+abbrev pub IsList : Mode → List ℕ → Bool → Type 0
+IsList (CheckFiles (sources.List list) joined) name is_one =
+    (string_bytes list ≡ name) × (joined ≡ is_one)
+IsList mode name is_one = ⊥
 
 -- the mode that was asked for; one that checks files has those that the words name, and one that serves has what they say
 abbrev pub IsMode : Asked → List Row → Mode → Type 0
 IsMode asked rows Replay = asked ≡ Asked.Replay
-IsMode asked rows Check =
-    (asked ≡ Asked.Check) × (files_of rows ≡ None) × (is_joined rows ≡ false)
+IsMode asked rows Check = (asked ≡ Asked.Check)
+    × (files_of rows ≡ None) × (list_of rows ≡ None) × (is_joined rows ≡ false)
 IsMode asked rows (CheckFiles files joined) = (asked ≡ Asked.Check)
-    × (files_of rows ≡ Some (map string_bytes files.items))
+    × AreSources rows files
     × (joined ≡ is_joined rows)
 IsMode asked rows (Serve path serving) = (asked ≡ Asked.Serve)
     × (string_bytes path ≡ text_of (codes "PATH") rows)

@@ -1,17 +1,21 @@
 //! Traces in files, checked.
-ghost use Rattle.std.specs.Prelude.{◌≡◌, ◌≢◌, Option, None, List, ℕ, IfOk, IfSome, IsSome, OnErr, Ok, Err, map, string_bytes, true};
+ghost use Rattle.std.specs.Prelude.{◌≡◌, ◌≢◌, ◌+◌, ◌≤◌, ◌^◌, Option, None, List, ℕ, IfOk, IfSome, IsSome, OnErr, Ok, Err, map, string_bytes, true};
 ghost use Rattle.std.specs.Io.KnownBytes.{Appends};
-ghost use Rattle.th_program.specs.Files.{AreFiles, EachIsTold, EndsFiles, EndsJoined, IsNext, IsOutcome, TellsBroken, broken_line, end_of, entries_of, fault_line, fault_word, file_line, worse};
+ghost use Rattle.th_program.specs.Files.{AreFiles, EachIsTold, EndsFiles, EndsHistories, EndsJoined, EndsListed, EndsNamed, EndsUnlisted, IsNext, IsOutcome, TellsBroken, broken_line, end_of, entries_of, fault_line, fault_word, file_line, joined_line, place_of, place_told, worse};
+ghost use Rattle.th_program.specs.Listed.{held_by};
 ghost use Rattle.th_program.specs.Run.{IsSaid, errors_of};
 
 use crate::end::{End, status};
-use crate::modes::{Mode, ModeFault};
-use crate::part_names::follows;
-use crate::program::{explain, run_short, say, write_line, write_text, write_verdict};
+use crate::folders::check_folder;
+use crate::listed::{ListFault, listed};
+use crate::modes::{Mode, ModeFault, Sources};
+use crate::part_names::{Place, placed};
+use crate::program::{explain, run_short, say, write_number, write_text, write_verdict};
+use crate::shown::{say_shown, write_shown};
 use crate::words::mode;
 use std::alloc::Global;
 use std::fs::File;
-use std::io::{Read, Write};
+use std::io::{ErrorKind, Read, Write};
 use std::{fs, io};
 use th_check::{CheckFault, Joined, Joining, Verdict, check_explained};
 use th_lines::Counted;
@@ -31,14 +35,49 @@ pub trait Opens {
     /// Where the file cannot be opened.
     fn open(&self, name: &str) -> io::Result<Self::File>
         ensures { IfOk result (λ file. Self.File.remaining file ≡ holds self.now name.now) };
+
+    /// The paths of what stands in the folder with this name; `None` where it is no folder.
+    ///
+    /// # Errors
+    ///
+    /// Where the folder cannot be read, or for want of memory.
+    fn list(&self, _alloc: Global, _name: &str) -> io::Result<Option<Vec<String>>>
+        ensures { IsSome (holds self.now _name.now) → IfOk result (λ found. found ≡ None) }
+    {
+        Ok(None)
+    }
 }
 
 impl Opens for HostRuntime {
     type File = File;
 
     fn open(&self, name: &str) -> io::Result<File> {
+        if !is_stream(name) && !fs::metadata(self, name)?.is_file() {
+            return Err(ErrorKind::InvalidInput.into());
+        }
         fs::open(self, name)
     }
+
+    fn list(&self, alloc: Global, name: &str) -> io::Result<Option<Vec<String>>> {
+        if is_stream(name) || !fs::metadata(self, name)?.is_dir() {
+            return Ok(None);
+        }
+        let mut found = Vec::new(alloc);
+        for entry in fs::read_dir(self, name)? {
+            match entry {
+                Ok(entry) => found.push(String::from_str(alloc, entry.path().as_str())?)?,
+                // (the names of parts are text)
+                Err(e) if e.kind() == ErrorKind::InvalidFilename => {}
+                Err(e) => return Err(e),
+            }
+        }
+        Ok(Some(found))
+    }
+}
+
+// Whether the name is that of an open descriptor. Whatever it is, somebody has opened it to be read.
+fn is_stream(name: &str) -> bool {
+    name == "/dev/stdin" || name.starts_with("/dev/fd/") || name.starts_with("/proc/self/fd/")
 }
 
 // The words that tell a fault.
@@ -67,7 +106,7 @@ fn end_of(outcome: Result<Verdict, CheckFault>) -> End
 }
 
 // Of two ends the first that says what stopped a check, else the first that finds a fault in a trace.
-fn worse(one: End, other: End) -> End
+pub(crate) fn worse(one: End, other: End) -> End
     ensures { result ≡ worse one other }
 {
     if status(&one) == 1 {
@@ -90,7 +129,7 @@ fn say_fault<E: Write>(errors: &mut Counted<E>, name: &str, fault: CheckFault)
     ensures still { errors.new.failures ≡ 0 → errors.old.failures ≡ 0 }
 {
     say(errors, b"topichub: ");
-    say(errors, name.as_bytes());
+    say_shown(errors, name.as_bytes());
     say(errors, b": ");
     say(errors, fault_word(fault).as_bytes());
     say(errors, b"\n");
@@ -102,7 +141,7 @@ fn write_file<W: Write>(output: &mut Counted<W>, name: &str, verdict: Verdict) -
         (W.contents output.old.device) (W.contents output.new.device)
         (file_line (name.now, Ok verdict)) }
 {
-    if !write_text(output, name.as_bytes()) {
+    if !write_shown(output, name.as_bytes()) {
         return false;
     }
     if !write_text(output, b": ") {
@@ -228,7 +267,7 @@ fn write_gap<W: Write>(output: &mut Counted<W>, name: &str) -> bool
     if !write_text(output, b"gap ") {
         return false;
     }
-    if !write_text(output, name.as_bytes()) {
+    if !write_shown(output, name.as_bytes()) {
         return false;
     }
     write_text(output, b"\n")
@@ -263,10 +302,50 @@ fn tell_broken<W: Write, E: Write>(
     end
 }
 
+// Writes where a history of so many entries stands, if that is known; `false` where the writer failed.
+fn write_place<W: Write>(output: &mut Counted<W>, place: Option<Place<'_>>, count: u64) -> bool
+    ensures { result ≡ true → IfSome place.entry (λ p. p.first + count ≤ 2 ^ 64) → Appends
+        (W.contents output.old.device) (W.contents output.new.device)
+        (place_told (place_of place.entry) count) }
+{
+    let Some(place) = place else {
+        return true;
+    };
+    let Some(more) = count.checked_sub(1) else {
+        return true;
+    };
+    if !write_number(output, b" ", place.first) {
+        return false;
+    }
+    if !write_number(output, b"-", place.first.saturating_add(more)) {
+        return false;
+    }
+    if !write_text(output, b" ") {
+        return false;
+    }
+    write_shown(output, place.topic)
+}
+
+// Writes the line that tells of a history; `false` where the writer failed.
+fn write_joined<W: Write>(output: &mut Counted<W>, count: u64, place: Option<Place<'_>>) -> bool
+    ensures { result ≡ true → IfSome place.entry (λ p. p.first + count ≤ 2 ^ 64) → Appends
+        (W.contents output.old.device) (W.contents output.new.device)
+        (joined_line count (place_of place.entry)) }
+{
+    if !write_number(output, b"joined ", count) {
+        return false;
+    }
+    if !write_place(output, place, count) {
+        return false;
+    }
+    write_text(output, b"\n")
+}
+
 /// Checks these files as one history, in their order: each is to be legal, and to begin with the picture to which the
-/// entries of the one before it lead. Where two neighbours have names of parts of a topic's history, they are also to be
-/// parts of one topic, and the number of the second is to be that of the first and its entries. `output` gets one line: how many entries they have, or which file is the first that
-/// breaks the history; no file behind that is read. A file that there is no verdict on is told of in `errors`, and so is, to
+/// entries of the one before it lead. Files with names of parts of a topic's history are also to be parts of one topic, and
+/// the number in each name is to be that of the history's first event and the entries before the file. `output` gets one
+/// line: how many entries they have, and, where a name tells it, from which event to which; or which file is the first that
+/// breaks the history. No file behind that is read. A file that there is no verdict on is told of in `errors`, and so is, to
 /// people at a terminal, what is wrong with a trace. More than 2^64 - 1 entries are too long.
 pub fn check_joined<O: Opens, W: Write, E: Write>(
     alloc: Global,
@@ -281,8 +360,7 @@ pub fn check_joined<O: Opens, W: Write, E: Write>(
 {
     let mut history = Joining::new();
     let mut count: u64 = 0;
-    let mut before: &[u8] = b"";
-    let mut entries: u64 = 0;
+    let mut place: Option<Place<'_>> = None;
     for name in names {
         let mut text = Vec::new(alloc);
         let said = add_file(alloc, files, name.as_str(), &mut history, &mut text);
@@ -290,19 +368,17 @@ pub fn check_joined<O: Opens, W: Write, E: Write>(
             let wrong = if people { Some(text.as_slice()) } else { None };
             return tell_broken(output, errors, name.as_str(), said, wrong);
         };
-        let path = name.as_bytes();
-        if !follows(before, entries, path) {
-            return tell_broken(output, errors, name.as_str(), Ok(Joined::Apart), None);
-        }
         let Some(sum) = count.checked_add(more) else {
             say_fault(errors, name.as_str(), CheckFault::TooLong);
             return End::TooLong;
         };
+        let Ok(next) = placed(place, count, sum, name.as_bytes()) else {
+            return tell_broken(output, errors, name.as_str(), Ok(Joined::Apart), None);
+        };
         count = sum;
-        before = path;
-        entries = more;
+        place = next;
     }
-    if write_line(output, b"joined ", count) {
+    if write_joined(output, count, place) {
         End::Done
     } else {
         explain(errors, &End::Write);
@@ -310,35 +386,127 @@ pub fn check_joined<O: Opens, W: Write, E: Write>(
     }
 }
 
+// Says why a list names no files: the end of the run.
+fn refuse_list<E: Write>(errors: &mut Counted<E>, list: &str, why: Option<ListFault>) -> End
+    ensures { EndsUnlisted result }
+{
+    let said: &str = match why {
+        Some(ListFault::Unread(fault)) => {
+            say_fault(errors, list, fault);
+            return end_of(Err(fault));
+        }
+        Some(ListFault::NotText) => ": a name in it is not UTF-8\n",
+        None => ": it names no file\n",
+    };
+    say(errors, b"topichub: ");
+    say_shown(errors, list.as_bytes());
+    say(errors, said.as_bytes());
+    End::Usage
+}
+
+// Checks the files of these names as one history, or, of a folder that stands alone, those of each topic.
+fn check_histories<O: Opens, W: Write, E: Write>(
+    alloc: Global,
+    files: &O,
+    names: &[String],
+    output: &mut Counted<W>,
+    errors: &mut Counted<E>,
+    people: bool,
+) -> End
+    ensures { EndsHistories (O.holds files.now) (map string_bytes names.now)
+        (W.contents output.old.device) (W.contents output.new.device) result }
+{
+    let [name] = names else {
+        return check_joined(alloc, files, names, output, errors, people);
+    };
+    match files.list(alloc, name.as_str()) {
+        Ok(None) => check_joined(alloc, files, names, output, errors, people),
+        Ok(Some(found)) => check_folder(alloc, files, name.as_str(), found, output, errors, people),
+        Err(_) => {
+            say_fault(errors, name.as_str(), CheckFault::Read);
+            End::Read
+        }
+    }
+}
+
+// Checks the files of these names, each by itself or as one history.
+fn check_named<O: Opens, W: Write, E: Write>(
+    alloc: Global,
+    files: &O,
+    names: &[String],
+    joined: bool,
+    output: &mut Counted<W>,
+    errors: &mut Counted<E>,
+    people: bool,
+) -> End
+    ensures { EndsNamed (O.holds files.now) joined (map string_bytes names.now)
+        (W.contents output.old.device) (W.contents output.new.device) people
+        (errors_of E.contents errors.old) (errors_of E.contents errors.new) result }
+{
+    if joined {
+        check_histories(alloc, files, names, output, errors, people)
+    } else {
+        check_files(alloc, files, names, output, errors, people)
+    }
+}
+
+// Checks the files that a list names.
+fn check_list<O: Opens, R: Read, W: Write, E: Write>(
+    alloc: Global,
+    files: &O,
+    list: &str,
+    joined: bool,
+    input: &mut R,
+    output: &mut Counted<W>,
+    errors: &mut Counted<E>,
+    people: bool,
+) -> End
+    ensures { EndsListed (O.holds files.now) joined
+        (held_by (O.holds files.now) (R.remaining input.old) list.now)
+        (W.contents output.old.device) (W.contents output.new.device) people
+        (errors_of E.contents errors.old) (errors_of E.contents errors.new) result }
+{
+    let names = match listed(alloc, files, list, input) {
+        Ok(names) => names,
+        Err(fault) => return refuse_list(errors, list, Some(fault)),
+    };
+    let names = names.as_slice();
+    if names.is_empty() {
+        return refuse_list(errors, list, None);
+    }
+    check_named(alloc, files, names, joined, output, errors, people)
+}
+
 /// Checks the files that the words name, the program's name first, each by itself or as one history; `None`, with nothing
-/// done, where they name none.
-pub fn check_by_words<O: Opens, W: Write, E: Write>(
+/// done, where they name none. A list of files that is `-` is the input.
+pub fn check_by_words<O: Opens, R: Read, W: Write, E: Write>(
     alloc: Global,
     files: &O,
     words: &[&str],
+    input: &mut R,
     output: &mut Counted<W>,
     errors: &mut Counted<E>,
     people: bool,
 ) -> Option<End>
-    ensures ends { IfSome result (EndsFiles (O.holds files.now) (map (λ w. w.now) words.now)
+    ensures ends { IfSome result (EndsFiles
+        (O.holds files.now) (R.remaining input.old) (map (λ w. w.now) words.now)
         (W.contents output.old.device) (W.contents output.new.device) people
         (errors_of E.contents errors.old) (errors_of E.contents errors.new)) }
     ensures asked { AreFiles (map (λ w. w.now) words.now) → IsSome result }
-    ensures none { result ≡ None → (output.new ≡ output.old) × (errors.new ≡ errors.old) }
+    ensures none { result ≡ None
+        → (input.new ≡ input.old) × (output.new ≡ output.old) × (errors.new ≡ errors.old) }
 {
     match mode(alloc, words) {
-        Ok(
-            Mode::CheckFiles {
-                files: names,
-                joined,
-            },
-        ) => {
-            let names = names.as_slice();
-            if joined {
-                return Some(check_joined(alloc, files, names, output, errors, people));
+        Ok(Mode::CheckFiles { sources, joined }) => match sources {
+            Sources::Words(names) => {
+                let names = names.as_slice();
+                Some(check_named(alloc, files, names, joined, output, errors, people))
             }
-            Some(check_files(alloc, files, names, output, errors, people))
-        }
+            Sources::List(list) => {
+                let list = list.as_str();
+                Some(check_list(alloc, files, list, joined, input, output, errors, people))
+            }
+        },
         Err(ModeFault::Short) => Some(run_short(errors)),
         _ => None,
     }

@@ -165,6 +165,10 @@ pub const CHECK_FILES: &str = "Files with a trace each; without any, one from st
 /// Its option.
 pub const CHECK_JOINED: &str = "The files, in this order, are to be one history";
 
+/// Its word for files that are named elsewhere.
+pub const CHECK_LIST: &str =
+    "The files that LIST names, each ended by NUL or by LF; - is standard input";
+
 /// What is wrong where it is given without files.
 pub const NO_FILES: &str =
     "error: the argument '--joined' wants files\n\nFor more information, try '--help'.\n";
@@ -172,6 +176,10 @@ pub const NO_FILES: &str =
 /// What stands below the text on wrong words where they begin with `check`.
 pub const CHECK_INPUT: &str =
     "\nTraces come from files, or one from standard input, as in: topichub check < FILE\n";
+
+/// What stands there instead where one of them seems to be a name that begins with `-`.
+pub const CHECK_DASHED: &str =
+    "\nA name that begins with - stands behind --, or is given as ./NAME: topichub check -- NAME\n";
 
 /// What stands below the options of the mode `check`.
 pub const CHECK_AFTER: &str = "\
@@ -185,19 +193,25 @@ again. It prints one line:
   bad l                 line l is none that may stand there, or it is missing
 
 Of files each has such a line, with its name in front, as in `FILE: legal n`. One
-that cannot be read is told of on standard error, and the others are checked.
+that cannot be read, or is no regular file, is told of on standard error, and the
+others are checked. A name is printed with ? for each control character.
 
 With --joined all files tell one history: each is legal, and begins with the
-picture to which the entries of the one before it lead. Where two neighbours are
-named TOPIC.NUMBER.trace, as `serve` does, the topic is also the same, and the
-second number is the first and the entries of the first. It prints one line, and
-reads no further than the first file that breaks the history. The line is
+picture to which the entries of the one before it lead. Files that are named
+TOPIC.NUMBER.trace, as `serve` does, are also of one topic, and each number is
+that of the first event and the entries of all files before it. It prints one
+line, and reads no further than the first file that breaks the history. The line
+is
 
-  joined n              one history of n entries
+  joined n              one history of n entries; where a name tells it, the line
+                        goes on with the first event, the last one and the topic,
+                        as in `joined 84 1-84 news`
   gap f                 the file f is legal, and begins elsewhere, by its first
                         picture or by its name
 
-or the line of the first file that is not legal.
+or the line of the first file that is not legal. Of a folder that is given alone,
+the files that are named so are checked, with a line for each topic. It finds
+what went wrong, and is no seal against who can write to the files.
 
 Lines are counted from 1. The first line that is bad or illegal is named, and
 nothing below it is read. At a terminal it also says, on standard error, what is

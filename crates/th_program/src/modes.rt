@@ -9,8 +9,8 @@ pub enum Mode {
     Check,
     /// Check the traces in files, and print what is said of each, or of all as one history.
     CheckFiles {
-        /// The names of the files, one at least.
-        files: Vec<String>,
+        /// Which files.
+        sources: Sources,
         /// Whether they are one history.
         joined: bool,
     },
@@ -21,6 +21,15 @@ pub enum Mode {
         /// How many.
         serving: Serving,
     },
+}
+
+/// Which files are checked.
+#[derive(Drop)]
+pub enum Sources {
+    /// Those with these names, one at least.
+    Words(Vec<String>),
+    /// Those whose names are listed in the file of this name; `-` is standard input.
+    List(String),
 }
 
 /// How many sessions are served.

@@ -120,20 +120,17 @@ fn told(verdict: Verdict) -> (&'static [u8], u64)
     }
 }
 
-// Writes a line with a word, which has its space, and a number; `false` where the writer failed. It takes no memory.
-pub(crate) fn write_line<W: Write>(output: &mut Counted<W>, word: &[u8], number: u64) -> bool
+// Writes a word and a number behind it; `false` where the writer failed. It takes no memory.
+pub(crate) fn write_number<W: Write>(output: &mut Counted<W>, word: &[u8], number: u64) -> bool
     ensures { result ≡ true → Appends
         (W.contents output.old.device) (W.contents output.new.device)
-        (word.now ++ (decimal number ++ 10 ∷ [])) }
+        (word.now ++ decimal number) }
 {
     let mut digits = Buffer::new();
     if !write_text(output, word) {
         return false;
     }
-    if !write_text(output, digits.format(number).as_bytes()) {
-        return false;
-    }
-    write_text(output, b"\n")
+    write_text(output, digits.format(number).as_bytes())
 }
 
 // Writes the line of a verdict; `false` where the writer failed.
@@ -142,7 +139,10 @@ pub(crate) fn write_verdict<W: Write>(output: &mut Counted<W>, verdict: Verdict)
         (W.contents output.old.device) (W.contents output.new.device) (verdict_line verdict) }
 {
     let (word, number) = told(verdict);
-    write_line(output, word, number)
+    if !write_number(output, word, number) {
+        return false;
+    }
+    write_text(output, b"\n")
 }
 
 // Checks the trace of the reader, and tells the verdict. What is wrong with the trace is put into the text.

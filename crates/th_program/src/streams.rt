@@ -66,9 +66,8 @@ pub fn run_on_streams(rt: &HostRuntime, given: Result<&[String], WordsFault>) ->
         Ok(given) => texts(alloc, given).map_err(|_| WordsFault::Short),
         Err(why) => Err(why),
     };
-    let stdin = rt.stdin();
+    let mut stdin = rt.stdin();
     let at_terminal = stdin.is_terminal();
-    let mut input = Counted::new(stdin);
     let stderr = rt.stderr();
     let people = stderr.is_terminal();
     let replays = match &words {
@@ -82,9 +81,20 @@ pub fn run_on_streams(rt: &HostRuntime, given: Result<&[String], WordsFault>) ->
         Ok(words) => {
             let words = words.as_slice();
             greet(&mut errors, at_terminal && replays);
-            match check_by_words(alloc, rt, words, &mut output, &mut errors, people) {
+            match check_by_words(
+                alloc,
+                rt,
+                words,
+                &mut stdin,
+                &mut output,
+                &mut errors,
+                people,
+            ) {
                 Some(end) => end,
-                None => run_for(alloc, words, &mut input, &mut output, &mut errors, people),
+                None => {
+                    let mut input = Counted::new(stdin);
+                    run_for(alloc, words, &mut input, &mut output, &mut errors, people)
+                }
             }
         }
         Err(WordsFault::Short) => run_short(&mut errors),

@@ -3,15 +3,15 @@
 ghost use Rattle.std.specs.Prelude.{◌≡◌, ◌≢◌, ◌⊎◌, ◌≤◌, IfErr, IfOk, IfSome, IsOk, IsSome, Ok, OnOk, ℕ, [], codes, false, is_some, map, option_map, string_bytes};
 ghost use Rattle.clap.specs.declared.builder.command.Command.TheViews.{out-Command};
 ghost use Rattle.clap.specs.Words.{app_of, fault_of, first_of, found_of, kind_of, new_app, rows_of, rule_of, subcommand_name_of, subcommand_rows_of, with_rule, with_subcommand};
-ghost use Rattle.th_program.specs.Words.{AreCheck, AreReplay, AreHelp, AreRight, AreServe, AreVersion, AreNone, AsksAtOnce, AsksFor, AsksHistory, AsksMemory, AsksRightly, AsksSocket, CountsIf, IsCount, IsCountIf, IsHelp, IsMode, IsUsage, GivesCheck, GivesMode, GivesReplay, GivesFault, HasFiles, HasSessions, IsWithin, ServesBy, StandsBy, arguments_by, arguments_of, asked_by, asked_of, check_line, command_line, flag_of, has, has_flags, has_others, is_given, option_of, replaces_bound, serve_line, text_of, with_keeping, with_required, with_standing};
+ghost use Rattle.th_program.specs.Words.{AreCheck, AreReplay, AreHelp, AreRight, AreServe, AreVersion, AreNone, AsksAtOnce, AsksFor, AsksHistory, AsksMemory, AsksRightly, AsksSocket, CountsIf, IsCount, IsCountIf, IsHelp, IsMode, IsUsage, GivesCheck, GivesMode, GivesReplay, GivesFault, HasFiles, HasSessions, IsList, IsWithin, ServesBy, StandsBy, arguments_by, arguments_of, asked_by, asked_of, check_line, command_line, flag_of, has, has_flags, has_others, is_given, option_of, replaces_bound, serve_line, text_of, with_keeping, with_required, with_standing};
 
 use crate::help::{
-    ABOUT, AFTER, CHECK_ABOUT, CHECK_AFTER, CHECK_FILES, CHECK_INPUT, CHECK_JOINED, NO_FILES,
-    REPLAY_ABOUT, REPLAY_AFTER, REPLAY_INPUT, SERVE_ABOUT, SERVE_AFTER, SERVE_AT_ONCE,
-    SERVE_HISTORY, SERVE_INPUT, SERVE_MEMORY, SERVE_PATH, SERVE_REPLACE, SERVE_SESSIONS,
-    SERVE_SOCKET_FD, SERVE_TRACES, SERVE_UNTIL_EOF, SERVE_VERBOSE, VERSION,
+    ABOUT, AFTER, CHECK_ABOUT, CHECK_AFTER, CHECK_DASHED, CHECK_FILES, CHECK_INPUT, CHECK_JOINED,
+    CHECK_LIST, NO_FILES, REPLAY_ABOUT, REPLAY_AFTER, REPLAY_INPUT, SERVE_ABOUT, SERVE_AFTER,
+    SERVE_AT_ONCE, SERVE_HISTORY, SERVE_INPUT, SERVE_MEMORY, SERVE_PATH, SERVE_REPLACE,
+    SERVE_SESSIONS, SERVE_SOCKET_FD, SERVE_TRACES, SERVE_UNTIL_EOF, SERVE_VERBOSE, VERSION,
 };
-use crate::modes::{Asked, Mode, ModeFault, Serving, Standing};
+use crate::modes::{Asked, Mode, ModeFault, Serving, Sources, Standing};
 use clap::error::ErrorKind;
 use clap::{Arg, ArgAction, ArgMatches, Command, Error};
 use std::alloc::{AllocError, Global};
@@ -52,6 +52,9 @@ const OTHERS_WITH_AT_ONCE: &str =
 const REPLACE_OR_SOCKET_FD: &str =
     "'--replace' does not go with '--socket-fd <FD>': that socket is bound already";
 
+/// What is said where files are named by words and by a list.
+const FILES_OR_LIST: &str = "'--files-from <LIST>' goes without other files";
+
 impl From<AllocError> for ModeFault {
     fn from(_: AllocError) -> ModeFault {
         ModeFault::Short
@@ -86,7 +89,9 @@ fn check_command<'a>(alloc: Global) -> Result<Command<'a>, AllocError>
     let check = Command::new(alloc, "check")
         .about(CHECK_ABOUT)
         .after_help(CHECK_AFTER);
-    check.arg(files)?.arg(flag(alloc, "joined", CHECK_JOINED))
+    let check = with_arg(check, files)?;
+    let check = with_arg(check, flag(alloc, "joined", CHECK_JOINED))?;
+    with_arg(check, option(alloc, "files-from", "LIST", CHECK_LIST))
 }
 
 // The program with that mode more.
@@ -547,6 +552,20 @@ fn no_files(alloc: Global) -> ModeFault
     }
 }
 
+// The files that are listed under this name.
+fn listed(alloc: Global, list: &str, joined: bool) -> Result<Mode, ModeFault>
+    ensures mode { IfOk result (λ m. IsList m list.now joined) }
+    ensures short { IfErr result (λ fault. fault ≡ ModeFault.Short) }
+{
+    match String::from_str(alloc, list) {
+        Ok(list) => Ok(Mode::CheckFiles {
+            sources: Sources::List(list),
+            joined,
+        }),
+        Err(_) => Err(ModeFault::Short),
+    }
+}
+
 // The mode that checks, by the words behind its name.
 fn check_mode(alloc: Global, words: &ArgMatches<'_>) -> Result<Mode, ModeFault>
     ensures mode { IfOk result (IsMode Asked.Check (rows_of (found_of words.now))) }
@@ -554,15 +573,22 @@ fn check_mode(alloc: Global, words: &ArgMatches<'_>) -> Result<Mode, ModeFault>
     ensures wrong { IfErr result (λ fault. IsUsage fault ⊎ (fault ≡ ModeFault.Short)) }
 {
     let joined = is_given(words, "joined");
+    let list = given(words, "files-from");
     let Some(files) = words.get_strs("FILE") else {
-        return if joined {
-            Err(no_files(alloc))
-        } else {
-            Ok(Mode::Check)
+        return match list {
+            Some(list) => listed(alloc, list, joined),
+            None if joined => Err(no_files(alloc)),
+            None => Ok(Mode::Check),
         };
     };
+    if list.is_some() {
+        return Err(wrong_words(alloc, FILES_OR_LIST));
+    }
     match named(alloc, files) {
-        Ok(files) => Ok(Mode::CheckFiles { files, joined }),
+        Ok(files) => Ok(Mode::CheckFiles {
+            sources: Sources::Words(files),
+            joined,
+        }),
         Err(_) => Err(ModeFault::Short),
     }
 }
@@ -623,10 +649,21 @@ pub fn mode(alloc: Global, words: &[&str]) -> Result<Mode, ModeFault>
     }
 }
 
+// Whether one of the words seems to be the name of a trace that begins with `-`.
+fn has_dashed(words: &[&str]) -> bool {
+    for word in words {
+        if word.starts_with('-') && word.ends_with(".trace") {
+            return true;
+        }
+    }
+    false
+}
+
 /// What stands below the text on wrong words: where the input comes from, if a mode was given more.
 pub fn hint(words: &[&str]) -> &'static str {
     match words.get(1) {
         Some(word) if *word == "replay" => REPLAY_INPUT,
+        Some(word) if *word == "check" && has_dashed(words) => CHECK_DASHED,
         Some(word) if *word == "check" => CHECK_INPUT,
         Some(word) if *word == "serve" => SERVE_INPUT,
         _ => "",

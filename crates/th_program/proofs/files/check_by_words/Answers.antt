@@ -1,41 +1,17 @@
-use Rattle.std.proofs.Common.{◌∙◌, ℕ, Bool, List, inl, map, string_bytes, subst, sym}
-use Rattle.std.specs.Prelude.{◌≢◌}
-use Rattle.th_program.specs.declared.end.End.TheVariants as end
-use Rattle.th_program.specs.Files.{EachIsTold, EndsJoined, EndsNamed}
+use Rattle.std.proofs.Common.{inl, map, string_bytes}
 use Rattle.th_program.specs.Run.{errors_of}
+use Rattle.th_program.specs.Words.{arguments_by, files_of, is_joined, list_of}
+use Rattle.th_program.proofs.NamedFiles.{list_ends}
 use Rattle.th_program.proofs.files.check_by_words.Goals as goal
-
-pub returns-then-joined-clause-ends : goal.returns-then-joined-clause-ends
-returns-then-joined-clause-ends g c =
-    let mode = rw c.in-Ok-CheckFiles.field-0-is at c.in-Ok-CheckFiles.ensures in
-    let holds = g.O.Opens.holds c.args.files.now in
-    let names : List (List ℕ) = map string_bytes c.in-Ok-CheckFiles.names.items in
-    let before = g.W.Write.contents c.args.output.now.device in
-    let after = g.W.Write.contents c.check_joined.new.output.device in
-    let said_to = errors_of g.E.Write.contents in
-    inl (
-      names,
-      mode.mode.1,
-      subst (λ (b : Bool). EndsNamed holds b names before after c.args.people (said_to c.args.errors.now)
-          (said_to c.check_joined.new.errors) c.check_joined.result) (sym c.if-joined.true ∙ mode.mode.2)
-          (subst (λ l. EndsJoined holds (map string_bytes l) before after c.check_joined.result) c.as_slice-names.ensures.value
-          c.check_joined.ensures),
-    )
 
 pub returns-in-Ok-CheckFiles-clause-ends : goal.returns-in-Ok-CheckFiles-clause-ends
 returns-in-Ok-CheckFiles-clause-ends g c =
     let mode = rw c.in-Ok-CheckFiles.field-0-is at c.in-Ok-CheckFiles.ensures in
-    let holds = g.O.Opens.holds c.args.files.now in
-    let names : List (List ℕ) = map string_bytes c.in-Ok-CheckFiles.names.items in
-    let before = g.W.Write.contents c.args.output.now.device in
-    let after = g.W.Write.contents c.check_files.new.output.device in
+    let are = rw c.in-List.is at mode.mode.1 in
+    let rows = arguments_by (map (λ w. w.now) c.args.words.now) in
     let said_to = errors_of g.E.Write.contents in
-    inl (
-      names,
-      mode.mode.1,
-      subst (λ (b : Bool). EndsNamed holds b names before after c.args.people (said_to c.args.errors.now)
-          (said_to c.check_files.new.errors) c.check_files.result) (sym c.if-joined.false ∙ mode.mode.2)
-          (subst (λ l. c.check_files.result ≢ end.Write → EachIsTold holds (map string_bytes l) before after c.args.people
-          (said_to c.args.errors.now) (said_to c.check_files.new.errors) c.check_files.result) c.as_slice-names.ensures.value
-          c.check_files.ensures),
-    )
+    inl (list_ends (g.O.Opens.holds c.args.files.now) (g.R.Read.remaining c.args.input.now) c.in-Ok-CheckFiles.joined (is_joined rows)
+    mode.mode.2 (files_of rows) (list_of rows) (g.W.Write.contents c.args.output.now.device)
+    (g.W.Write.contents c.check_list.new.output.device) c.args.people (said_to c.args.errors.now) (said_to c.check_list.new.errors)
+    c.check_list.result (string_bytes c.in-List.list) c.as_str-list.result.now are.0 are.1 c.as_str-list.ensures.value
+    c.check_list.ensures)

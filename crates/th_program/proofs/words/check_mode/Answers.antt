@@ -1,26 +1,52 @@
-use Rattle.std.proofs.Common.{◌≡◌, ◌∙◌, None, Some, ap, codes, refl, subst, sym}
-use Rattle.std.specs.Prelude.{IsSome}
+use Rattle.std.proofs.Common.{◌≡◌, ◌∙◌, None, Some, ap, codes, inl, inr, refl, subst, sym}
+use Rattle.std.specs.Prelude.{IsSome, is_some}
+use Rattle.th_program.proofs.GivenWords.{is_mapped, none_given}
 use Rattle.std.proofs.lemmas.Bool.{false≢true}
 use Rattle.clap.specs.Words.{found_of, rows_of}
 use Rattle.clap.proofs.WalkLemmas.{raw_values-rows}
-use Rattle.th_program.specs.Words.{files_of, is_joined}
+use Rattle.th_program.specs.Words.{files_of, is_joined, list_of}
+use Rattle.th_program.proofs.Checking.{listed_mode}
 use Rattle.th_program.proofs.words.check_mode.Goals as goal
 
-pub returns-then-joined-clause-given : goal.returns-then-joined-clause-given
-returns-then-joined-clause-given c = λ has.
+pub returns-in-Some-list-clause-mode : goal.returns-in-Some-list-clause-mode
+returns-in-Some-list-clause-mode c =
     let f = found_of c.args.words.now in
     let joined : c.is_given-joined.result ≡ is_joined (rows_of f) = c.is_given-joined.ensures in
     let none : files_of (rows_of f) ≡ None = sym (c.in_default.ensures ∙ raw_values-rows f (codes "FILE")) in
-    absurd (false≢true (subst IsSome none (has (sym joined ∙ c.if-joined.true))))
+    let given = rw c.in-Some-list.is at c.given-list.ensures in
+    listed_mode (rows_of f) c.listed.result c.in-Some-list.list.now c.is_given-joined.result c.listed.ensures.mode none (sym given) joined
 
-pub returns-else-joined-clause-mode : goal.returns-else-joined-clause-mode
-returns-else-joined-clause-mode c =
+pub returns-in-None-clause-given : goal.returns-in-None-clause-given
+returns-in-None-clause-given c = λ has.
     let f = found_of c.args.words.now in
     let joined : c.is_given-joined.result ≡ is_joined (rows_of f) = c.is_given-joined.ensures in
-    (refl, sym (c.in_default.ensures ∙ raw_values-rows f (codes "FILE")), sym joined ∙ c.if-joined.false)
+    let none : files_of (rows_of f) ≡ None = sym (c.in_default.ensures ∙ raw_values-rows f (codes "FILE")) in
+    let unlisted : list_of (rows_of f) ≡ None = sym (rw c.in-None.is at c.given-list.ensures) in
+    absurd (elim (has.some (sym joined ∙ c.if-joined.true)) [
+      | inl some ↦ false≢true (subst IsSome none some)
+      | inr some ↦ false≢true (subst IsSome unlisted some)
+    ])
+
+pub returns-in-None-2-clause-mode : goal.returns-in-None-2-clause-mode
+returns-in-None-2-clause-mode c =
+    let f = found_of c.args.words.now in
+    let joined : c.is_given-joined.result ≡ is_joined (rows_of f) = c.is_given-joined.ensures in
+    let none : files_of (rows_of f) ≡ None = sym (c.in_default.ensures ∙ raw_values-rows f (codes "FILE")) in
+    let unlisted : list_of (rows_of f) ≡ None = sym (rw c.in-None-2.is at c.given-list.ensures) in
+    (refl, none, unlisted, sym joined ∙ c.if-joined.false)
+
+pub returns-then-is_some-clause-given : goal.returns-then-is_some-clause-given
+returns-then-is_some-clause-given c = λ has.
+    let f = found_of c.args.words.now in
+    let some = sym (raw_values-rows f (codes "FILE")) ∙ sym c.in-Some.ensures in
+    let unlisted : list_of (rows_of f) ≡ None = has.one (subst IsSome (sym some) refl) in
+    let given = sym c.is_some.ensures ∙ c.if-is_some.true in
+    absurd (false≢true (sym (ap is_some (c.given-list.ensures ∙ unlisted)) ∙ sym (is_mapped c.given-list.result) ∙ given))
 
 pub returns-in-Ok-clause-mode : goal.returns-in-Ok-clause-mode
 returns-in-Ok-clause-mode c =
     let f = found_of c.args.words.now in
     let joined : c.is_given-joined.result ≡ is_joined (rows_of f) = c.is_given-joined.ensures in
-    (refl, sym (raw_values-rows f (codes "FILE")) ∙ sym c.in-Some.ensures ∙ ap Some (sym c.in-Ok.ensures), joined)
+    let unlisted : list_of (rows_of f) ≡ None = none_given (list_of (rows_of f)) (ap is_some (sym c.given-list.ensures)
+    ∙ sym (is_mapped c.given-list.result) ∙ sym c.is_some.ensures ∙ c.if-is_some.false) in
+    (refl, (sym (raw_values-rows f (codes "FILE")) ∙ sym c.in-Some.ensures ∙ ap Some (sym c.in-Ok.ensures), unlisted), joined)
