@@ -39,6 +39,7 @@ pub fn check_with(
     input: &mut File,
 ) {
     let _ = rt.open("t.1.trace");
+    let _ = rt.list(alloc, "traces");
     let _ = check_files(alloc, rt, names, output, errors, true);
     let _ = check_joined(alloc, rt, names, output, errors, true);
     let _ = check_by_words(alloc, rt, words, input, output, errors, true);
