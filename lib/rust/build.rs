@@ -2,16 +2,16 @@
 //! one, else from the first of these that has it:
 //!
 //! - `native` beside this file, where the released crate carries it;
-//! - the folder that `pkg-config` tells;
+//! - the folder that `pkg-config` reports;
 //! - `../c/build`, where `make -C lib/c` of the repository puts the proved one;
 //! - `../c/build/fast`, where `make -C lib/c fast` puts one that is not proved.
 //!
-//! Where there is none this script succeeds too, since `cargo check`, `clippy` and `doc` take none. It
+//! If there is none, this script succeeds too, since `cargo check`, `clippy` and `doc` need none. It
 //! then asks for a library whose name says what to do, and rustc prints the name when it links and finds
-//! no such library. A warning would be shown to those alone who have this crate as a folder.
+//! no such library. A warning would be shown only to those who use this crate as a folder.
 //!
 //! Cargo runs this script again when what it watches has changed. A path that is not there counts as
-//! changed each time, and all that stands on this crate is compiled again. So for a library that is
+//! changed each time, and all that depends on this crate is compiled again. So for a library that is
 //! not there yet, a folder above it is watched.
 use std::env;
 use std::path::{Path, PathBuf};
@@ -50,7 +50,7 @@ fn library_in(folder: &Path) -> Option<Library> {
         .find(|(_, file)| file.is_file())
 }
 
-/// The library in this folder, which is watched; where there is none yet, the folder is.
+/// The library in this folder, which is watched; if there is none yet, the folder is.
 fn look(folder: &Path, top: &Path) -> Option<Library> {
     let found = library_in(folder);
     match &found {
@@ -60,7 +60,7 @@ fn look(folder: &Path, top: &Path) -> Option<Library> {
     found
 }
 
-/// The library in the folder that is named: from where Cargo was called, else from this crate's own
+/// The library in the named folder: relative to where Cargo was called, else to this crate's own
 /// folder. While there is none, this script is run each time. A folder that is made later where Cargo
 /// was called is not noticed while the other has a library.
 fn named(folder: &Path, here: &Path) -> Option<Library> {
@@ -77,7 +77,7 @@ fn named(folder: &Path, here: &Path) -> Option<Library> {
     })
 }
 
-/// A variable of a package, as `pkg-config` tells it.
+/// A variable of a package, as `pkg-config` reports it.
 fn told(variable: &str, package: &str) -> Option<String> {
     let program = env::var_os("PKG_CONFIG").unwrap_or_else(|| "pkg-config".into());
     let asked = Command::new(program)
@@ -106,7 +106,7 @@ fn installed() -> Option<Library> {
     Some(found)
 }
 
-/// The library that was built in the repository, if this crate stands in it.
+/// The library that was built in the repository, if this crate is in it.
 fn built(c: &Path) -> Option<Library> {
     if !c.join("topichub.h").is_file() {
         return None;
@@ -116,7 +116,7 @@ fn built(c: &Path) -> Option<Library> {
         .find_map(|it| look(&c.join(it), c))
 }
 
-/// Asks for a library that is nowhere, by what to say of it. A colon would end its name.
+/// Asks for a library that does not exist, whose name is the message. A colon would end the name.
 fn miss(what: &str) {
     let what = what.replace([':', '\n'], " ");
     println!("cargo:rustc-link-lib=static={NAME}{what}");

@@ -5,7 +5,7 @@ use topichub::broadcast::{error::RecvError, Builder, Receiver};
 
 const VALUES: u64 = 2_000;
 
-/// Receives to the end, and looks that each value or gap is the next one.
+/// Receives to the end, and checks that each value or gap is the next one.
 fn receive_all(mut rx: Receiver<u64>) {
     let mut next = 0;
     loop {

@@ -6,28 +6,24 @@ use std::sync::atomic::{AtomicBool, Ordering};
 use std::sync::Arc;
 use std::task::{Context, Poll, Wake, Waker};
 use std::thread::{self, Thread};
+use std::time::{Duration, Instant};
 
-/// A short wait, step by step: first on the processor, each step twice as long as the one before,
-/// then by letting other threads go on. To sleep and to be woken takes longer than all of it.
+/// A short wait on the processor, in steps of which each is twice as long as the one before. It
+/// never yields the thread: beside a busy process that would take a whole time slice.
 pub(crate) struct Patience {
     pub(crate) spins: u32,
-    pub(crate) yields: u32,
 }
 
 impl Patience {
-    /// Waits until it is so, or until patience is at its end.
-    pub(crate) fn until<A>(&self, mut is_so: impl FnMut() -> Option<A>) -> Option<A> {
-        for turn in 0..self.spins + self.yields {
-            if let Some(answer) = is_so() {
+    /// Looks until there is an answer, or until its patience has run out.
+    pub(crate) fn until<A>(&self, mut look: impl FnMut() -> Option<A>) -> Option<A> {
+        for turn in 0..self.spins {
+            if let Some(answer) = look() {
                 return Some(answer);
             }
-            if turn < self.spins {
-                (0..1 << turn).for_each(|_| hint::spin_loop());
-            } else {
-                thread::yield_now();
-            }
+            (0..1 << turn).for_each(|_| hint::spin_loop());
         }
-        is_so()
+        look()
     }
 }
 
@@ -68,14 +64,22 @@ impl Sleep {
     }
 
     #[inline]
-    fn until_ready<F: Future + Unpin>(&self, future: &mut F) -> F::Output {
+    fn until_ready<F: Future + Unpin>(
+        &self,
+        future: &mut F,
+        deadline: Option<Instant>,
+    ) -> Option<F::Output> {
         let mut context = Context::from_waker(&self.waker);
         loop {
             if let Poll::Ready(answer) = Pin::new(&mut *future).poll(&mut context) {
-                return answer;
+                return Some(answer);
             }
             while !self.sleeper.is_woken.swap(false, Ordering::Acquire) {
-                thread::park();
+                match deadline.map(|it| it.saturating_duration_since(Instant::now())) {
+                    None => thread::park(),
+                    Some(Duration::ZERO) => return None,
+                    Some(left) => thread::park_timeout(left),
+                }
             }
         }
     }
@@ -88,9 +92,23 @@ thread_local! {
 
 /// The future's answer. The thread waits until there is one.
 #[inline]
-pub(crate) fn block_on<F: Future + Unpin>(mut future: F) -> F::Output {
-    // A thread that is at its end has none any more.
+pub(crate) fn block_on<F: Future + Unpin>(future: F) -> F::Output {
+    block_until(future, None).expect("without a deadline there is an answer")
+}
+
+/// The future's answer, if it comes before the deadline.
+#[inline]
+pub(crate) fn block_until<F: Future + Unpin>(
+    mut future: F,
+    deadline: Option<Instant>,
+) -> Option<F::Output> {
+    // A thread that is ending has none any more.
     SLEEP
-        .try_with(|sleep| sleep.until_ready(&mut future))
-        .unwrap_or_else(|_| Sleep::new().until_ready(&mut future))
+        .try_with(|sleep| sleep.until_ready(&mut future, deadline))
+        .unwrap_or_else(|_| Sleep::new().until_ready(&mut future, deadline))
+}
+
+/// When a wait of this length ends. One that is too long for the clock has no end.
+pub(crate) fn deadline_after(timeout: Duration) -> Option<Instant> {
+    Instant::now().checked_add(timeout)
 }

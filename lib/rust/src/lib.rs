@@ -2,13 +2,19 @@
 //! proved.
 //!
 //! - A [`broadcast`] channel gives every value to every receiver, and keeps the newest ones. A
-//!   receiver that is too slow is told how many values it missed.
-//! - A [`watch`] channel keeps the newest value alone, and tells each receiver once that there is a
-//!   new one.
+//!   receiver that is too slow gets the number of values that it missed.
+//! - A [`watch`] channel keeps only the newest value, and reports to each receiver once that there
+//!   is a new one.
 //!
 //! A program that uses `tokio::sync::broadcast` or `tokio::sync::watch` changes its `use` line. The
-//! channels need no runtime: their futures run on any executor, and each wait also exists as a call
-//! that blocks the thread.
+//! names are those of Tokio 1.47; "Differences from Tokio" in each module lists what differs. Of
+//! Tokio 1.24.2, which Debian 12 packages, the examples are run on these channels; what came later
+//! follows the documentation. The channels need no runtime: their futures run on any executor, and
+//! each wait for a value also exists as a call that blocks the thread.
+//!
+//! The blocking calls are for threads outside a runtime. Inside a task they block the executor's
+//! thread, and so perhaps the very task that would send; they cannot notice it, so they do not
+//! panic there, as Tokio's do.
 //!
 //! ```
 //! use topichub::broadcast::{self, error::RecvError};
@@ -24,16 +30,18 @@
 //!
 //! # What is proved
 //!
-//! The channel's state stands in the library `libtopichub`. It is proved of its code that each call
-//! gets the reply that the rules give and leaves the state that they give. [`library_build`] tells
-//! whether the library that is linked was proved. Not proved, and only tested, is what this crate
-//! adds: the lock round each call, the payloads (the library holds numbers that stand for them), the
-//! wakers, and the declarations of the C functions.
+//! The library `libtopichub` keeps the channel's state. Its code is proved: each call returns, and
+//! leaves behind, what the rules prescribe. [`library_build`] says whether the linked library was
+//! proved. What this crate adds is only tested: the lock around each call, the payloads (the
+//! library keeps numbers in their place), the wakers, the declarations of the C functions, and the
+//! replies that take no call, which are the counts of senders, [`broadcast::Receiver::is_closed`],
+//! and, for a channel that is not recorded, [`watch::Receiver::has_changed`] and
+//! [`watch::Sender::is_closed`].
 //!
 //! # Recording
 //!
-//! A channel can be made so that it notes each call with its reply. What it tells is a text that
-//! anyone can check: by [`check`], or by the program `topichub check`.
+//! A channel can record each call with its reply. The record is a text that anyone can check: with
+//! [`check`], or with the program `topichub check`.
 //!
 //! ```
 //! use topichub::{broadcast, check, Verdict};
@@ -89,46 +97,73 @@ impl fmt::Display for BuildError {
 
 impl std::error::Error for BuildError {}
 
-/// What is said of a trace.
+/// Why a handle was not made.
+#[derive(Clone, Copy, Debug, PartialEq, Eq)]
+#[non_exhaustive]
+pub enum HandleError {
+    /// The channel has 65,535 live handles of this kind.
+    TooMany,
+    /// The channel is recorded, and the limit of its history is too low for this many handles.
+    Limit,
+    /// Memory was refused.
+    Memory,
+}
+
+impl fmt::Display for HandleError {
+    fn fmt(&self, to: &mut fmt::Formatter<'_>) -> fmt::Result {
+        to.write_str(match self {
+            Self::TooMany => "the channel has 65,535 handles of this kind",
+            Self::Limit => {
+                "the limit of the history has no room for one entry and the drop of each live handle"
+            }
+            Self::Memory => "memory was refused",
+        })
+    }
+}
+
+impl std::error::Error for HandleError {}
+
+/// The verdict on a trace.
 #[derive(Clone, Copy, Debug, PartialEq, Eq)]
 pub enum Verdict {
-    /// It is a trace of so many entries, and each reply is the one that the channel gives.
+    /// It is a trace of this many entries, and each reply is the one that the channel gives.
     Legal(u64),
-    /// This line, counted from 1, tells of a reply that the channel would not have given.
+    /// This line, counted from 1, has a reply that the channel would not have given.
     Illegal(u64),
-    /// This line, counted from 1, is missing or none that may stand there.
+    /// This line, counted from 1, is missing or malformed.
     Bad(u64),
 }
 
-/// Whether a text is the trace of a channel, as the program `topichub check` says it.
+/// Checks whether a text is the trace of a channel, as the program `topichub check` does.
 ///
-/// It takes time with the text, and memory with what the channel of the trace keeps.
+/// The time grows with the text, and the memory with what the channel of the trace keeps.
 ///
 /// # Panics
 ///
-/// Where memory is refused.
+/// If memory is refused.
+#[track_caller]
 pub fn check(trace: &[u8]) -> Verdict {
     library::check(trace)
 }
 
-/// The version of the library that is linked, as 1,000,000 * major + 1,000 * minor + patch.
+/// The version of the linked library, as 1,000,000 * major + 1,000 * minor + patch.
 pub fn library_version() -> u32 {
     library::version()
 }
 
-/// How the library that is linked was built.
+/// How the linked library was built.
 ///
-/// It is a claim of who built it: a library cannot know whether it was proved.
+/// This is the builder's claim: a library cannot know whether it was proved.
 #[derive(Clone, Copy, Debug, PartialEq, Eq)]
 #[non_exhaustive]
 pub enum Build {
-    /// Of an archive that was given by hand: nothing is known of its proof.
+    /// From an archive that was given by hand: nothing is known about its proof.
     Given,
-    /// Of an archive that the toolchain proved: `make`.
+    /// From an archive that the toolchain proved: `make`.
     Proved,
-    /// Of the same sources with run-time checks, and not proved: `make fast`.
+    /// From the same sources, with run-time checks and not proved: `make fast`.
     Checked,
-    /// Of the same sources with neither, to be measured: `make unchecked`.
+    /// From the same sources with neither, for measurements: `make unchecked`.
     Unchecked,
 }
 
@@ -143,7 +178,7 @@ impl fmt::Display for Build {
     }
 }
 
-/// How the library that is linked was built: the channels are proved where it is [`Build::Proved`].
+/// How the linked library was built: the channels are proved if it is [`Build::Proved`].
 ///
 /// ```
 /// println!("libtopichub is {}", topichub::library_build());

@@ -1,5 +1,6 @@
 //! A channel of the library, whose history may be full.
 use crate::library::{self, status, Channel, Reply, Trace};
+use crate::HandleError;
 use std::collections::VecDeque;
 
 /// The number of the sender that a channel is made with.
@@ -9,10 +10,10 @@ pub(crate) const FIRST_SENDER: u64 = 1;
 /// the first sender.
 pub(crate) const LEAST_LIMIT: u64 = 3;
 
-/// A channel of the library, and what was cut of its history and not handed out.
+/// A channel of the library, and the segments of its history that were cut but not handed out.
 pub(crate) struct Core<C> {
     channel: C,
-    /// The segments that were cut since they were full, oldest first. Without a history there are
+    /// The segments that were cut because they were full, oldest first. Without a history there are
     /// none.
     full: VecDeque<Trace>,
 }
@@ -25,22 +26,31 @@ impl<C: Channel> Core<C> {
         }
     }
 
-    /// Makes a call. Where the history has no room for it, the next segment begins.
+    /// Makes a call. If the history has no room for it, the next segment begins.
+    #[track_caller]
     #[inline]
     pub(crate) fn call(&mut self, call: impl Fn(&mut C) -> Reply) -> Reply {
-        let told = call(&mut self.channel);
-        if told.status != status::LOG_FULL {
-            return told;
-        }
-        self.begin_segment();
-        let told = call(&mut self.channel);
+        let told = self.try_call(call);
         if told.status == status::LOG_FULL {
             library::refused(told.status);
         }
         told
     }
 
+    /// As `call`, but a limit that has no room even in a new segment is an answer.
+    #[track_caller]
+    #[inline]
+    fn try_call(&mut self, call: impl Fn(&mut C) -> Reply) -> Reply {
+        let told = call(&mut self.channel);
+        if told.status != status::LOG_FULL {
+            return told;
+        }
+        self.begin_segment();
+        call(&mut self.channel)
+    }
+
     // The reply does not pass through here, so that it stays in registers.
+    #[track_caller]
     #[cold]
     fn begin_segment(&mut self) {
         let full = self.channel.cut();
@@ -48,15 +58,20 @@ impl<C: Channel> Core<C> {
     }
 
     /// The number of a new handle.
-    pub(crate) fn new_handle(&mut self, call: impl Fn(&mut C) -> Reply) -> u64 {
-        let told = self.call(call);
+    #[track_caller]
+    pub(crate) fn new_handle(
+        &mut self,
+        call: impl Fn(&mut C) -> Reply,
+    ) -> Result<u64, HandleError> {
+        let told = self.try_call(call);
         match told.status {
-            status::NEW_TX | status::NEW_RX => told.number,
-            other => library::refused(other),
+            status::NEW_TX | status::NEW_RX => Ok(told.number),
+            other => Err(library::limit(other).unwrap_or_else(|| library::refused(other))),
         }
     }
 
-    /// The count that a question is answered with.
+    /// The count that a question returns.
+    #[track_caller]
     pub(crate) fn count(&mut self, call: impl Fn(&mut C) -> Reply) -> usize {
         let told = self.call(call);
         match told.status {
@@ -66,14 +81,25 @@ impl<C: Channel> Core<C> {
     }
 
     /// The oldest segment that was not handed out. Only for a channel that was made with a history.
+    #[track_caller]
     pub(crate) fn cut(&mut self) -> Trace {
         self.full.pop_front().unwrap_or_else(|| self.channel.cut())
     }
 
     /// All segments that were not handed out. Only for a channel that was made with a history.
+    #[track_caller]
     pub(crate) fn cut_all(&mut self) -> VecDeque<Trace> {
         let mut all = std::mem::take(&mut self.full);
         all.push_back(self.channel.cut());
         all
+    }
+}
+
+/// What was made. Panics, in the name of the caller, if it was not.
+#[track_caller]
+pub(crate) fn made<A, E: std::fmt::Display>(result: Result<A, E>) -> A {
+    match result {
+        Ok(made) => made,
+        Err(error) => panic!("{error}"),
     }
 }

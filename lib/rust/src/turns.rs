@@ -3,19 +3,20 @@ use crate::blocking::Patience;
 use std::sync::atomic::{AtomicUsize, Ordering};
 use std::sync::{Mutex, MutexGuard, PoisonError, TryLockError};
 
-/// A call takes less time than it takes to put a thread to sleep. So whoever finds the lock taken
-/// lets others go on for a while before it sleeps.
-const PATIENCE: Patience = Patience {
-    spins: 2,
-    yields: 20,
-};
+/// How long a thread looks for the lock before it sleeps: a few microseconds, while a call takes a
+/// tenth of one. The mutexes of the standard library and of Tokio do the same.
+const PATIENCE: Patience = Patience { spins: 6 };
 
-/// A mutex in which senders come first.
+/// A mutex in which senders come first, but nobody waits for long.
 ///
-/// Without that many receivers have the lock for most of the time, read each value as soon as it
-/// is sent, and sleep; and then each value costs a wake-up for each of them.
+/// If many receivers compete for the lock, they read each value as soon as it is sent, and sleep;
+/// then each value costs a wake-up for each of them. So receivers that find the lock taken queue at
+/// a gate, and only the one inside competes with the senders. It lets waiting senders go first, but
+/// only while its patience lasts.
 pub(crate) struct Turns<T> {
     mutex: Mutex<T>,
+    /// Held by the one receiver that competes for the lock.
+    gate: Mutex<()>,
     /// How many senders wait for the lock.
     senders: AtomicUsize,
 }
@@ -24,26 +25,33 @@ impl<T> Turns<T> {
     pub(crate) fn new(value: T) -> Self {
         Self {
             mutex: Mutex::new(value),
+            gate: Mutex::new(()),
             senders: AtomicUsize::new(0),
         }
     }
 
-    /// The lock for whoever lets senders go first.
+    /// The lock, for a caller that lets senders go first.
     #[inline]
     pub(crate) fn lock(&self) -> MutexGuard<'_, T> {
         match self.lock_behind_senders() {
             Some(guard) => guard,
-            None => self.lock_in_time(Self::lock_behind_senders),
+            None => self.lock_through_gate(),
         }
     }
 
-    /// The lock for a sender.
+    /// The lock, for a sender.
     #[inline]
     pub(crate) fn lock_first(&self) -> MutexGuard<'_, T> {
         match self.try_lock() {
             Some(guard) => guard,
             None => self.lock_before_others(),
         }
+    }
+
+    #[cold]
+    fn lock_through_gate(&self) -> MutexGuard<'_, T> {
+        let _inside = self.gate.lock().unwrap_or_else(PoisonError::into_inner);
+        self.lock_in_time(Self::lock_behind_senders)
     }
 
     #[cold]
@@ -54,7 +62,6 @@ impl<T> Turns<T> {
         guard
     }
 
-    #[cold]
     fn lock_in_time<'a>(
         &'a self,
         attempt: impl Fn(&'a Self) -> Option<MutexGuard<'a, T>>,
@@ -73,8 +80,8 @@ impl<T> Turns<T> {
         }
     }
 
-    /// The lock, if it is free. Where a `clone` of a value has panicked under it, the call was
-    /// made, and nothing is left half done.
+    /// The lock, if it is free. If a `clone` of a value has panicked under it, the call was made,
+    /// and nothing is left half done.
     #[inline]
     fn try_lock(&self) -> Option<MutexGuard<'_, T>> {
         match self.mutex.try_lock() {

@@ -1,21 +1,24 @@
-//! Who waits for news of a channel.
+//! The tasks that wait for news of a channel.
 use std::cell::Cell;
-use std::task::Waker;
+use std::task::{Poll, Waker};
 
-/// The tasks that wait for the same news. It stands under the lock of a channel, so that nobody is
-/// missed.
+/// The tasks that wait for the same news. The channel's lock guards it, so that no task is missed.
 #[derive(Default)]
 pub(crate) struct Waiters {
-    /// How often all were called. A seat that was taken in an earlier round is no longer one's own.
+    /// How often all were called. A seat that was taken in an earlier round is no longer valid.
     round: u64,
     wakers: Vec<Option<Waker>>,
     /// The seats that were left in this round.
     free: Vec<usize>,
 }
 
-/// Where a task waits, if it does. It is given back by [`Waiters::leave`].
+/// The place where a task waits, if it does. [`Waiters::leave`] gives it back.
 #[derive(Default)]
-pub(crate) struct Seat(Option<Place>);
+pub(crate) struct Seat {
+    place: Option<Place>,
+    /// Whether the wait has had its answer.
+    is_done: bool,
+}
 
 #[derive(Clone, Copy)]
 struct Place {
@@ -25,23 +28,29 @@ struct Place {
 
 impl Seat {
     pub(crate) fn is_taken(&self) -> bool {
-        self.0.is_some()
+        self.place.is_some()
+    }
+
+    /// Panics if the wait has had its answer: a future must not take a second one.
+    #[inline]
+    pub(crate) fn expect_waiting(&self, future: &str) {
+        assert!(!self.is_done, "`{future}` was polled after it was ready");
     }
 }
 
 impl Waiters {
-    /// Has the waker called with the next news. What it takes the place of has to be dropped after
-    /// the lock is let go, since that may run a task's own code.
+    /// Registers a waker for the next news. Drop the waker that it replaces only after the lock is
+    /// released, since that may run a task's own code.
     #[must_use]
     pub(crate) fn sit(&mut self, seat: &mut Seat, waker: &Waker) -> Option<Waker> {
-        let index = match seat.0 {
+        let index = match seat.place {
             Some(place) if place.round == self.round => place.index,
             _ => self.free_seat(),
         };
-        *seat = Seat(Some(Place {
+        seat.place = Some(Place {
             round: self.round,
             index,
-        }));
+        });
         match &mut self.wakers[index] {
             Some(here) if here.will_wake(waker) => None,
             here => here.replace(waker.clone()),
@@ -55,15 +64,36 @@ impl Waiters {
         })
     }
 
-    /// Gives the seat back. The waker has to be dropped after the lock is let go.
+    /// Gives the seat back. Drop the waker only after the lock is released.
     #[must_use]
     pub(crate) fn leave(&mut self, seat: &mut Seat) -> Option<Waker> {
-        let place = seat.0.take().filter(|place| place.round == self.round)?;
+        let place = seat
+            .place
+            .take()
+            .filter(|place| place.round == self.round)?;
         self.free.push(place.index);
         self.wakers[place.index].take()
     }
 
-    /// All who wait, to be woken once the lock is let go.
+    /// The outcome of a poll: with an answer the wait is over, and without one it continues. Drop
+    /// the waker only after the lock is released.
+    #[inline]
+    pub(crate) fn poll<A>(
+        &mut self,
+        seat: &mut Seat,
+        waker: &Waker,
+        answer: Option<A>,
+    ) -> (Poll<A>, Option<Waker>) {
+        match answer {
+            Some(answer) => {
+                seat.is_done = true;
+                (Poll::Ready(answer), self.leave(seat))
+            }
+            None => (Poll::Pending, self.sit(seat, waker)),
+        }
+    }
+
+    /// All tasks that wait, to be woken once the lock is released.
     #[inline]
     pub(crate) fn call(&mut self) -> Called {
         if self.wakers.is_empty() {
@@ -107,7 +137,7 @@ impl Called {
 #[inline(never)]
 fn wake_all(mut wakers: Vec<Option<Waker>>) {
     wakers.drain(..).flatten().for_each(Waker::wake);
-    // A thread that is at its end has no spare list any more.
+    // A thread that is ending has no spare list any more.
     let _ = SPARE.try_with(|spare| spare.set(wakers));
 }
 
@@ -198,7 +228,8 @@ mod tests {
         waiters.call().wake();
         assert_eq!(other.0.load(Ordering::Relaxed), 1);
     }
-    /// What may happen to two seats. Between a call and its wake is time, since the lock is let go.
+    /// What may happen to two seats. Time passes between a call and its wake, since the lock is
+    /// released.
     #[derive(Clone, Copy, Debug)]
     enum Step {
         Sit(usize),
@@ -216,7 +247,7 @@ mod tests {
         Step::Wake,
     ];
 
-    /// Takes the steps, with a new waker for each who sits: a wake calls each waker that waited at
+    /// Takes the steps, with a new waker for each seat: a wake calls each waker that waited at
     /// its call, once, and no other one.
     fn take(steps: &[Step]) {
         let mut waiters = Waiters::default();

@@ -10,7 +10,7 @@ use std::sync::Arc;
 use std::task::Poll;
 use topichub::broadcast::error::{RecvError, SendError, TryRecvError};
 use topichub::broadcast::{self, Builder, Sender};
-use topichub::BuildError;
+use topichub::{BuildError, HandleError};
 
 #[test]
 fn each_value_goes_to_each_receiver_in_order() {
@@ -143,14 +143,14 @@ fn a_value_is_kept_until_its_last_reader_and_that_one_gets_it_uncloned() {
     assert_eq!(count(), (1, 1));
     assert_eq!(second.try_recv().ok().map(|value| value.number), Some(0));
     assert_eq!(count(), (1, 2));
-    // The second value is let go when the last receiver that has not read it is dropped.
+    // The second value is dropped with the last receiver that has not read it.
     drop(first);
     assert_eq!(count(), (1, 2));
     drop(second);
     assert_eq!(count(), (1, 3));
     assert!(tx.send(made(2)).is_err());
     assert_eq!(count(), (1, 4));
-    // A value that no receiver has read is let go when it falls out of the window, and with the
+    // A value that no receiver has read is dropped when it falls out of the window, and with the
     // channel.
     let late = tx.subscribe();
     for number in 3..6 {
@@ -229,8 +229,139 @@ fn the_receivers_end_where_the_limit_is() {
     let all: Vec<_> = (1..65_535).map(|_| tx.subscribe()).collect();
     assert_eq!(tx.receiver_count(), 65_535);
     assert!(catch_unwind(AssertUnwindSafe(|| rx.resubscribe())).is_err());
+    assert_eq!(rx.try_resubscribe().err(), Some(HandleError::TooMany));
+    assert_eq!(tx.try_subscribe().err(), Some(HandleError::TooMany));
+    assert_eq!(tx.try_subscribe_oldest().err(), Some(HandleError::TooMany));
     drop(all);
-    assert_eq!(tx.subscribe().try_recv(), Err(TryRecvError::Empty));
+    assert_eq!(
+        tx.try_subscribe().unwrap().try_recv(),
+        Err(TryRecvError::Empty)
+    );
+    assert!(tx.try_subscribe_oldest().is_ok() && rx.try_resubscribe().is_ok());
+}
+
+#[test]
+fn the_senders_end_where_the_limit_is() {
+    let (tx, rx) = broadcast::channel::<u8>(1);
+    let weak = tx.downgrade();
+    let all: Vec<_> = (1..65_535).map(|_| tx.try_clone().unwrap()).collect();
+    assert_eq!(rx.sender_strong_count(), 65_535);
+    assert_eq!(tx.try_clone().err(), Some(HandleError::TooMany));
+    let upgraded = weak.try_upgrade().unwrap();
+    assert_eq!(upgraded.err(), Some(HandleError::TooMany));
+    assert!(catch_unwind(AssertUnwindSafe(|| tx.clone())).is_err());
+    assert_eq!(rx.sender_strong_count(), 65_535);
+    drop(all);
+    assert!(weak.try_upgrade().unwrap().unwrap().same_channel(&tx));
+    drop(tx);
+    assert!(weak.try_upgrade().is_none() && rx.is_closed());
+}
+
+#[test]
+fn a_history_without_room_for_a_handle_is_an_error() {
+    let (tx, rx, recording) = Builder::new(1).recorded(3).build::<u8>().unwrap();
+    assert_eq!(tx.try_subscribe().err(), Some(HandleError::Limit));
+    assert_eq!(tx.try_clone().err(), Some(HandleError::Limit));
+    assert_eq!(rx.try_resubscribe().err(), Some(HandleError::Limit));
+    assert_eq!(
+        (tx.strong_count(), recording.trace().is_empty()),
+        (1, false)
+    );
+    assert_eq!(
+        HandleError::TooMany.to_string(),
+        "the channel has 65,535 handles of this kind"
+    );
+}
+
+#[test]
+fn the_greatest_capacity_is_kept() {
+    let (tx, mut rx) = Builder::new(65_536).build().unwrap();
+    tx.send_many((0..65_537).collect()).unwrap();
+    assert_eq!(rx.try_recv(), Err(TryRecvError::Lagged(1)));
+    assert_eq!((rx.try_recv(), rx.len()), (Ok(1), 65_535));
+}
+
+#[test]
+fn a_sender_can_wait_until_nobody_receives() {
+    let (tx, rx) = broadcast::channel::<u8>(1);
+    let other = rx.resubscribe();
+    let (calls, waker) = Calls::new();
+    let mut waiting = tx.closed();
+    assert_eq!(poll(&mut waiting, &waker), Poll::Pending);
+    drop(rx);
+    assert_eq!(calls.count(), 0);
+    drop(other);
+    assert_eq!(calls.count(), 1);
+    // A receiver that comes before the task is polled again keeps it waiting.
+    let late = tx.subscribe();
+    assert_eq!(poll(&mut waiting, &waker), Poll::Pending);
+    drop(late);
+    assert_eq!(calls.count(), 2);
+    assert_eq!(poll(&mut waiting, &waker), Poll::Ready(()));
+    assert_eq!(block_on(Sender::<u8>::new(1).closed()), ());
+}
+
+#[test]
+fn a_weak_sender_does_not_keep_a_channel_open() {
+    let (tx, mut rx) = broadcast::channel(4);
+    let other = tx.clone();
+    let weak = tx.downgrade();
+    let second = weak.clone();
+    assert_eq!((tx.strong_count(), tx.weak_count()), (2, 2));
+    assert_eq!((weak.strong_count(), weak.weak_count()), (2, 2));
+    assert_eq!((rx.sender_strong_count(), rx.sender_weak_count()), (2, 2));
+    drop((tx, second));
+    assert_eq!((rx.sender_strong_count(), rx.sender_weak_count()), (1, 1));
+    let again = weak.upgrade().unwrap();
+    assert!(again.same_channel(&other));
+    drop(other);
+    assert_eq!(again.send(1), Ok(1));
+    assert!(!rx.is_closed());
+    drop(again);
+    assert!(rx.is_closed() && weak.upgrade().is_none());
+    assert_eq!(rx.try_recv(), Ok(1));
+    assert_eq!(rx.try_recv(), Err(TryRecvError::Closed));
+    assert_eq!(format!("{weak:?}"), "broadcast::WeakSender");
+}
+
+#[test]
+fn an_upgrade_is_a_clone_in_the_recording() {
+    let (tx, rx, recording) = Builder::new(1).recorded(100).build::<u8>().unwrap();
+    let weak = tx.downgrade();
+    drop(weak.upgrade());
+    assert_eq!((tx.strong_count(), rx.sender_weak_count()), (1, 1));
+    let trace = recording.trace();
+    assert!(
+        trace.ends_with("C clone-tx 1\nR new-tx 3\nC drop-tx 3\nR done\nEND 3\n"),
+        "{trace}"
+    );
+}
+
+#[test]
+fn a_sender_needs_no_values_that_can_be_cloned() {
+    struct Whole;
+    let tx = Sender::<Whole>::new(1);
+    let rx = tx.subscribe();
+    assert!(tx.send(Whole).is_ok() && !rx.is_empty());
+}
+
+#[test]
+fn a_receive_that_was_ready_takes_no_second_value() {
+    let (tx, mut rx) = broadcast::channel(4);
+    tx.send(1).unwrap();
+    tx.send(2).unwrap();
+    let (_, waker) = Calls::new();
+    let mut receive = rx.recv();
+    assert_eq!(poll(&mut receive, &waker), Poll::Ready(Ok(1)));
+    let again = catch_unwind(AssertUnwindSafe(|| poll(&mut receive, &waker)));
+    let said = again.unwrap_err().downcast::<String>().unwrap();
+    assert!(said.contains("broadcast::Recv"), "{said}");
+    drop(receive);
+    assert_eq!(rx.try_recv(), Ok(2));
+    drop(rx);
+    let mut closed = tx.closed();
+    assert_eq!(poll(&mut closed, &waker), Poll::Ready(()));
+    assert!(catch_unwind(AssertUnwindSafe(|| poll(&mut closed, &waker))).is_err());
 }
 
 #[derive(Debug)]
@@ -275,4 +406,7 @@ fn handles_go_to_threads_where_the_values_do() {
     goes::<broadcast::Sender<Cell<u8>>>();
     goes::<broadcast::Receiver<Cell<u8>>>();
     goes::<broadcast::Recording<Cell<u8>>>();
+    goes::<broadcast::WeakSender<Cell<u8>>>();
+    goes::<broadcast::Recv<'_, Cell<u8>>>();
+    goes::<broadcast::Closed<'_, Cell<u8>>>();
 }

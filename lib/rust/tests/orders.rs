@@ -95,7 +95,7 @@ fn run(choices: &mut Choices, mut tasks: Vec<Task>, mut others: Vec<Steps>) {
             Some(&task) => tasks[task].go_on(),
             None => {
                 let step = others[choice - awake.len()].pop();
-                step.expect("who has no step left is not chosen")();
+                step.expect("a list without a step is not chosen")();
             }
         }
     }
@@ -115,7 +115,7 @@ fn in_every_order(mut made: impl FnMut() -> (Vec<Task>, Vec<Steps>)) -> u64 {
     }
 }
 
-/// Polls a future once, and lets it go.
+/// Polls a future once, and drops it.
 struct AtOnce<F>(Option<F>);
 
 impl<F: Future + Unpin> Future for AtOnce<F> {
@@ -134,7 +134,7 @@ fn at_once<F: Future + Unpin>(future: F) -> AtOnce<F> {
     AtOnce(Some(future))
 }
 
-/// Receives until each value of so many is told or missed, in their order. Who is impatient lets a
+/// Receives until this many values came or were missed, in their order. An impatient one drops a
 /// wait go first, each time.
 async fn receive(rx: &mut broadcast::Receiver<u64>, sent: u64, is_impatient: bool) {
     let mut next = 0;
@@ -164,7 +164,7 @@ async fn receive_to_the_end(mut rx: broadcast::Receiver<u64>, sent: u64, is_impa
     assert_eq!(rx.recv().await, Err(RecvError::Closed));
 }
 
-/// The calls of a sender: so many sends, and its end.
+/// The calls of a sender: this many sends, and its end.
 fn sends(tx: broadcast::Sender<u64>, count: u64) -> Steps {
     let tx = Rc::new(tx);
     let mut steps: Steps = Vec::new();
@@ -210,7 +210,7 @@ fn receivers_are_woken_by_the_end_of_the_last_sender() {
     assert!(runs > 1_000, "{runs}");
 }
 
-/// Waits for publications until the newest value is this one. Who is impatient lets a wait go
+/// Waits for publications until the newest value is this one. An impatient one drops a wait go
 /// first, each time.
 async fn follow(rx: &mut watch::Receiver<u64>, last: u64, is_impatient: bool) {
     while *rx.borrow() < last {
@@ -232,7 +232,7 @@ async fn follow_to_the_end(mut rx: watch::Receiver<u64>, last: u64, is_impatient
     assert_eq!(*rx.borrow(), last);
 }
 
-/// The calls of a sender: so many publications, and its end.
+/// The calls of a sender: this many publications, and its end.
 fn publications(tx: watch::Sender<u64>, count: u64) -> Steps {
     let tx = Rc::new(tx);
     let mut steps: Steps = Vec::new();
@@ -291,4 +291,72 @@ fn senders_are_woken_by_the_end_of_the_last_reader() {
         (tasks, vec![cloned, vec![Box::new(move || drop(second))]])
     });
     assert!(runs > 10, "{runs}");
+}
+
+#[test]
+fn senders_are_woken_by_the_end_of_the_last_receiver() {
+    let runs = in_every_order(|| {
+        let (tx, rx) = broadcast::channel::<u64>(2);
+        let (other, second) = (tx.clone(), tx.subscribe());
+        let tasks = vec![
+            Task::new(async move { tx.closed().await }),
+            Task::new(async move {
+                at_once(other.closed()).await;
+                other.closed().await;
+            }),
+        ];
+        let again: Steps = vec![Box::new(move || drop(rx.resubscribe())), Box::new(|| ())];
+        (tasks, vec![again, vec![Box::new(move || drop(second))]])
+    });
+    assert!(runs > 10, "{runs}");
+}
+
+/// A future that a closure polls: `std::future::poll_fn` came with Rust 1.64.
+struct Polls<F>(F);
+
+impl<A, F: FnMut(&mut Context<'_>) -> Poll<A> + Unpin> Future for Polls<F> {
+    type Output = A;
+
+    fn poll(mut self: Pin<&mut Self>, context: &mut Context<'_>) -> Poll<A> {
+        (self.0)(context)
+    }
+}
+
+/// Receives to the end by polls without a future, as a stream does.
+async fn poll_to_the_end(mut rx: broadcast::Receiver<u64>, sent: u64) {
+    let mut next = 0;
+    loop {
+        match Polls(|context: &mut Context<'_>| rx.poll_recv(context)).await {
+            Ok(value) => {
+                assert_eq!(value, next);
+                next += 1;
+            }
+            Err(RecvError::Lagged(missed)) => next += missed,
+            Err(RecvError::Closed) => return assert_eq!(next, sent),
+        }
+    }
+}
+
+#[test]
+fn polls_without_a_future_are_woken_too() {
+    let runs = in_every_order(|| {
+        let (tx, rx) = broadcast::channel(2);
+        let tasks = vec![
+            Task::new(poll_to_the_end(tx.subscribe(), 2)),
+            Task::new(poll_to_the_end(rx, 2)),
+        ];
+        (tasks, vec![sends(tx, 2)])
+    });
+    assert!(runs > 10, "{runs}");
+    in_every_order(|| {
+        let (tx, mut rx) = watch::channel(0);
+        let polling = async move {
+            while Polls(|context: &mut Context<'_>| rx.poll_changed(context))
+                .await
+                .is_ok()
+            {}
+            assert_eq!(*rx.borrow(), 2);
+        };
+        (vec![Task::new(polling)], vec![publications(tx, 2)])
+    });
 }

@@ -1,4 +1,4 @@
-//! Threads on one channel: what each is told fits together, and the whole run is legal.
+//! Threads on one channel: what each receives fits together, and the whole run is legal.
 mod common;
 
 use common::{block_on, Dice};
@@ -10,7 +10,7 @@ const RUNS: u64 = 30;
 const SENDERS: u64 = 2;
 const EACH: u64 = 200;
 
-/// What a receiver is told to the end, by one of three kinds of receives at random. From its last
+/// What a receiver gets until the end, by one of three kinds of receives at random. From its last
 /// subscription on it misses nothing but what lags count. Answered is what it was told then, and
 /// how many it missed.
 fn receive_all(mut rx: broadcast::Receiver<(u64, u64)>, seed: u64) -> (Vec<(u64, u64)>, u64) {
@@ -85,6 +85,7 @@ fn runs_of_a_broadcast_channel_are_legal() {
                             2 => drop(tx.subscribe_oldest()),
                             3 => assert!(tx.receiver_count() <= 3 + SENDERS as usize + 3),
                             4 => assert!(tx.len() <= 8),
+                            5 => drop(tx.downgrade().upgrade()),
                             _ => {}
                         }
                     }

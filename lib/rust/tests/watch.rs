@@ -5,7 +5,7 @@ use common::{block_on, poll, Calls};
 use std::panic::{catch_unwind, AssertUnwindSafe};
 use std::task::Poll;
 use topichub::watch::{self, error::SendError, Builder, Sender};
-use topichub::BuildError;
+use topichub::{BuildError, HandleError};
 
 #[test]
 fn a_change_is_told_once_and_the_newest_value_is_shown() {
@@ -161,6 +161,135 @@ fn a_wait_for_a_value_ends_with_it_or_with_the_channel() {
     drop(waiting);
     drop(tx);
     assert!(block_on(rx.wait_for(|value| *value == 4)).is_err());
+}
+
+#[test]
+fn the_handles_end_where_the_limit_is() {
+    let (tx, rx) = watch::channel(1);
+    let all: Vec<_> = (1..65_535).map(|_| rx.try_clone().unwrap()).collect();
+    assert_eq!(tx.receiver_count(), 65_535);
+    assert_eq!(rx.try_clone().err(), Some(HandleError::TooMany));
+    assert_eq!(tx.try_subscribe().err(), Some(HandleError::TooMany));
+    assert!(catch_unwind(AssertUnwindSafe(|| rx.clone())).is_err());
+    drop(all);
+    assert!(tx.try_subscribe().is_ok() && rx.try_clone().is_ok());
+    let all: Vec<_> = (1..65_535).map(|_| tx.try_clone().unwrap()).collect();
+    assert_eq!(tx.sender_count(), 65_535);
+    assert_eq!(tx.try_clone().err(), Some(HandleError::TooMany));
+    drop(all);
+    assert_eq!((tx.sender_count(), tx.receiver_count()), (1, 1));
+}
+
+#[test]
+fn one_receiver_may_be_shared_by_all_that_only_look() {
+    let (tx, rx) = watch::channel(1);
+    let shared = std::sync::Arc::new(rx);
+    std::thread::scope(|scope| {
+        for _ in 0..3 {
+            let shared = std::sync::Arc::clone(&shared);
+            scope.spawn(move || while *shared.borrow() != 2 {});
+        }
+        tx.send(2).unwrap();
+    });
+    assert_eq!(tx.receiver_count(), 1);
+}
+
+/// A channel without a history answers some questions without its library: it says what one with a
+/// history says, which asks.
+#[test]
+fn a_question_without_the_lock_has_the_answer_of_the_library() {
+    type Ends = (Vec<Sender<u64>>, Vec<watch::Receiver<u64>>);
+
+    fn answers((senders, receivers): &Ends) -> (Vec<bool>, Vec<Result<bool, ()>>) {
+        let closed = senders.iter().map(Sender::is_closed).collect();
+        let changed = receivers
+            .iter()
+            .map(|it| it.has_changed().map_err(|_| ()))
+            .collect();
+        (closed, changed)
+    }
+
+    fn step((senders, receivers): &mut Ends, choice: u64, who: usize) {
+        let (tx, rx) = (who % senders.len().max(1), who % receivers.len().max(1));
+        match (choice, senders.get(tx), receivers.get_mut(rx)) {
+            (0, Some(tx), _) => drop(tx.send(1)),
+            (1, Some(tx), _) => drop(tx.send_replace(2)),
+            (2, Some(tx), _) => tx.send_modify(|value| *value += 1),
+            (3, Some(tx), _) => drop(tx.send_if_modified(|value| std::mem::replace(value, 7) == 8)),
+            (4, Some(tx), _) => receivers.push(tx.subscribe()),
+            (5, Some(tx), _) => senders.push(tx.clone()),
+            (6, Some(_), _) if who % 8 == 0 => drop(senders.swap_remove(tx)),
+            (7, _, Some(rx)) => drop(rx.borrow_and_update()),
+            (8, _, Some(rx)) => rx.mark_changed(),
+            (9, _, Some(rx)) => rx.mark_unchanged(),
+            (10, _, Some(rx)) => {
+                let another = rx.clone();
+                receivers.push(another);
+            }
+            (11, _, Some(_)) => drop(receivers.swap_remove(rx)),
+            (12, _, Some(rx)) => drop(poll(&mut rx.changed(), &Calls::new().1)),
+            (13, _, Some(rx)) => drop(rx.borrow()),
+            (14, _, Some(rx)) => {
+                let mut waiting = Box::pin(rx.wait_for(|value| *value > 2));
+                drop(poll(&mut waiting, &Calls::new().1).map(|it| it.map(drop)));
+            }
+            _ => {}
+        }
+    }
+
+    let mut dice = common::Dice::new(1);
+    for _ in 0..200 {
+        let (tx, rx) = watch::channel(0);
+        let mut plain: Ends = (vec![tx], vec![rx]);
+        let (tx, rx, recording) = Builder::new(0).recorded(1_000_000).build().unwrap();
+        let mut recorded: Ends = (vec![tx], vec![rx]);
+        for _ in 0..100 {
+            let (choice, who) = (dice.below(15), dice.below(64) as usize);
+            step(&mut plain, choice, who);
+            step(&mut recorded, choice, who);
+            assert_eq!(answers(&plain), answers(&recorded));
+        }
+        let verdict = topichub::check(recording.trace().as_bytes());
+        assert!(matches!(verdict, topichub::Verdict::Legal(_)));
+    }
+}
+
+#[test]
+fn senders_are_counted() {
+    let (tx, _rx) = watch::channel(1);
+    let other = tx.clone();
+    assert_eq!(tx.sender_count(), 2);
+    drop(tx);
+    assert_eq!(other.sender_count(), 1);
+}
+
+#[test]
+fn an_error_of_any_value_can_be_told() {
+    struct Whole;
+    let error: Box<dyn std::error::Error> = Box::new(SendError(Whole));
+    assert_eq!(
+        format!("{error:?} {error}"),
+        "SendError { .. } channel closed"
+    );
+}
+
+#[test]
+fn a_wait_that_was_ready_marks_nothing_more() {
+    let (tx, mut rx) = watch::channel(1);
+    let (_, waker) = Calls::new();
+    tx.send(2).unwrap();
+    let mut changed = rx.changed();
+    assert_eq!(poll(&mut changed, &waker), Poll::Ready(Ok(())));
+    tx.send(3).unwrap();
+    let again = catch_unwind(AssertUnwindSafe(|| poll(&mut changed, &waker)));
+    let said = again.unwrap_err().downcast::<String>().unwrap();
+    assert!(said.contains("watch::Changed"), "{said}");
+    drop(changed);
+    assert_eq!(rx.has_changed(), Ok(true));
+    drop(rx);
+    let mut closed = tx.closed();
+    assert_eq!(poll(&mut closed, &waker), Poll::Ready(()));
+    assert!(catch_unwind(AssertUnwindSafe(|| poll(&mut closed, &waker))).is_err());
 }
 
 #[test]

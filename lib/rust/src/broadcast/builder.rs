@@ -1,29 +1,29 @@
-//! How a broadcast channel is made, and what is recorded of one.
+//! The builder of a broadcast channel, and the record of one.
 use super::kept::Kept;
 use super::{Receiver, Sender, Shared, State};
 use crate::library;
 use crate::recording::{Core, FIRST_SENDER, LEAST_LIMIT};
 use crate::waiting::Waiters;
-use crate::BuildError;
+use crate::{BuildError, HandleError};
 use std::fmt;
 use std::sync::Arc;
 
-/// How a channel is made.
+/// Builds a channel.
 #[derive(Clone, Copy, Debug)]
 pub struct Builder {
     capacity: usize,
 }
 
 impl Builder {
-    /// For a channel that keeps at least `capacity` values: 1 to 65,536, rounded up to a power of
-    /// two.
+    /// A builder for a channel that keeps at least `capacity` values: 1 to 65,536, rounded up to a
+    /// power of two.
     pub fn new(capacity: usize) -> Self {
         Self { capacity }
     }
 
-    /// Has the channel note each call with its reply. `limit` is the most entries of one trace, 3
-    /// to 1,000,000. Room for the drop of each live handle is kept within it, so it should be well
-    /// above their number.
+    /// Makes the channel record each call with its reply. `limit`, 3 to 1,000,000, is the maximum
+    /// number of entries in one trace. Room for the drop of each live handle is reserved in it, so
+    /// choose it well above their number.
     pub fn recorded(self, limit: u64) -> RecordedBuilder {
         RecordedBuilder {
             builder: self,
@@ -32,21 +32,32 @@ impl Builder {
     }
 
     /// Makes the channel, with a sender and a receiver.
+    #[track_caller]
     pub fn build<T: Clone>(self) -> Result<(Sender<T>, Receiver<T>), BuildError> {
         self.made(None)
     }
 
-    fn made<T>(self, limit: Option<u64>) -> Result<(Sender<T>, Receiver<T>), BuildError> {
+    #[track_caller]
+    pub(super) fn made<T>(
+        self,
+        limit: Option<u64>,
+    ) -> Result<(Sender<T>, Receiver<T>), BuildError> {
         let core = Core::new(library::Broadcast::new(self.capacity as u64, limit)?);
         let mut state = State {
             core,
             kept: Kept::new(self.capacity),
-            senders: 1,
+            senders: [FIRST_SENDER].into(),
+            weak_senders: 0,
+            receivers: 0,
             waiting: Waiters::default(),
+            leaving: Waiters::default(),
         };
         let receiver = state
-            .core
-            .new_handle(|channel| channel.subscribe(FIRST_SENDER));
+            .new_receiver(|channel| channel.subscribe(FIRST_SENDER))
+            .map_err(|error| match error {
+                HandleError::Memory => BuildError::Memory,
+                HandleError::TooMany | HandleError::Limit => BuildError::Limit,
+            })?;
         let shared = Shared::new(state);
         Ok((
             Sender {
@@ -58,10 +69,10 @@ impl Builder {
     }
 }
 
-/// A channel that notes its calls.
+/// A channel that records its calls.
 pub type Recorded<T> = (Sender<T>, Receiver<T>, Recording<T>);
 
-/// How a channel is made that notes its calls.
+/// Builds a channel that records its calls.
 #[derive(Clone, Copy, Debug)]
 pub struct RecordedBuilder {
     builder: Builder,
@@ -69,7 +80,8 @@ pub struct RecordedBuilder {
 }
 
 impl RecordedBuilder {
-    /// Makes the channel, with a sender, a receiver and what is recorded.
+    /// Makes the channel, with a sender, a receiver and the record.
+    #[track_caller]
     pub fn build<T: Clone>(self) -> Result<Recorded<T>, BuildError> {
         if self.limit < LEAST_LIMIT {
             return Err(BuildError::Limit);
@@ -82,34 +94,36 @@ impl RecordedBuilder {
     }
 }
 
-/// What is recorded of a channel. It is no handle of the channel, and outlives all of them.
+/// The record of a channel. It is not a handle of the channel, and may outlive all of them.
 pub struct Recording<T> {
     shared: Arc<Shared<T>>,
 }
 
 impl<T> Recording<T> {
-    /// What was called and answered, as a trace that [`check`](crate::check) and `topichub check`
+    /// The calls and their replies, as a trace that [`check`](crate::check) and `topichub check`
     /// read.
     ///
-    /// Each call hands out the next part, from where the last one ended: all that happened since,
-    /// or, where that is more than the limit, its first part, of which the history was full. `END
-    /// 0` says that nothing has happened. What is not handed out is kept. A value stands in a trace
-    /// as the number of values that were sent before it.
+    /// Each call returns the next part, from where the last one ended: everything since then, or,
+    /// if that is more than the limit, the first part that filled it. `END 0` means that nothing
+    /// has happened. What has not been returned is kept. In a trace a value is written as the
+    /// number of values that were sent before it.
     ///
     /// # Panics
     ///
-    /// Where memory is refused.
+    /// If memory is refused.
+    #[track_caller]
     pub fn trace(&self) -> String {
         let segment = self.shared.lock().core.cut();
         segment.into_text()
     }
 
-    /// Lets go of what was not handed out, without making a text of it. What happens from now on is
-    /// in the next trace.
+    /// Discards what has not been returned, without making a text of it. The next trace begins
+    /// here.
     ///
     /// # Panics
     ///
-    /// Where memory is refused.
+    /// If memory is refused.
+    #[track_caller]
     pub fn discard(&self) {
         let discarded = self.shared.lock().core.cut_all();
         drop(discarded);

@@ -1,13 +1,13 @@
 //! The values that a broadcast channel keeps.
 
-/// The values, each in the slot at its number's low bits. To put one in, to read one and to take
-/// one out costs a look at one slot, and takes no memory.
+/// The values, each in the slot at its number's low bits. Putting one in, reading one and taking
+/// one out each access one slot, and allocate nothing.
 pub(super) struct Kept<T> {
-    /// As many as the channel keeps at most, a power of two.
+    /// One for each value that the channel can keep, a power of two.
     slots: Box<[Option<T>]>,
     /// How many values were sent: the number of the next one.
     sent: u64,
-    /// The number of the oldest value that is kept, or of the next one where none is.
+    /// The number of the oldest value that is kept, or of the next one if none is.
     oldest: u64,
 }
 
@@ -30,8 +30,8 @@ impl<T> Kept<T> {
         &mut self.slots[number as usize & low_bits]
     }
 
-    /// Keeps the next value, where the channel lets go of so many, and answers the one that it
-    /// takes the place of.
+    /// Keeps the next value, while the channel drops this many, and returns the one that it
+    /// replaces.
     #[inline]
     pub(super) fn push(&mut self, value: T, let_go: u32) -> Option<T> {
         let number = self.sent;
@@ -40,7 +40,7 @@ impl<T> Kept<T> {
         self.slot(number).replace(value)
     }
 
-    /// The value with this number: a clone, or the value itself where the channel lets go of it.
+    /// The value with this number: a clone, or the value itself if the channel drops it.
     #[inline]
     pub(super) fn read(&mut self, number: u64, let_go: u32) -> Option<T>
     where
@@ -55,7 +55,7 @@ impl<T> Kept<T> {
         }
     }
 
-    /// The oldest values, of which the channel lets go of so many.
+    /// The oldest values, this many, which the channel drops.
     pub(super) fn take_oldest(&mut self, let_go: u32) -> Vec<T> {
         let from = self.oldest;
         self.oldest += u64::from(let_go);

@@ -5,9 +5,9 @@
 //!
 //! # Lagging
 //!
-//! The channel keeps the newest values, as many as its capacity (rounded up to a power of two). A
-//! receiver that has not read a value when it is let go is told
-//! [`Lagged`](error::RecvError::Lagged) with the number of values that it missed, and goes on with
+//! The channel keeps the newest values, as many as its capacity (rounded up to a power of two). If
+//! the channel drops values that a receiver has not read, the receiver gets
+//! [`Lagged`](error::RecvError::Lagged) with the number of values that it missed, and continues with
 //! the oldest value that is kept.
 //!
 //! # Closing
@@ -19,12 +19,15 @@
 //!
 //! - At most 65,535 senders and as many receivers are live at a time, and the capacity is at most
 //!   65,536.
-//! - `T` is cloned under the lock of the channel: a `clone` of it must not use the same channel,
-//!   and where it takes long an `Arc` is better. The last receiver of a value gets the value
-//!   itself.
-//! - [`Sender::subscribe_oldest`] has no counterpart there.
-//! - `WeakSender` and `Sender::closed` are not here, and the streams of `tokio-stream` take Tokio's
-//!   own receivers.
+//! - `T` is cloned under the channel's lock: its `clone` must not use the same channel, and if it
+//!   takes long, an `Arc` is better. The last receiver of a value gets the value itself.
+//! - The futures are [`Unpin`], and take no part in the cooperative budget of Tokio's tasks.
+//! - Tokio has no [`Sender::subscribe_oldest`], [`Sender::send_many`], [`Receiver::recv_many`] with
+//!   its two companions, [`Receiver::poll_recv`], [`Receiver::recv_timeout`],
+//!   [`Receiver::recv_deadline`], nor the calls that begin with `try_` and return a
+//!   [`HandleError`].
+//! - The streams of `tokio-stream` take Tokio's own receivers. The crate `topichub-streams` has
+//!   streams over these.
 //!
 //! # Examples
 //!
@@ -50,35 +53,44 @@ mod receiver;
 mod sender;
 
 pub use builder::{Builder, Recorded, RecordedBuilder, Recording};
-pub use receiver::{Receiver, Recv};
-pub use sender::Sender;
+pub use receiver::{Receiver, Recv, RecvMany};
+pub use sender::{Closed, Sender, WeakSender};
 
 use crate::library::{self, status, Reply};
-use crate::recording::Core;
+use crate::recording::{made, Core};
 use crate::turns::Turns;
 use crate::waiting::Waiters;
+use crate::HandleError;
 use error::{RecvError, TryRecvError};
 use kept::Kept;
+use std::collections::BTreeSet;
 use std::sync::atomic::AtomicU64;
 use std::sync::{Arc, MutexGuard};
 
-/// What all handles of a channel have in common. The lock is held for one call at a time.
+/// What all handles of a channel share. The lock is held for one call at a time.
 struct Shared<T> {
     state: Turns<State<T>>,
-    /// How many values were sent, or all ones once no sender is left. By it a receiver sees without
-    /// the lock whether it is worth while to ask. It decides no reply.
+    /// How many values were sent, or [`CLOSED`]. By it a receiver sees without the lock whether it
+    /// is worth asking.
     reached: AtomicU64,
 }
 
+/// What [`Shared::reached`] is once no sender is left.
+const CLOSED: u64 = u64::MAX;
+
 struct State<T> {
-    /// The channel, of numbers: it holds for each value the number of those that were sent before
-    /// it.
+    /// The channel of numbers: for each value it keeps the number of values that were sent before.
     core: Core<library::Broadcast>,
     /// The values that the channel keeps.
     kept: Kept<T>,
-    /// How many senders are live.
-    senders: usize,
+    /// The numbers of the live senders.
+    senders: BTreeSet<u64>,
+    weak_senders: usize,
+    receivers: usize,
+    /// The receivers that wait for a value.
     waiting: Waiters,
+    /// The senders that wait for the last receiver to go.
+    leaving: Waiters,
 }
 
 impl<T> Shared<T> {
@@ -94,9 +106,42 @@ impl<T> Shared<T> {
     }
 }
 
+impl<T> State<T> {
+    /// Sends a value. Returned are the number of receivers and the value that the channel drops to
+    /// make room, or the value itself if it cannot be sent.
+    #[track_caller]
+    #[inline]
+    fn send(&mut self, id: u64, value: T) -> Result<(usize, Option<T>), T> {
+        let number = self.kept.sent();
+        let told = self.core.call(|channel| channel.send(id, number));
+        match told.status {
+            status::SENT => Ok((told.number as usize, self.kept.push(value, told.let_go))),
+            status::NO_RECEIVERS | status::EXHAUSTED => Err(value),
+            other => library::refused(other),
+        }
+    }
+
+    #[track_caller]
+    fn new_receiver(
+        &mut self,
+        call: impl Fn(&mut library::Broadcast) -> Reply,
+    ) -> Result<u64, HandleError> {
+        let id = self.core.new_handle(call)?;
+        self.receivers += 1;
+        Ok(id)
+    }
+
+    #[track_caller]
+    fn new_sender(&mut self, by: u64) -> Result<u64, HandleError> {
+        let id = self.core.new_handle(|channel| channel.clone_tx(by))?;
+        self.senders.insert(id);
+        Ok(id)
+    }
+}
+
 impl<T: Clone> State<T> {
-    /// What a receiver is told now. `next` becomes the number of its next value, where that is
-    /// known.
+    /// What a receiver gets now. `next` becomes the number of its next value, if that is known.
+    #[track_caller]
     #[inline]
     fn try_recv(&mut self, id: u64, next: &mut u64) -> Result<T, TryRecvError> {
         let told = self.core.call(|channel| channel.try_recv(id));
@@ -112,7 +157,8 @@ impl<T: Clone> State<T> {
         }
     }
 
-    /// The same for a receiver that waits: nothing where there is nothing to tell.
+    /// The same for a receiver that waits: nothing if there is nothing yet.
+    #[track_caller]
     #[inline]
     fn recv(&mut self, id: u64, next: &mut u64) -> Option<Result<T, RecvError>> {
         let told = self.core.call(|channel| channel.recv(id));
@@ -128,6 +174,65 @@ impl<T: Clone> State<T> {
         }
     }
 
+    /// As `recv`, and puts the value into the buffer, with those that come next, up to `limit`.
+    #[track_caller]
+    fn recv_many(
+        &mut self,
+        id: u64,
+        next: &mut u64,
+        buffer: &mut Vec<T>,
+        limit: usize,
+    ) -> Option<Result<usize, RecvError>> {
+        if limit == 0 {
+            return Some(Ok(0));
+        }
+        Some(match self.recv(id, next)? {
+            Ok(first) => Ok(self.take_more(first, id, next, buffer, limit)),
+            Err(error) => Err(error),
+        })
+    }
+
+    /// As `recv_many`, for a receiver that does not wait.
+    #[track_caller]
+    fn try_recv_many(
+        &mut self,
+        id: u64,
+        next: &mut u64,
+        buffer: &mut Vec<T>,
+        limit: usize,
+    ) -> Result<usize, TryRecvError> {
+        if limit == 0 {
+            return Ok(0);
+        }
+        let first = self.try_recv(id, next)?;
+        Ok(self.take_more(first, id, next, buffer, limit))
+    }
+
+    /// Puts the first value into the buffer, with those that were sent after it, up to `limit`.
+    /// None of them can be missed any more, since nobody else has the lock.
+    #[track_caller]
+    fn take_more(
+        &mut self,
+        first: T,
+        id: u64,
+        next: &mut u64,
+        buffer: &mut Vec<T>,
+        limit: usize,
+    ) -> usize {
+        buffer.push(first);
+        let more = (self.kept.sent() - *next).min(limit as u64 - 1) as usize;
+        buffer.reserve(more);
+        for _ in 0..more {
+            let told = self.core.call(|channel| channel.recv(id));
+            match told.status {
+                status::VALUE => buffer.push(self.value(told, next)),
+                other => library::refused(other),
+            }
+        }
+        1 + more
+    }
+
+    #[track_caller]
     #[inline]
     fn value(&mut self, told: Reply, next: &mut u64) -> T {
         *next = told.number + 1;
@@ -141,7 +246,7 @@ impl<T: Clone> State<T> {
 ///
 /// # Panics
 ///
-/// If the capacity is 0 or above 65,536, or where memory is refused. [`Builder::build`] tells these
+/// If the capacity is 0 or above 65,536, or if memory is refused. [`Builder::build`] returns these
 /// as errors.
 ///
 /// # Examples
@@ -155,9 +260,7 @@ impl<T: Clone> State<T> {
 /// assert_eq!(rx.blocking_recv(), Ok(10));
 /// assert!(rx.blocking_recv().is_err());
 /// ```
+#[track_caller]
 pub fn channel<T: Clone>(capacity: usize) -> (Sender<T>, Receiver<T>) {
-    match Builder::new(capacity).build() {
-        Ok(made) => made,
-        Err(fault) => panic!("{fault}"),
-    }
+    made(Builder::new(capacity).build())
 }

@@ -1,34 +1,30 @@
 //! The receiving side.
-use super::error::{RecvError, TryRecvError};
-use super::Shared;
-use crate::blocking::{block_on, Patience};
+use super::error::{RecvError, RecvTimeoutError, TryRecvError};
+use super::{Shared, State, CLOSED};
+use crate::blocking::{block_on, block_until, deadline_after, Patience};
 use crate::library::status;
-use crate::waiting::Seat;
+use crate::recording::made;
+use crate::waiting::{Called, Seat};
+use crate::HandleError;
 use std::fmt;
 use std::future::Future;
 use std::pin::Pin;
 use std::sync::atomic::Ordering;
 use std::sync::Arc;
 use std::task::{Context, Poll};
+use std::time::{Duration, Instant};
 
-/// How long a task looks for a value before it waits: less than a wake-up takes. Where there are more
-/// threads than processors, the sender can go on meanwhile.
-const WAITING: Patience = Patience {
-    spins: 4,
-    yields: 1,
-};
-/// The same for a thread.
-const BLOCKING: Patience = Patience {
-    spins: 4,
-    yields: 2,
-};
+/// How long a thread looks for a value before it sleeps: less time than it takes to wake one.
+const BLOCKING: Patience = Patience { spins: 5 };
 
-/// Receives all values that are sent to a channel. Each receiver has its own place among them.
+/// Receives all values that are sent to a channel. Each receiver has its own position.
 pub struct Receiver<T> {
     shared: Arc<Shared<T>>,
     id: u64,
-    /// The number of the next value, or a lesser one.
+    /// The number of the next value, or a lower one.
     next: u64,
+    /// The seat of the task that called [`poll_recv`](Self::poll_recv) last.
+    seat: Seat,
 }
 
 impl<T> Receiver<T> {
@@ -37,16 +33,17 @@ impl<T> Receiver<T> {
             shared,
             id,
             next: 0,
+            seat: Seat::default(),
         }
     }
 
-    /// Whether there seems to be something to tell. It takes no lock, and decides nothing but
-    /// whether it is worth while to ask.
+    /// Whether there seems to be news. It takes no lock, and only decides whether to ask.
     fn seems_ready(&self) -> Option<()> {
         (self.shared.reached.load(Ordering::Relaxed) > self.next).then_some(())
     }
 
-    /// How many values are still to come, those that were missed among them.
+    /// The number of values still to come, including those that were missed.
+    #[track_caller]
     pub fn len(&self) -> usize {
         self.shared
             .lock()
@@ -54,45 +51,73 @@ impl<T> Receiver<T> {
             .count(|channel| channel.left(self.id))
     }
 
-    /// Whether nothing is still to come.
+    /// Whether no value is still to come.
+    #[track_caller]
     pub fn is_empty(&self) -> bool {
         self.len() == 0
     }
 
-    /// Whether both are receivers of one channel.
+    /// Whether both are receivers of the same channel.
     pub fn same_channel(&self, other: &Self) -> bool {
         Arc::ptr_eq(&self.shared, &other.shared)
     }
 
-    /// A receiver of what is sent from now on. This one stays as it is.
+    /// Whether no sender is left. Values may still be to come. A [`Recording`](super::Recording)
+    /// has no entry for this call, nor for the next two.
+    ///
+    /// # Examples
+    ///
+    /// ```
+    /// use topichub::broadcast;
+    ///
+    /// let (tx, rx) = broadcast::channel::<u8>(16);
+    /// assert!(!rx.is_closed());
+    /// drop(tx);
+    /// assert!(rx.is_closed());
+    /// ```
+    pub fn is_closed(&self) -> bool {
+        self.shared.reached.load(Ordering::Acquire) == CLOSED
+    }
+
+    /// The number of live senders.
+    pub fn sender_strong_count(&self) -> usize {
+        self.shared.lock().senders.len()
+    }
+
+    /// The number of [`WeakSender`](super::WeakSender)s.
+    pub fn sender_weak_count(&self) -> usize {
+        self.shared.lock().weak_senders
+    }
+
+    /// A new receiver of what is sent from now on. This one does not change.
     ///
     /// # Panics
     ///
-    /// If the channel has 65,535 receivers, or where memory is refused.
+    /// If the channel has 65,535 receivers, or if memory is refused.
+    /// [`try_resubscribe`](Self::try_resubscribe) returns these as errors.
     #[must_use]
+    #[track_caller]
     pub fn resubscribe(&self) -> Self {
-        let id = self
-            .shared
-            .lock()
-            .core
-            .new_handle(|channel| channel.resubscribe(self.id));
-        Self::new(Arc::clone(&self.shared), id)
+        made(self.try_resubscribe())
+    }
+
+    /// As [`resubscribe`](Self::resubscribe), with an error in place of a panic.
+    pub fn try_resubscribe(&self) -> Result<Self, HandleError> {
+        let mut state = self.shared.lock();
+        let id = state.new_receiver(|channel| channel.resubscribe(self.id))?;
+        Ok(Self::new(Arc::clone(&self.shared), id))
     }
 }
 
 impl<T: Clone> Receiver<T> {
     /// The next value. It waits until there is one.
     ///
-    /// Where this receiver was too slow, it answers [`RecvError::Lagged`] with the number of values
-    /// that were missed; where no sender is left and all that was kept has been received,
-    /// [`RecvError::Closed`].
-    ///
-    /// Before the task waits it looks for a value for less than a microsecond, and yields its thread
-    /// once to other threads, since to wait and to be woken takes longer.
+    /// If this receiver was too slow, it returns [`RecvError::Lagged`] with the number of missed
+    /// values; if no sender is left and all that was kept has been received, [`RecvError::Closed`].
     ///
     /// # Cancel safety
     ///
-    /// Who drops the future before it is ready has received nothing.
+    /// This method is cancel safe: dropping the future before it is ready loses no value.
     ///
     /// # Examples
     ///
@@ -111,16 +136,26 @@ impl<T: Clone> Receiver<T> {
     /// }
     /// ```
     pub fn recv(&mut self) -> Recv<'_, T> {
-        Recv {
-            receiver: self,
-            seat: Seat::default(),
-        }
+        Recv(Wait::new(self))
+    }
+
+    /// Polls for the next value, for streams and for futures written by hand. If there is none, the
+    /// task of the last call is woken once there is. Tokio's broadcast has no such call; its `mpsc`
+    /// has.
+    #[track_caller]
+    pub fn poll_recv(&mut self, context: &mut Context<'_>) -> Poll<Result<T, RecvError>> {
+        let mut state = self.shared.lock();
+        let answer = state.recv(self.id, &mut self.next);
+        let (polled, left) = state.waiting.poll(&mut self.seat, context.waker(), answer);
+        drop(state);
+        drop(left);
+        polled
     }
 
     /// As [`recv`](Self::recv), by blocking the thread.
     ///
-    /// It first looks for a value for some microseconds, since to sleep and to be woken takes longer.
-    /// Where there is one, it costs what [`try_recv`](Self::try_recv) does.
+    /// It first looks for a value for about a microsecond, since to sleep and to be woken takes
+    /// longer. If there is one, it costs what [`try_recv`](Self::try_recv) does.
     ///
     /// # Examples
     ///
@@ -132,21 +167,138 @@ impl<T: Clone> Receiver<T> {
     /// tx.send(10).unwrap();
     /// assert_eq!(receiving.join().unwrap(), Ok(10));
     /// ```
+    #[track_caller]
     pub fn blocking_recv(&mut self) -> Result<T, RecvError> {
-        // Mostly there is a value. Then no future is made, and nothing by which to be woken.
-        if BLOCKING.until(|| self.seems_ready()).is_some() {
-            let told = self.shared.lock().recv(self.id, &mut self.next);
-            if let Some(answer) = told {
-                return answer;
-            }
+        match self.look(State::recv) {
+            Some(answer) => answer,
+            None => block_on(self.recv()),
         }
-        block_on(self.recv())
     }
 
-    /// The next value, where there is one.
+    /// Looks for an answer before the thread sleeps. Usually there is one, and then neither a
+    /// future nor a waker is made.
+    #[inline]
+    fn look<A>(
+        &mut self,
+        look: impl FnOnce(&mut State<T>, u64, &mut u64) -> Option<A>,
+    ) -> Option<A> {
+        BLOCKING.until(|| self.seems_ready())?;
+        look(&mut self.shared.lock(), self.id, &mut self.next)
+    }
+
+    /// As [`blocking_recv`](Self::blocking_recv), but for at most this long. Tokio has no such
+    /// call.
+    ///
+    /// Nothing is lost: a value that comes after the limit is the one that the next receive
+    /// returns.
+    ///
+    /// # Examples
+    ///
+    /// ```
+    /// use std::time::Duration;
+    /// use topichub::broadcast::{self, error::RecvTimeoutError};
+    ///
+    /// let (tx, mut rx) = broadcast::channel(16);
+    /// let limit = Duration::from_millis(1);
+    /// assert_eq!(rx.recv_timeout(limit), Err(RecvTimeoutError::Timeout));
+    /// tx.send(10).unwrap();
+    /// assert_eq!(rx.recv_timeout(limit), Ok(10));
+    /// drop(tx);
+    /// assert_eq!(rx.recv_timeout(limit), Err(RecvTimeoutError::Disconnected));
+    /// ```
+    pub fn recv_timeout(&mut self, timeout: Duration) -> Result<T, RecvTimeoutError> {
+        self.recv_until(|| deadline_after(timeout))
+    }
+
+    /// As [`recv_timeout`](Self::recv_timeout), until this time.
+    pub fn recv_deadline(&mut self, deadline: Instant) -> Result<T, RecvTimeoutError> {
+        self.recv_until(|| Some(deadline))
+    }
+
+    fn recv_until(
+        &mut self,
+        deadline: impl FnOnce() -> Option<Instant>,
+    ) -> Result<T, RecvTimeoutError> {
+        let told = self
+            .look(State::recv)
+            .or_else(|| block_until(self.recv(), deadline()));
+        Ok(told.ok_or(RecvTimeoutError::Timeout)??)
+    }
+
+    /// Waits for a value, and appends it to the buffer, with those that were sent after it, up to
+    /// `limit` in all. It returns how many there are: at least 1, or 0 if the limit is 0. The
+    /// errors are those of [`recv`](Self::recv). Tokio's broadcast has no such call; its `mpsc`
+    /// has.
+    ///
+    /// It takes the channel's lock once for all of them, and clones them under it.
+    ///
+    /// # Cancel safety
+    ///
+    /// This method is cancel safe: dropping the future before it is ready loses no value.
+    ///
+    /// # Examples
+    ///
+    /// ```no_run
+    /// use topichub::broadcast::{self, error::RecvError};
+    ///
+    /// async fn next_lines(rx: &mut broadcast::Receiver<String>) -> Result<Vec<String>, RecvError> {
+    ///     let mut lines = Vec::new();
+    ///     rx.recv_many(&mut lines, 64).await?;
+    ///     Ok(lines)
+    /// }
+    /// ```
+    pub fn recv_many<'a>(&'a mut self, buffer: &'a mut Vec<T>, limit: usize) -> RecvMany<'a, T> {
+        RecvMany {
+            wait: Wait::new(self),
+            buffer,
+            limit,
+        }
+    }
+
+    /// As [`recv_many`](Self::recv_many), by blocking the thread.
+    ///
+    /// # Examples
+    ///
+    /// ```
+    /// use topichub::broadcast;
+    ///
+    /// let (tx, mut rx) = broadcast::channel(16);
+    /// tx.send_many(vec![10, 20, 30]).unwrap();
+    /// let mut values = vec![];
+    /// assert_eq!(rx.blocking_recv_many(&mut values, 2), Ok(2));
+    /// assert_eq!(rx.blocking_recv_many(&mut values, 2), Ok(1));
+    /// assert_eq!(values, [10, 20, 30]);
+    /// ```
+    #[track_caller]
+    pub fn blocking_recv_many(
+        &mut self,
+        buffer: &mut Vec<T>,
+        limit: usize,
+    ) -> Result<usize, RecvError> {
+        let told = self.look(|state, id, next| state.recv_many(id, next, buffer, limit));
+        match told {
+            Some(answer) => answer,
+            None => block_on(self.recv_many(buffer, limit)),
+        }
+    }
+
+    /// As [`recv_many`](Self::recv_many), but without a wait: the errors are those of
+    /// [`try_recv`](Self::try_recv).
+    #[track_caller]
+    pub fn try_recv_many(
+        &mut self,
+        buffer: &mut Vec<T>,
+        limit: usize,
+    ) -> Result<usize, TryRecvError> {
+        self.shared
+            .lock()
+            .try_recv_many(self.id, &mut self.next, buffer, limit)
+    }
+
+    /// The next value, if there is one.
     ///
     /// It takes the channel's lock once, for a call that is at most logarithmic in the number of
-    /// receivers, and takes no memory. All receivers but the last one of a value clone it, under the
+    /// receivers, and allocates nothing. All receivers of a value but the last clone it, under the
     /// lock.
     ///
     /// # Examples
@@ -159,6 +311,7 @@ impl<T: Clone> Receiver<T> {
     /// tx.send(10).unwrap();
     /// assert_eq!(rx.try_recv(), Ok(10));
     /// ```
+    #[track_caller]
     #[inline]
     pub fn try_recv(&mut self) -> Result<T, TryRecvError> {
         self.shared.lock().try_recv(self.id, &mut self.next)
@@ -170,10 +323,18 @@ impl<T> Drop for Receiver<T> {
         let mut state = self.shared.lock();
         let told = state.core.call(|channel| channel.drop_rx(self.id));
         debug_assert_eq!(told.status, status::DONE);
+        state.receivers -= 1;
+        let called = if state.receivers == 0 {
+            state.leaving.call()
+        } else {
+            Called::nobody()
+        };
         // A value's own `drop` must not run under the lock.
         let let_go = state.kept.take_oldest(told.let_go);
+        let left = state.waiting.leave(&mut self.seat);
         drop(state);
-        drop(let_go);
+        called.wake();
+        drop((let_go, left));
     }
 }
 
@@ -183,33 +344,40 @@ impl<T> fmt::Debug for Receiver<T> {
     }
 }
 
-/// A receive that waits, made by [`Receiver::recv`].
-#[must_use = "a future does nothing unless it is awaited"]
-pub struct Recv<'a, T> {
+/// A receiver that waits, and where.
+struct Wait<'a, T> {
     receiver: &'a mut Receiver<T>,
     seat: Seat,
 }
 
-impl<T: Clone> Future for Recv<'_, T> {
-    type Output = Result<T, RecvError>;
-
-    fn poll(self: Pin<&mut Self>, context: &mut Context<'_>) -> Poll<Self::Output> {
-        let Self { receiver, seat } = self.get_mut();
-        if !seat.is_taken() {
-            WAITING.until(|| receiver.seems_ready());
+impl<'a, T> Wait<'a, T> {
+    fn new(receiver: &'a mut Receiver<T>) -> Self {
+        Self {
+            receiver,
+            seat: Seat::default(),
         }
+    }
+
+    /// Polls the future with this name: it is ready if `look` finds an answer.
+    #[inline]
+    fn poll<A>(
+        &mut self,
+        future: &str,
+        context: &Context<'_>,
+        look: impl FnOnce(&mut State<T>, u64, &mut u64) -> Option<A>,
+    ) -> Poll<A> {
+        let Self { receiver, seat } = self;
+        seat.expect_waiting(future);
         let mut state = receiver.shared.lock();
-        let (polled, left) = match state.recv(receiver.id, &mut receiver.next) {
-            Some(answer) => (Poll::Ready(answer), state.waiting.leave(seat)),
-            None => (Poll::Pending, state.waiting.sit(seat, context.waker())),
-        };
+        let answer = look(&mut state, receiver.id, &mut receiver.next);
+        let (polled, left) = state.waiting.poll(seat, context.waker(), answer);
         drop(state);
         drop(left);
         polled
     }
 }
 
-impl<T> Drop for Recv<'_, T> {
+impl<T> Drop for Wait<'_, T> {
     fn drop(&mut self) {
         if self.seat.is_taken() {
             let left = self.receiver.shared.lock().waiting.leave(&mut self.seat);
@@ -218,8 +386,50 @@ impl<T> Drop for Recv<'_, T> {
     }
 }
 
+/// A receive that waits, made by [`Receiver::recv`].
+#[must_use = "a future does nothing unless it is awaited"]
+pub struct Recv<'a, T>(Wait<'a, T>);
+
+impl<T: Clone> Future for Recv<'_, T> {
+    type Output = Result<T, RecvError>;
+
+    fn poll(self: Pin<&mut Self>, context: &mut Context<'_>) -> Poll<Self::Output> {
+        let wait = &mut self.get_mut().0;
+        wait.poll("broadcast::Recv", context, State::recv)
+    }
+}
+
 impl<T> fmt::Debug for Recv<'_, T> {
     fn fmt(&self, to: &mut fmt::Formatter<'_>) -> fmt::Result {
         to.write_str("broadcast::Recv")
+    }
+}
+
+/// A receive of several values that waits, made by [`Receiver::recv_many`].
+#[must_use = "a future does nothing unless it is awaited"]
+pub struct RecvMany<'a, T> {
+    wait: Wait<'a, T>,
+    buffer: &'a mut Vec<T>,
+    limit: usize,
+}
+
+impl<T: Clone> Future for RecvMany<'_, T> {
+    type Output = Result<usize, RecvError>;
+
+    fn poll(self: Pin<&mut Self>, context: &mut Context<'_>) -> Poll<Self::Output> {
+        let Self {
+            wait,
+            buffer,
+            limit,
+        } = self.get_mut();
+        wait.poll("broadcast::RecvMany", context, |state, id, next| {
+            state.recv_many(id, next, buffer, *limit)
+        })
+    }
+}
+
+impl<T> fmt::Debug for RecvMany<'_, T> {
+    fn fmt(&self, to: &mut fmt::Formatter<'_>) -> fmt::Result {
+        to.write_str("broadcast::RecvMany")
     }
 }

@@ -1,14 +1,19 @@
 //! The sending side.
 use super::error::SendError;
-use super::{Receiver, Shared};
-use crate::library::{self, status};
-use crate::waiting::Called;
+use super::{Builder, Receiver, Shared, State, CLOSED};
+use crate::library::{self, status, Reply};
+use crate::recording::made;
+use crate::waiting::{Called, Seat};
+use crate::HandleError;
 use std::fmt;
+use std::future::Future;
+use std::pin::Pin;
 use std::sync::atomic::Ordering;
-use std::sync::Arc;
+use std::sync::{Arc, MutexGuard};
+use std::task::{Context, Poll};
 
-/// Sends values to all receivers of a channel. It may be cloned, and used by several threads at a
-/// time.
+/// Sends values to all receivers of a channel. It may be cloned, and used by several threads at
+/// once.
 pub struct Sender<T> {
     pub(super) shared: Arc<Shared<T>>,
     pub(super) id: u64,
@@ -20,21 +25,19 @@ impl<T> Sender<T> {
     /// # Panics
     ///
     /// As [`channel`](super::channel).
-    pub fn new(capacity: usize) -> Self
-    where
-        T: Clone,
-    {
-        super::channel(capacity).0
+    #[track_caller]
+    pub fn new(capacity: usize) -> Self {
+        made(Builder::new(capacity).made(None)).0
     }
 
-    /// Sends a value to every receiver, and answers how many there are: at least 1. Without
-    /// receivers the value comes back, and a later send may succeed.
+    /// Sends a value to every receiver, and returns how many there are: at least 1. Without
+    /// receivers the error hands the value back, and a later send may succeed.
     ///
-    /// It never waits for a receiver: where the channel is full, the oldest value makes room, and
-    /// who has not read it lags.
+    /// It never waits for a receiver: if the channel is full, it drops the oldest value, and a
+    /// receiver that has not read it lags.
     ///
     /// It takes the channel's lock once, for a call that is at most logarithmic in the number of
-    /// senders, and takes no memory. Those who wait are woken once the lock is let go.
+    /// senders, and allocates nothing. Waiting receivers are woken once the lock is released.
     ///
     /// # Examples
     ///
@@ -46,30 +49,78 @@ impl<T> Sender<T> {
     /// drop(rx);
     /// assert_eq!(tx.send(20), Err(broadcast::error::SendError(20)));
     /// ```
+    #[track_caller]
     #[inline]
     pub fn send(&self, value: T) -> Result<usize, SendError<T>> {
         let mut state = self.shared.state.lock_first();
-        let number = state.kept.sent();
-        let told = state.core.call(|channel| channel.send(self.id, number));
-        match told.status {
-            status::SENT => {}
-            status::NO_RECEIVERS | status::EXHAUSTED => return Err(SendError(value)),
-            other => library::refused(other),
-        }
-        let let_go = state.kept.push(value, told.let_go);
-        self.shared.reached.store(number + 1, Ordering::Relaxed);
+        let (receivers, let_go) = state.send(self.id, value).map_err(SendError)?;
+        self.wake_receivers(state);
+        drop(let_go);
+        Ok(receivers)
+    }
+
+    /// Releases the lock, and wakes the receivers.
+    #[inline]
+    fn wake_receivers(&self, mut state: MutexGuard<'_, State<T>>) {
+        let sent = state.kept.sent();
+        self.shared.reached.store(sent, Ordering::Relaxed);
         let called = state.waiting.call();
         drop(state);
         called.wake();
-        drop(let_go);
-        Ok(told.number as usize)
     }
 
-    /// A receiver of what is sent from now on.
+    /// Sends values in their order, with no value of another sender between them, and returns how
+    /// many receivers there are, or 0 if there are no values. Without receivers all values come
+    /// back. Tokio has no such call.
+    ///
+    /// It takes the channel's lock once for all of them, and wakes once those that wait. Nobody
+    /// else can use the channel meanwhile, so send a long list in parts. If there are more values
+    /// than the channel keeps, every receiver misses the first ones.
+    ///
+    /// # Examples
+    ///
+    /// ```
+    /// use topichub::broadcast;
+    ///
+    /// let (tx, mut rx) = broadcast::channel(16);
+    /// assert_eq!(tx.send_many(vec![10, 20]), Ok(1));
+    /// assert_eq!((rx.try_recv(), rx.try_recv()), (Ok(10), Ok(20)));
+    /// drop(rx);
+    /// assert_eq!(tx.send_many(vec![30]).unwrap_err().0, [30]);
+    /// ```
+    #[track_caller]
+    pub fn send_many(&self, values: Vec<T>) -> Result<usize, SendError<Vec<T>>> {
+        // Under the lock no memory is taken, and no value's own `drop` is run.
+        let mut let_go = Vec::with_capacity(values.len());
+        let mut values = values.into_iter();
+        let (mut receivers, mut unsent) = (0, None);
+        let mut state = self.shared.state.lock_first();
+        for value in &mut values {
+            match state.send(self.id, value) {
+                Ok((count, oldest)) => {
+                    receivers = count;
+                    let_go.extend(oldest);
+                }
+                Err(value) => {
+                    unsent = Some(value);
+                    break;
+                }
+            }
+        }
+        self.wake_receivers(state);
+        drop(let_go);
+        match unsent {
+            None => Ok(receivers),
+            Some(value) => Err(SendError([value].into_iter().chain(values).collect())),
+        }
+    }
+
+    /// A new receiver of what is sent from now on.
     ///
     /// # Panics
     ///
-    /// If the channel has 65,535 receivers, or where memory is refused.
+    /// If the channel has 65,535 receivers, or if memory is refused.
+    /// [`try_subscribe`](Self::try_subscribe) returns these as errors.
     ///
     /// # Examples
     ///
@@ -82,17 +133,18 @@ impl<T> Sender<T> {
     /// tx.send(20).unwrap();
     /// assert_eq!(late.try_recv(), Ok(20));
     /// ```
+    #[track_caller]
     pub fn subscribe(&self) -> Receiver<T> {
-        let id = self
-            .shared
-            .lock()
-            .core
-            .new_handle(|channel| channel.subscribe(self.id));
-        Receiver::new(Arc::clone(&self.shared), id)
+        made(self.try_subscribe())
     }
 
-    /// A receiver that first gets what is still kept: what some other receiver has not read yet.
-    /// Tokio has no such call.
+    /// As [`subscribe`](Self::subscribe), with an error in place of a panic.
+    pub fn try_subscribe(&self) -> Result<Receiver<T>, HandleError> {
+        self.receiver(|channel| channel.subscribe(self.id))
+    }
+
+    /// A new receiver that first gets what is still kept: what some other receiver has not read
+    /// yet. Tokio has no such call.
     ///
     /// # Panics
     ///
@@ -107,16 +159,62 @@ impl<T> Sender<T> {
     /// tx.send(10).unwrap();
     /// assert_eq!(tx.subscribe_oldest().try_recv(), Ok(10));
     /// ```
+    #[track_caller]
     pub fn subscribe_oldest(&self) -> Receiver<T> {
-        let id = self
-            .shared
-            .lock()
-            .core
-            .new_handle(|channel| channel.subscribe_oldest(self.id));
-        Receiver::new(Arc::clone(&self.shared), id)
+        made(self.try_subscribe_oldest())
     }
 
-    /// How many receivers are live.
+    /// As [`subscribe_oldest`](Self::subscribe_oldest), with an error in place of a panic.
+    pub fn try_subscribe_oldest(&self) -> Result<Receiver<T>, HandleError> {
+        self.receiver(|channel| channel.subscribe_oldest(self.id))
+    }
+
+    fn receiver(
+        &self,
+        call: impl Fn(&mut library::Broadcast) -> Reply,
+    ) -> Result<Receiver<T>, HandleError> {
+        let id = self.shared.lock().new_receiver(call)?;
+        Ok(Receiver::new(Arc::clone(&self.shared), id))
+    }
+
+    /// Another sender of the same channel: as `clone`, with an error in place of a panic.
+    ///
+    /// # Examples
+    ///
+    /// ```
+    /// use topichub::{broadcast, HandleError};
+    ///
+    /// let (tx, _rx) = broadcast::channel::<u8>(1);
+    /// let mut all = vec![];
+    /// let error = loop {
+    ///     match tx.try_clone() {
+    ///         Ok(another) => all.push(another),
+    ///         Err(error) => break error,
+    ///     }
+    /// };
+    /// assert_eq!((all.len(), error), (65_534, HandleError::TooMany));
+    /// ```
+    pub fn try_clone(&self) -> Result<Self, HandleError> {
+        Self::of(&self.shared, |_| Some(self.id)).expect("this sender is live")
+    }
+
+    /// A clone of the sender whose number `find` returns.
+    fn of(
+        shared: &Arc<Shared<T>>,
+        find: impl FnOnce(&State<T>) -> Option<u64>,
+    ) -> Option<Result<Self, HandleError>> {
+        let mut state = shared.lock();
+        let by = find(&state)?;
+        let made = state.new_sender(by);
+        drop(state);
+        Some(made.map(|id| Self {
+            shared: Arc::clone(shared),
+            id,
+        }))
+    }
+
+    /// The number of live receivers.
+    #[track_caller]
     pub fn receiver_count(&self) -> usize {
         self.shared
             .lock()
@@ -124,8 +222,9 @@ impl<T> Sender<T> {
             .count(|channel| channel.readers(self.id))
     }
 
-    /// How many values are kept: those that some receiver has still to read, as far as the capacity
-    /// goes.
+    /// The number of values that are kept: those that some receiver has still to read, up to the
+    /// capacity.
+    #[track_caller]
     pub fn len(&self) -> usize {
         self.shared
             .lock()
@@ -134,28 +233,63 @@ impl<T> Sender<T> {
     }
 
     /// Whether no value is kept.
+    #[track_caller]
     pub fn is_empty(&self) -> bool {
         self.len() == 0
     }
 
-    /// Whether both are senders of one channel.
+    /// Waits until no receiver is left. Without receivers it is ready at once. In a
+    /// [`Recording`](super::Recording) each poll is an entry that asks for the number of receivers.
+    ///
+    /// # Cancel safety
+    ///
+    /// This method is cancel safe: dropping the future changes nothing.
+    ///
+    /// # Examples
+    ///
+    /// ```no_run
+    /// use topichub::broadcast;
+    ///
+    /// async fn until_nobody_listens(tx: &broadcast::Sender<u64>) {
+    ///     tx.closed().await;
+    ///     assert_eq!(tx.receiver_count(), 0);
+    /// }
+    /// ```
+    pub fn closed(&self) -> Closed<'_, T> {
+        Closed {
+            sender: self,
+            seat: Seat::default(),
+        }
+    }
+
+    /// A sender that does not keep the channel open.
+    #[must_use = "a weak sender that is dropped does nothing"]
+    pub fn downgrade(&self) -> WeakSender<T> {
+        WeakSender::new(&self.shared)
+    }
+
+    /// The number of live senders. A [`Recording`](super::Recording) has no entry for this call.
+    pub fn strong_count(&self) -> usize {
+        self.shared.lock().senders.len()
+    }
+
+    /// The number of [`WeakSender`]s. A [`Recording`](super::Recording) has no entry for this call.
+    pub fn weak_count(&self) -> usize {
+        self.shared.lock().weak_senders
+    }
+
+    /// Whether both are senders of the same channel.
     pub fn same_channel(&self, other: &Self) -> bool {
         Arc::ptr_eq(&self.shared, &other.shared)
     }
 }
 
 impl<T> Clone for Sender<T> {
-    /// Another sender of the same channel. It panics if the channel has 65,535, or where memory is
-    /// refused.
+    /// Another sender of the same channel. It panics if the channel has 65,535, or if memory is
+    /// refused; [`try_clone`](Self::try_clone) returns these as errors.
+    #[track_caller]
     fn clone(&self) -> Self {
-        let mut state = self.shared.lock();
-        let id = state.core.new_handle(|channel| channel.clone_tx(self.id));
-        state.senders += 1;
-        drop(state);
-        Self {
-            shared: Arc::clone(&self.shared),
-            id,
-        }
+        made(self.try_clone())
     }
 }
 
@@ -164,9 +298,9 @@ impl<T> Drop for Sender<T> {
         let mut state = self.shared.lock();
         let told = state.core.call(|channel| channel.drop_tx(self.id));
         debug_assert_eq!(told.status, status::DONE);
-        state.senders -= 1;
-        let called = if state.senders == 0 {
-            self.shared.reached.store(u64::MAX, Ordering::Relaxed);
+        state.senders.remove(&self.id);
+        let called = if state.senders.is_empty() {
+            self.shared.reached.store(CLOSED, Ordering::Release);
             state.waiting.call()
         } else {
             Called::nobody()
@@ -179,5 +313,121 @@ impl<T> Drop for Sender<T> {
 impl<T> fmt::Debug for Sender<T> {
     fn fmt(&self, to: &mut fmt::Formatter<'_>) -> fmt::Result {
         to.write_str("broadcast::Sender")
+    }
+}
+
+/// A wait for the last receiver to go, made by [`Sender::closed`].
+#[must_use = "a future does nothing unless it is awaited"]
+pub struct Closed<'a, T> {
+    sender: &'a Sender<T>,
+    seat: Seat,
+}
+
+impl<T> Future for Closed<'_, T> {
+    type Output = ();
+
+    fn poll(self: Pin<&mut Self>, context: &mut Context<'_>) -> Poll<()> {
+        let Self { sender, seat } = self.get_mut();
+        seat.expect_waiting("broadcast::Closed");
+        let mut state = sender.shared.lock();
+        let receivers = state.core.count(|channel| channel.readers(sender.id));
+        let answer = (receivers == 0).then_some(());
+        let (polled, left) = state.leaving.poll(seat, context.waker(), answer);
+        drop(state);
+        drop(left);
+        polled
+    }
+}
+
+impl<T> Drop for Closed<'_, T> {
+    fn drop(&mut self) {
+        if self.seat.is_taken() {
+            let left = self.sender.shared.lock().leaving.leave(&mut self.seat);
+            drop(left);
+        }
+    }
+}
+
+impl<T> fmt::Debug for Closed<'_, T> {
+    fn fmt(&self, to: &mut fmt::Formatter<'_>) -> fmt::Result {
+        to.write_str("broadcast::Closed")
+    }
+}
+
+/// A sender that does not keep the channel open, made by [`Sender::downgrade`]. It cannot send: it
+/// first has to be upgraded.
+///
+/// # Examples
+///
+/// ```
+/// use topichub::broadcast;
+///
+/// let (tx, mut rx) = broadcast::channel(16);
+/// let weak = tx.downgrade();
+/// weak.upgrade().unwrap().send(10).unwrap();
+/// drop(tx);
+/// assert!(weak.upgrade().is_none());
+/// assert_eq!(rx.blocking_recv(), Ok(10));
+/// assert!(rx.blocking_recv().is_err());
+/// ```
+pub struct WeakSender<T> {
+    shared: Arc<Shared<T>>,
+}
+
+impl<T> WeakSender<T> {
+    fn new(shared: &Arc<Shared<T>>) -> Self {
+        shared.lock().weak_senders += 1;
+        Self {
+            shared: Arc::clone(shared),
+        }
+    }
+
+    /// A sender of the channel, unless all of them were dropped. In a
+    /// [`Recording`](super::Recording) it is a clone of a live one.
+    ///
+    /// # Panics
+    ///
+    /// If the channel has 65,535 senders, or if memory is refused.
+    /// [`try_upgrade`](Self::try_upgrade) returns these as errors.
+    #[must_use]
+    #[track_caller]
+    pub fn upgrade(&self) -> Option<Sender<T>> {
+        let sender = self.try_upgrade()?;
+        Some(made(sender))
+    }
+
+    /// As [`upgrade`](Self::upgrade), with an error in place of a panic.
+    #[must_use]
+    pub fn try_upgrade(&self) -> Option<Result<Sender<T>, HandleError>> {
+        Sender::of(&self.shared, |state| state.senders.iter().next().copied())
+    }
+
+    /// The number of live senders.
+    pub fn strong_count(&self) -> usize {
+        self.shared.lock().senders.len()
+    }
+
+    /// The number of weak senders, including this one.
+    pub fn weak_count(&self) -> usize {
+        self.shared.lock().weak_senders
+    }
+}
+
+impl<T> Clone for WeakSender<T> {
+    #[track_caller]
+    fn clone(&self) -> Self {
+        Self::new(&self.shared)
+    }
+}
+
+impl<T> Drop for WeakSender<T> {
+    fn drop(&mut self) {
+        self.shared.lock().weak_senders -= 1;
+    }
+}
+
+impl<T> fmt::Debug for WeakSender<T> {
+    fn fmt(&self, to: &mut fmt::Formatter<'_>) -> fmt::Result {
+        to.write_str("broadcast::WeakSender")
     }
 }

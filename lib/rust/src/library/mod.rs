@@ -1,12 +1,11 @@
-//! The library behind this crate, as safe types. All `unsafe` code of the crate stands in this
-//! module.
+//! The library behind this crate, as safe types. All `unsafe` code of the crate is in this module.
 #![allow(unsafe_code)]
 
 mod sys;
 
 pub(crate) use sys::{status, Reply};
 
-use crate::{Build, BuildError, Verdict};
+use crate::{Build, BuildError, HandleError, Verdict};
 
 /// Room for whole lines: a trace has none that is longer.
 const PIECE: usize = 4_096;
@@ -14,6 +13,7 @@ const PIECE: usize = 4_096;
 /// A channel whose calls may be recorded.
 pub(crate) trait Channel {
     /// The history since the last cut. Not for channels that are made without one.
+    #[track_caller]
     fn cut(&mut self) -> Trace;
 }
 
@@ -98,7 +98,7 @@ channel! {
 }
 
 impl Broadcast {
-    /// A channel with sender 1 and no receiver; with a history where a limit is given.
+    /// A channel with sender 1 and no receiver; with a history if a limit is given.
     pub(crate) fn new(capacity: u64, limit: Option<u64>) -> Result<Self, BuildError> {
         let mut channel = Self(sys::Broadcast::NONE);
         // SAFETY: the struct is a value of its own, and none yet.
@@ -113,7 +113,7 @@ impl Broadcast {
 }
 
 impl Watch {
-    /// A channel with sender 1, no reader and this value; with a history where a limit is given.
+    /// A channel with sender 1, no receiver and this value; with a history if a limit is given.
     pub(crate) fn new(value: u64, limit: Option<u64>) -> Result<Self, BuildError> {
         let mut channel = Self(sys::Watch::NONE);
         // SAFETY: the struct is a value of its own, and none yet.
@@ -135,13 +135,14 @@ unsafe impl Send for Trace {}
 
 impl Trace {
     /// Its text, piece by piece.
+    #[track_caller]
     pub(crate) fn into_text(mut self) -> String {
         let mut text = Vec::new();
         loop {
             let mut piece = [0; PIECE];
             let mut written = 0;
             // SAFETY: the trace is this value's own and was filled by a cut, and the buffer has the
-            // length that is told.
+            // length that is passed.
             done(unsafe {
                 sys::topichub_trace_read(&mut self.0, piece.as_mut_ptr(), PIECE, &mut written)
             });
@@ -160,9 +161,10 @@ impl Drop for Trace {
     }
 }
 
+#[track_caller]
 pub(crate) fn check(text: &[u8]) -> Verdict {
     let mut line = 0;
-    // SAFETY: the pointer is to as many bytes as are told, and a slice's is never null.
+    // SAFETY: the pointer is to as many bytes as are passed, and a slice's is never null.
     match unsafe { sys::topichub_check(text.as_ptr(), text.len(), &mut line) } {
         status::LEGAL => Verdict::Legal(line),
         status::ILLEGAL => Verdict::Illegal(line),
@@ -182,7 +184,7 @@ pub(crate) fn build() -> Build {
         sys::BUILD_PROVED => Build::Proved,
         sys::BUILD_CHECKED => Build::Checked,
         sys::BUILD_UNCHECKED => Build::Unchecked,
-        // That of a given archive, or one that a later version may have: nothing is known of it.
+        // That of a given archive, or one of a later version: nothing is known about it.
         _ => Build::Given,
     }
 }
@@ -197,22 +199,32 @@ fn built(made: u32) -> Result<(), BuildError> {
     }
 }
 
+#[track_caller]
 fn done(told: u32) {
     if told != status::DONE {
         refused(told);
     }
 }
 
-/// Panics for a status that has no answer in the calls of this crate.
+/// The limit that a call has met, if the status is one of a limit.
+pub(crate) fn limit(told: u32) -> Option<HandleError> {
+    match told {
+        status::TOO_MANY => Some(HandleError::TooMany),
+        status::LOG_FULL => Some(HandleError::Limit),
+        status::NO_MEMORY => Some(HandleError::Memory),
+        _ => None,
+    }
+}
+
+/// Panics for a status that the calls of this crate cannot return.
+#[track_caller]
 #[cold]
 pub(crate) fn refused(told: u32) -> ! {
+    if let Some(limit) = limit(told) {
+        panic!("{limit}");
+    }
     match told {
-        status::TOO_MANY => panic!("the channel has 65,535 handles of this kind"),
         status::EXHAUSTED => panic!("the channel has had 2^64 - 1 versions"),
-        status::LOG_FULL => panic!(
-            "the limit of the history has no room for one entry and the drop of each live handle"
-        ),
-        status::NO_MEMORY => panic!("memory was refused"),
         other => {
             panic!("libtopichub answered with the status {other}, which this call does not have")
         }

@@ -31,13 +31,13 @@ owned! {
 pub(crate) struct Reply {
     /// One of [`status`].
     pub(crate) status: u32,
-    /// How many of the values that were kept are let go of, the oldest ones.
+    /// How many of the kept values the channel drops, the oldest ones.
     pub(crate) let_go: u32,
     /// What the status says.
     pub(crate) number: u64,
 }
 
-/// What a call comes to, an `enum topichub_status`.
+/// The outcome of a call, an `enum topichub_status`.
 pub(crate) mod status {
     pub(crate) const DONE: u32 = 0;
     pub(crate) const SENT: u32 = 1;
@@ -67,7 +67,7 @@ pub(crate) mod status {
     pub(crate) const BAD_TRACE: u32 = 31;
 }
 
-// How the library was built. BUILD_GIVEN, which is 0, tells nothing of it.
+// How the library was built. BUILD_GIVEN, which is 0, says nothing about it.
 pub(crate) const BUILD_PROVED: u32 = 1;
 pub(crate) const BUILD_CHECKED: u32 = 2;
 pub(crate) const BUILD_UNCHECKED: u32 = 3;

@@ -1,27 +1,27 @@
-//! How a watch channel is made, and what is recorded of one.
+//! The builder of a watch channel, and the record of one.
 use super::{Receiver, Sender, Shared, State};
 use crate::library;
 use crate::recording::{Core, FIRST_SENDER, LEAST_LIMIT};
 use crate::waiting::Waiters;
-use crate::BuildError;
+use crate::{BuildError, HandleError};
 use std::fmt;
-use std::sync::{Arc, Mutex, RwLock};
+use std::sync::Arc;
 
-/// How a channel is made.
+/// Builds a channel.
 #[derive(Clone, Copy, Debug)]
 pub struct Builder<T> {
     init: T,
 }
 
 impl<T> Builder<T> {
-    /// For a channel with this value.
+    /// A builder for a channel with this value.
     pub fn new(init: T) -> Self {
         Self { init }
     }
 
-    /// Has the channel note each call with its reply. `limit` is the most entries of one trace, 3
-    /// to 1,000,000. Room for the drop of each live handle is kept within it, so it should be well
-    /// above their number.
+    /// Makes the channel record each call with its reply. `limit`, 3 to 1,000,000, is the maximum
+    /// number of entries in one trace. Room for the drop of each live handle is reserved in it, so
+    /// choose it well above their number.
     pub fn recorded(self, limit: u64) -> RecordedBuilder<T> {
         RecordedBuilder {
             builder: self,
@@ -30,43 +30,46 @@ impl<T> Builder<T> {
     }
 
     /// Makes the channel, with a sender and a receiver.
+    #[track_caller]
     pub fn build(self) -> Result<(Sender<T>, Receiver<T>), BuildError> {
         self.made(None)
     }
 
+    #[track_caller]
     fn made(self, limit: Option<u64>) -> Result<(Sender<T>, Receiver<T>), BuildError> {
         let core = Core::new(library::Watch::new(0, limit)?);
         let (waiting, leaving) = (Waiters::default(), Waiters::default());
         let mut state = State {
             core,
             published: 0,
+            version: 0,
             senders: 1,
             receivers: 0,
             waiting,
             leaving,
         };
-        let receiver = state.new_receiver(|channel| channel.subscribe(FIRST_SENDER));
-        let shared = Arc::new(Shared {
-            value: RwLock::new(self.init),
-            state: Mutex::new(state),
-        });
+        let receiver = state
+            .new_receiver(|channel| channel.subscribe(FIRST_SENDER))
+            .map_err(|error| match error {
+                HandleError::Memory => BuildError::Memory,
+                HandleError::TooMany | HandleError::Limit => BuildError::Limit,
+            })?;
+        let seen = state.version;
+        let shared = Shared::new(self.init, state, limit.is_some());
         Ok((
             Sender {
                 shared: Arc::clone(&shared),
                 id: FIRST_SENDER,
             },
-            Receiver {
-                shared,
-                id: receiver,
-            },
+            Receiver::new(shared, receiver, seen),
         ))
     }
 }
 
-/// A channel that notes its calls.
+/// A channel that records its calls.
 pub type Recorded<T> = (Sender<T>, Receiver<T>, Recording<T>);
 
-/// How a channel is made that notes its calls.
+/// Builds a channel that records its calls.
 #[derive(Clone, Copy, Debug)]
 pub struct RecordedBuilder<T> {
     builder: Builder<T>,
@@ -74,7 +77,8 @@ pub struct RecordedBuilder<T> {
 }
 
 impl<T> RecordedBuilder<T> {
-    /// Makes the channel, with a sender, a receiver and what is recorded.
+    /// Makes the channel, with a sender, a receiver and the record.
+    #[track_caller]
     pub fn build(self) -> Result<Recorded<T>, BuildError> {
         if self.limit < LEAST_LIMIT {
             return Err(BuildError::Limit);
@@ -87,35 +91,36 @@ impl<T> RecordedBuilder<T> {
     }
 }
 
-/// What is recorded of a channel. It is no handle of the channel, and outlives all of them.
+/// The record of a channel. It is not a handle of the channel, and may outlive all of them.
 pub struct Recording<T> {
     shared: Arc<Shared<T>>,
 }
 
 impl<T> Recording<T> {
-    /// What was called and answered, as a trace that [`check`](crate::check) and `topichub check`
+    /// The calls and their replies, as a trace that [`check`](crate::check) and `topichub check`
     /// read.
     ///
-    /// Each call hands out the next part, from where the last one ended: all that happened since,
-    /// or, where that is more than the limit, its first part, of which the history was full. `END
-    /// 0` says that nothing has happened. What is not handed out is kept. A value stands in a trace
-    /// as a number: 0 is the value that the channel was made with, and each further one has the
-    /// next.
+    /// Each call returns the next part, from where the last one ended: everything since then, or,
+    /// if that is more than the limit, the first part that filled it. `END 0` means that nothing
+    /// has happened. What has not been returned is kept. In a trace a value is written as a number:
+    /// 0 is the value that the channel was made with, and each later one has the next.
     ///
     /// # Panics
     ///
-    /// Where memory is refused.
+    /// If memory is refused.
+    #[track_caller]
     pub fn trace(&self) -> String {
         let segment = self.shared.lock().core.cut();
         segment.into_text()
     }
 
-    /// Lets go of what was not handed out, without making a text of it. What happens from now on is
-    /// in the next trace.
+    /// Discards what has not been returned, without making a text of it. The next trace begins
+    /// here.
     ///
     /// # Panics
     ///
-    /// Where memory is refused.
+    /// If memory is refused.
+    #[track_caller]
     pub fn discard(&self) {
         let discarded = self.shared.lock().core.cut_all();
         drop(discarded);

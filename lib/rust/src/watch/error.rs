@@ -1,10 +1,16 @@
-//! What a call of a watch channel answers in place of an answer of its own.
+//! Errors of the watch channel.
 use std::error::Error;
 use std::fmt;
 
-/// Nobody reads. It hands the value back; a later send may succeed.
-#[derive(Clone, Copy, Debug, PartialEq, Eq)]
+/// There is no receiver. The error holds the value; a later send may succeed.
+#[derive(Clone, Copy, PartialEq, Eq)]
 pub struct SendError<T>(pub T);
+
+impl<T> fmt::Debug for SendError<T> {
+    fn fmt(&self, to: &mut fmt::Formatter<'_>) -> fmt::Result {
+        to.debug_struct("SendError").finish_non_exhaustive()
+    }
+}
 
 impl<T> fmt::Display for SendError<T> {
     fn fmt(&self, to: &mut fmt::Formatter<'_>) -> fmt::Result {
@@ -12,7 +18,7 @@ impl<T> fmt::Display for SendError<T> {
     }
 }
 
-impl<T: fmt::Debug> Error for SendError<T> {}
+impl<T> Error for SendError<T> {}
 
 /// No sender is left.
 #[derive(Clone, Debug, PartialEq, Eq)]
@@ -25,3 +31,30 @@ impl fmt::Display for RecvError {
 }
 
 impl Error for RecvError {}
+
+/// What [`Receiver::changed_timeout`](super::Receiver::changed_timeout) returns if there is no
+/// unseen value. The names are those of [`std::sync::mpsc::RecvTimeoutError`].
+#[derive(Clone, Copy, Debug, PartialEq, Eq)]
+pub enum RecvTimeoutError {
+    /// The time was up first.
+    Timeout,
+    /// No sender is left, and the newest value has been seen.
+    Disconnected,
+}
+
+impl fmt::Display for RecvTimeoutError {
+    fn fmt(&self, to: &mut fmt::Formatter<'_>) -> fmt::Result {
+        match self {
+            Self::Timeout => to.write_str("timed out waiting on channel"),
+            Self::Disconnected => to.write_str("channel closed"),
+        }
+    }
+}
+
+impl Error for RecvTimeoutError {}
+
+impl From<RecvError> for RecvTimeoutError {
+    fn from(_: RecvError) -> Self {
+        Self::Disconnected
+    }
+}

@@ -1,23 +1,40 @@
 //! The receiving side.
-use super::error::RecvError;
-use super::{Ref, Shared};
-use crate::blocking::block_on;
+use super::error::{RecvError, RecvTimeoutError};
+use super::{Ref, Shared, CLOSED};
+use crate::blocking::{block_on, block_until, deadline_after};
 use crate::library::{self, status, Reply};
+use crate::recording::made;
 use crate::waiting::{Called, Seat};
+use crate::HandleError;
 use std::fmt;
 use std::future::Future;
 use std::pin::Pin;
+use std::sync::atomic::{AtomicU64, Ordering};
 use std::sync::Arc;
 use std::task::{Context, Poll};
+use std::time::{Duration, Instant};
 
-/// Looks at the newest value of a channel, and is told once of each that it has not seen.
+/// Borrows the newest value of a channel, and waits for values that it has not seen.
 pub struct Receiver<T> {
-    pub(super) shared: Arc<Shared<T>>,
-    pub(super) id: u64,
+    shared: Arc<Shared<T>>,
+    id: u64,
+    /// The version that this receiver has seen, or another one if the newest value is unseen.
+    seen: AtomicU64,
+    /// The seat of the task that called [`poll_changed`](Self::poll_changed) last.
+    seat: Seat,
 }
 
 impl<T> Receiver<T> {
-    /// Lends the newest value. It stays unseen if it was.
+    pub(super) fn new(shared: Arc<Shared<T>>, id: u64, seen: u64) -> Self {
+        Self {
+            shared,
+            id,
+            seen: AtomicU64::new(seen),
+            seat: Seat::default(),
+        }
+    }
+
+    /// Borrows the newest value. It stays unseen if it was.
     ///
     /// # Examples
     ///
@@ -27,36 +44,38 @@ impl<T> Receiver<T> {
     /// let (_tx, rx) = watch::channel("hello");
     /// assert_eq!(*rx.borrow(), "hello");
     /// ```
+    #[track_caller]
     pub fn borrow(&self) -> Ref<'_, T> {
-        self.look(|channel, id| channel.borrow(id))
+        self.look(|channel, id| channel.borrow(id)).0
     }
 
-    /// Lends the newest value, which is seen from then on.
+    /// Borrows the newest value, and marks it seen.
+    #[track_caller]
     pub fn borrow_and_update(&mut self) -> Ref<'_, T> {
-        self.look(|channel, id| channel.take(id))
+        self.take()
     }
 
-    fn look(&self, call: impl Fn(&mut library::Watch, u64) -> Reply) -> Ref<'_, T> {
+    fn take(&self) -> Ref<'_, T> {
+        let (newest, version) = self.look(|channel, id| channel.take(id));
+        self.seen.store(version, Ordering::Relaxed);
+        newest
+    }
+
+    /// Makes a call that shows the newest value, and returns the value and its version.
+    #[track_caller]
+    fn look(&self, call: impl Fn(&mut library::Watch, u64) -> Reply) -> (Ref<'_, T>, u64) {
         let value = self.shared.read();
-        let told = self
-            .shared
-            .lock()
-            .core
-            .call(|channel| call(channel, self.id));
-        match told.status {
-            status::NEW => Ref {
-                value,
-                has_changed: true,
-            },
-            status::SAME => Ref {
-                value,
-                has_changed: false,
-            },
+        let mut state = self.shared.lock();
+        let told = state.core.call(|channel| call(channel, self.id));
+        let has_changed = match told.status {
+            status::NEW => true,
+            status::SAME => false,
             other => library::refused(other),
-        }
+        };
+        (Ref { value, has_changed }, state.version)
     }
 
-    /// Whether the newest value is unseen. An error says that no sender is left.
+    /// Whether the newest value is unseen. It returns an error if no sender is left.
     ///
     /// # Examples
     ///
@@ -70,7 +89,15 @@ impl<T> Receiver<T> {
     /// drop(tx);
     /// assert!(rx.has_changed().is_err());
     /// ```
+    #[track_caller]
     pub fn has_changed(&self) -> Result<bool, RecvError> {
+        if !self.shared.is_recorded {
+            let news = self.shared.news.load(Ordering::Acquire);
+            return match news & CLOSED {
+                CLOSED => Err(RecvError(())),
+                _ => Ok(news >> 1 != self.seen.load(Ordering::Relaxed)),
+            };
+        }
         let told = self
             .shared
             .lock()
@@ -84,12 +111,12 @@ impl<T> Receiver<T> {
         }
     }
 
-    /// Waits for a value that is unseen, and marks it seen. An error says that there is none, and
-    /// no sender is left.
+    /// Waits for an unseen value, and marks it seen. It returns an error if there is none and no
+    /// sender is left.
     ///
     /// # Cancel safety
     ///
-    /// Who drops the future before it is ready has marked nothing.
+    /// This method is cancel safe: dropping the future before it is ready marks nothing.
     ///
     /// # Examples
     ///
@@ -109,13 +136,58 @@ impl<T> Receiver<T> {
         }
     }
 
+    /// Polls for an unseen value, and marks it seen, for streams and for futures written by hand.
+    /// If there is none, the task of the last call is woken once there is. Tokio has no such call.
+    #[track_caller]
+    pub fn poll_changed(&mut self, context: &mut Context<'_>) -> Poll<Result<(), RecvError>> {
+        let mut state = self.shared.lock();
+        let answer = state.changed(self.id, &self.seen);
+        let (polled, left) = state.waiting.poll(&mut self.seat, context.waker(), answer);
+        drop(state);
+        drop(left);
+        polled
+    }
+
     /// As [`changed`](Self::changed), by blocking the thread. Tokio has no such call.
+    #[track_caller]
     pub fn blocking_changed(&mut self) -> Result<(), RecvError> {
         block_on(self.changed())
     }
 
-    /// Waits for a value of which this is true, and lends it. All that it looked at is seen from
-    /// then on. An error says that the newest value is none, and no sender is left.
+    /// As [`blocking_changed`](Self::blocking_changed), but for at most this long. Tokio has no
+    /// such call.
+    ///
+    /// A value that comes after the limit stays unseen, and the next wait reports it.
+    ///
+    /// # Examples
+    ///
+    /// ```
+    /// use std::time::Duration;
+    /// use topichub::watch::{self, error::RecvTimeoutError};
+    ///
+    /// let (tx, mut rx) = watch::channel(1);
+    /// let limit = Duration::from_millis(1);
+    /// assert_eq!(rx.changed_timeout(limit), Err(RecvTimeoutError::Timeout));
+    /// tx.send(2).unwrap();
+    /// assert_eq!(rx.changed_timeout(limit), Ok(()));
+    /// ```
+    pub fn changed_timeout(&mut self, timeout: Duration) -> Result<(), RecvTimeoutError> {
+        self.changed_until(deadline_after(timeout))
+    }
+
+    /// As [`changed_timeout`](Self::changed_timeout), until this time.
+    pub fn changed_deadline(&mut self, deadline: Instant) -> Result<(), RecvTimeoutError> {
+        self.changed_until(Some(deadline))
+    }
+
+    fn changed_until(&mut self, deadline: Option<Instant>) -> Result<(), RecvTimeoutError> {
+        let told = block_until(self.changed(), deadline);
+        Ok(told.ok_or(RecvTimeoutError::Timeout)??)
+    }
+
+    /// Waits for a value for which the closure returns `true`, and borrows it. Every value that the
+    /// closure was given is marked seen. It returns an error if no sender is left and the newest
+    /// value is no such value.
     ///
     /// # Examples
     ///
@@ -134,7 +206,7 @@ impl<T> Receiver<T> {
         let receiver = &*self;
         loop {
             {
-                let newest = receiver.look(|channel, id| channel.take(id));
+                let newest = receiver.take();
                 if is_it(&newest) {
                     return Ok(newest);
                 }
@@ -148,44 +220,51 @@ impl<T> Receiver<T> {
     }
 
     /// Makes the newest value unseen by this receiver.
+    #[track_caller]
     pub fn mark_changed(&mut self) {
-        self.mark(|channel, id| channel.mark_changed(id));
+        let version = self.mark(|channel, id| channel.mark_changed(id));
+        self.seen.store(version.wrapping_sub(1), Ordering::Relaxed);
     }
 
     /// Marks the newest value seen by this receiver.
+    #[track_caller]
     pub fn mark_unchanged(&mut self) {
-        self.mark(|channel, id| channel.mark_unchanged(id));
+        let version = self.mark(|channel, id| channel.mark_unchanged(id));
+        self.seen.store(version, Ordering::Relaxed);
     }
 
-    fn mark(&self, call: impl Fn(&mut library::Watch, u64) -> Reply) {
-        let told = self
-            .shared
-            .lock()
-            .core
-            .call(|channel| call(channel, self.id));
+    #[track_caller]
+    fn mark(&self, call: impl Fn(&mut library::Watch, u64) -> Reply) -> u64 {
+        let mut state = self.shared.lock();
+        let told = state.core.call(|channel| call(channel, self.id));
         if told.status != status::DONE {
             library::refused(told.status);
         }
+        state.version
     }
 
-    /// Whether both are receivers of one channel.
+    /// As `clone`, with an error in place of a panic.
+    pub fn try_clone(&self) -> Result<Self, HandleError> {
+        let mut state = self.shared.lock();
+        let id = state.new_receiver(|channel| channel.clone_rx(self.id))?;
+        self.shared.show(&state);
+        let seen = self.seen.load(Ordering::Relaxed);
+        Ok(Self::new(Arc::clone(&self.shared), id, seen))
+    }
+
+    /// Whether both are receivers of the same channel.
     pub fn same_channel(&self, other: &Self) -> bool {
         Arc::ptr_eq(&self.shared, &other.shared)
     }
 }
 
 impl<T> Clone for Receiver<T> {
-    /// A receiver, to which the newest value is seen or unseen as to this one. It panics if the
-    /// channel has 65,535, or where memory is refused.
+    /// A new receiver, with the same mark as this one: the newest value is seen or unseen. It
+    /// panics if the channel has 65,535, or if memory is refused; [`try_clone`](Self::try_clone)
+    /// returns these as errors.
+    #[track_caller]
     fn clone(&self) -> Self {
-        let id = self
-            .shared
-            .lock()
-            .new_receiver(|channel| channel.clone_rx(self.id));
-        Self {
-            shared: Arc::clone(&self.shared),
-            id,
-        }
+        made(self.try_clone())
     }
 }
 
@@ -195,13 +274,16 @@ impl<T> Drop for Receiver<T> {
         let told = state.core.call(|channel| channel.drop_rx(self.id));
         debug_assert_eq!(told.status, status::DONE);
         state.receivers -= 1;
+        self.shared.show(&state);
         let called = if state.receivers == 0 {
             state.leaving.call()
         } else {
             Called::nobody()
         };
+        let left = state.waiting.leave(&mut self.seat);
         drop(state);
         called.wake();
+        drop(left);
     }
 }
 
@@ -211,7 +293,7 @@ impl<T> fmt::Debug for Receiver<T> {
     }
 }
 
-/// A wait for a value that is unseen, made by [`Receiver::changed`].
+/// A wait for an unseen value, made by [`Receiver::changed`].
 #[must_use = "a future does nothing unless it is awaited"]
 pub struct Changed<'a, T> {
     receiver: &'a Receiver<T>,
@@ -223,14 +305,10 @@ impl<T> Future for Changed<'_, T> {
 
     fn poll(self: Pin<&mut Self>, context: &mut Context<'_>) -> Poll<Self::Output> {
         let Self { receiver, seat } = self.get_mut();
+        seat.expect_waiting("watch::Changed");
         let mut state = receiver.shared.lock();
-        let told = state.core.call(|channel| channel.changed(receiver.id));
-        let (polled, left) = match told.status {
-            status::MARKED => (Poll::Ready(Ok(())), state.waiting.leave(seat)),
-            status::CLOSED => (Poll::Ready(Err(RecvError(()))), state.waiting.leave(seat)),
-            status::WOULD_WAIT => (Poll::Pending, state.waiting.sit(seat, context.waker())),
-            other => library::refused(other),
-        };
+        let answer = state.changed(receiver.id, &receiver.seen);
+        let (polled, left) = state.waiting.poll(seat, context.waker(), answer);
         drop(state);
         drop(left);
         polled

@@ -2,15 +2,18 @@
 use super::error::SendError;
 use super::{Receiver, Ref, Shared};
 use crate::library::{self, status};
+use crate::recording::made;
 use crate::waiting::{Called, Seat};
+use crate::HandleError;
 use std::fmt;
 use std::future::Future;
 use std::mem;
 use std::pin::Pin;
+use std::sync::atomic::Ordering;
 use std::sync::Arc;
 use std::task::{Context, Poll};
 
-/// Publishes values on a channel. It may be cloned, and used by several threads at a time.
+/// Publishes values on a channel. It may be cloned, and used by several threads at once.
 pub struct Sender<T> {
     pub(super) shared: Arc<Shared<T>>,
     pub(super) id: u64,
@@ -22,12 +25,13 @@ impl<T> Sender<T> {
     ///
     /// # Panics
     ///
-    /// Where memory is refused.
+    /// If memory is refused.
+    #[track_caller]
     pub fn new(init: T) -> Self {
         super::channel(init).0
     }
 
-    /// Publishes a value, where there is a receiver; else the value comes back.
+    /// Publishes a value if there is a receiver; otherwise the error hands the value back.
     ///
     /// # Examples
     ///
@@ -40,6 +44,7 @@ impl<T> Sender<T> {
     /// assert_eq!(tx.send(3), Err(watch::error::SendError(3)));
     /// assert_eq!(*tx.borrow(), 2);
     /// ```
+    #[track_caller]
     pub fn send(&self, value: T) -> Result<(), SendError<T>> {
         let mut newest = self.shared.write();
         let mut state = self.shared.lock();
@@ -49,6 +54,7 @@ impl<T> Sender<T> {
             status::NO_RECEIVERS | status::EXHAUSTED => return Err(SendError(value)),
             other => library::refused(other),
         }
+        self.shared.show(&state);
         let called = state.waiting.call();
         drop(state);
         let before = mem::replace(&mut *newest, value);
@@ -58,7 +64,7 @@ impl<T> Sender<T> {
         Ok(())
     }
 
-    /// Publishes a value, whether there are receivers or not, and answers the value before.
+    /// Publishes a value, with or without receivers, and returns the value that it replaces.
     ///
     /// # Panics
     ///
@@ -73,6 +79,7 @@ impl<T> Sender<T> {
     /// assert_eq!(tx.send_replace(2), 1);
     /// assert_eq!(tx.send_replace(3), 2);
     /// ```
+    #[track_caller]
     pub fn send_replace(&self, value: T) -> T {
         let mut newest = self.shared.write();
         let mut state = self.shared.lock();
@@ -80,6 +87,7 @@ impl<T> Sender<T> {
         if told.status != status::WAS {
             library::refused(told.status);
         }
+        self.shared.show(&state);
         let called = state.waiting.call();
         drop(state);
         let before = mem::replace(&mut *newest, value);
@@ -88,13 +96,12 @@ impl<T> Sender<T> {
         before
     }
 
-    /// Changes the newest value where it stands, and publishes it, whether there are receivers or
-    /// not.
+    /// Changes the newest value in place and publishes it, with or without receivers.
     ///
     /// # Panics
     ///
-    /// Where the closure panics; then nothing is published, and the value is as the closure left
-    /// it. If the channel has had 2^64 - 1 versions.
+    /// If the closure panics; then nothing is published, and the value is as the closure left it.
+    /// If the channel has had 2^64 - 1 versions.
     ///
     /// # Examples
     ///
@@ -105,6 +112,7 @@ impl<T> Sender<T> {
     /// tx.send_modify(|list| list.push(2));
     /// assert_eq!(*rx.borrow_and_update(), [1, 2]);
     /// ```
+    #[track_caller]
     pub fn send_modify<F: FnOnce(&mut T)>(&self, modify: F) {
         self.send_if_modified(|value| {
             modify(value);
@@ -112,8 +120,8 @@ impl<T> Sender<T> {
         });
     }
 
-    /// Changes the newest value where it stands, and publishes it if the closure answers `true`. If
-    /// it answers `false`, what it leaves is shown from then on, and nobody is told.
+    /// Changes the newest value in place, and publishes it if the closure returns `true`. If it
+    /// returns `false`, the change is visible but is not reported.
     ///
     /// # Panics
     ///
@@ -136,6 +144,7 @@ impl<T> Sender<T> {
     /// assert!(!raise_to(2));
     /// assert_eq!(*rx.borrow_and_update(), 3);
     /// ```
+    #[track_caller]
     pub fn send_if_modified<F: FnOnce(&mut T) -> bool>(&self, modify: F) -> bool {
         let mut newest = self.shared.write();
         let is_modified = modify(&mut newest);
@@ -144,6 +153,7 @@ impl<T> Sender<T> {
             true => channel.set(self.id, number),
             false => channel.quiet(self.id, number),
         });
+        self.shared.show(&state);
         let called = match told.status {
             status::YES => state.waiting.call(),
             status::NO => Called::nobody(),
@@ -155,7 +165,7 @@ impl<T> Sender<T> {
         is_modified
     }
 
-    /// Lends the newest value. No entry of a [`Recording`](super::Recording) tells of it.
+    /// Borrows the newest value. A [`Recording`](super::Recording) has no entry for this call.
     pub fn borrow(&self) -> Ref<'_, T> {
         Ref {
             value: self.shared.read(),
@@ -163,11 +173,12 @@ impl<T> Sender<T> {
         }
     }
 
-    /// A receiver, to which the newest value is seen.
+    /// A new receiver that has seen the newest value.
     ///
     /// # Panics
     ///
-    /// If the channel has 65,535 receivers, or where memory is refused.
+    /// If the channel has 65,535 receivers, or if memory is refused.
+    /// [`try_subscribe`](Self::try_subscribe) returns these as errors.
     ///
     /// # Examples
     ///
@@ -180,18 +191,32 @@ impl<T> Sender<T> {
     /// tx.send(2).unwrap();
     /// assert_eq!(rx.has_changed(), Ok(true));
     /// ```
+    #[track_caller]
     pub fn subscribe(&self) -> Receiver<T> {
-        let id = self
-            .shared
-            .lock()
-            .new_receiver(|channel| channel.subscribe(self.id));
-        Receiver {
-            shared: Arc::clone(&self.shared),
-            id,
-        }
+        made(self.try_subscribe())
     }
 
-    /// How many receivers are live.
+    /// As [`subscribe`](Self::subscribe), with an error in place of a panic.
+    pub fn try_subscribe(&self) -> Result<Receiver<T>, HandleError> {
+        let mut state = self.shared.lock();
+        let id = state.new_receiver(|channel| channel.subscribe(self.id))?;
+        self.shared.show(&state);
+        Ok(Receiver::new(Arc::clone(&self.shared), id, state.version))
+    }
+
+    /// Another sender of the same channel: as `clone`, with an error in place of a panic.
+    pub fn try_clone(&self) -> Result<Self, HandleError> {
+        let mut state = self.shared.lock();
+        let id = state.core.new_handle(|channel| channel.clone_tx(self.id))?;
+        state.senders += 1;
+        Ok(Self {
+            shared: Arc::clone(&self.shared),
+            id,
+        })
+    }
+
+    /// The number of live receivers.
+    #[track_caller]
     pub fn receiver_count(&self) -> usize {
         self.shared
             .lock()
@@ -199,8 +224,17 @@ impl<T> Sender<T> {
             .count(|channel| channel.readers(self.id))
     }
 
+    /// The number of live senders. A [`Recording`](super::Recording) has no entry for this call.
+    pub fn sender_count(&self) -> usize {
+        self.shared.lock().senders
+    }
+
     /// Whether no receiver is left.
+    #[track_caller]
     pub fn is_closed(&self) -> bool {
+        if !self.shared.is_recorded {
+            return self.shared.receivers.load(Ordering::Acquire) == 0;
+        }
         let told = self
             .shared
             .lock()
@@ -213,7 +247,7 @@ impl<T> Sender<T> {
     ///
     /// # Cancel safety
     ///
-    /// Who drops the future before it is ready has changed nothing.
+    /// This method is cancel safe: dropping the future changes nothing.
     pub fn closed(&self) -> Closed<'_, T> {
         Closed {
             sender: self,
@@ -221,12 +255,13 @@ impl<T> Sender<T> {
         }
     }
 
-    /// Whether both are senders of one channel.
+    /// Whether both are senders of the same channel.
     pub fn same_channel(&self, other: &Self) -> bool {
         Arc::ptr_eq(&self.shared, &other.shared)
     }
 }
 
+#[track_caller]
 fn is_yes(told: u32) -> bool {
     match told {
         status::YES => true,
@@ -236,17 +271,11 @@ fn is_yes(told: u32) -> bool {
 }
 
 impl<T> Clone for Sender<T> {
-    /// Another sender of the same channel. It panics if the channel has 65,535, or where memory is
-    /// refused.
+    /// Another sender of the same channel. It panics if the channel has 65,535, or if memory is
+    /// refused; [`try_clone`](Self::try_clone) returns these as errors.
+    #[track_caller]
     fn clone(&self) -> Self {
-        let mut state = self.shared.lock();
-        let id = state.core.new_handle(|channel| channel.clone_tx(self.id));
-        state.senders += 1;
-        drop(state);
-        Self {
-            shared: Arc::clone(&self.shared),
-            id,
-        }
+        made(self.try_clone())
     }
 }
 
@@ -262,6 +291,7 @@ impl<T> Drop for Sender<T> {
         let told = state.core.call(|channel| channel.drop_tx(self.id));
         debug_assert_eq!(told.status, status::DONE);
         state.senders -= 1;
+        self.shared.show(&state);
         let called = if state.senders == 0 {
             state.waiting.call()
         } else {
@@ -290,13 +320,11 @@ impl<T> Future for Closed<'_, T> {
 
     fn poll(self: Pin<&mut Self>, context: &mut Context<'_>) -> Poll<()> {
         let Self { sender, seat } = self.get_mut();
+        seat.expect_waiting("watch::Closed");
         let mut state = sender.shared.lock();
         let told = state.core.call(|channel| channel.is_closed(sender.id));
-        let (polled, left) = if is_yes(told.status) {
-            (Poll::Ready(()), state.leaving.leave(seat))
-        } else {
-            (Poll::Pending, state.leaving.sit(seat, context.waker()))
-        };
+        let answer = is_yes(told.status).then_some(());
+        let (polled, left) = state.leaving.poll(seat, context.waker(), answer);
         drop(state);
         drop(left);
         polled
