@@ -1,116 +1,106 @@
-"""A client of `topichub serve`, on Python's standard library alone."""
+"""What the clients of this folder share. They use the package topichub: that of the repository or of the documents around this
+folder, else the one that is installed."""
 import argparse
-import select
-import socket
+import os
 import sys
 import time
+
+HERE = os.path.dirname(os.path.realpath(__file__))
+PACKAGE = os.path.join(HERE, "..", "..", "lib", "python")
+if os.path.isdir(PACKAGE):
+    sys.path.insert(0, os.path.normpath(PACKAGE))
+
+from topichub import Client, NoTopic, commands  # noqa: E402
+
+# A value is bytes and need not be text: what is not UTF-8 goes through a `str` unchanged.
+CODE = ("utf-8", "surrogateescape")
+NO_TOPIC = "ERR 11 no-topic"
+PAUSE = 0.01  # seconds until the hub is asked again
+
+
+def until(hub, command, wanted):
+    """Asks again and again until this is the answer, for what other clients have still to do."""
+    while True:
+        try:
+            if hub.ask(command) == wanted:
+                return
+        except NoTopic:  # nobody has opened it yet
+            pass
+        time.sleep(PAUSE)
 
 
 class Refused(Exception):
     """The hub answered `ERR code word`."""
 
 
-# A value is bytes and need not be text: what is not UTF-8 goes through a `str` unchanged.
-CODE = ("utf-8", "surrogateescape")
-AT_ONCE = 65_536  # bytes that are read at once
-
-
-def as_line(text):
-    """A line of the protocol. What has an end of line in it would be two, so it is refused."""
-    if "\n" in text or "\r" in text:
-        raise ValueError(f"no line: {text!r}")
-    return text.encode(*CODE) + b"\n"
-
-
 class Hub:
-    """One session: it begins with the connection, and all that it holds is spent when the connection ends."""
+    """A session in lines of the protocol, for tools that show or compare them. Other programs use the functions of
+    `topichub.commands`, as publisher.py does."""
 
     def __init__(self, path):
-        self.socket = socket.socket(socket.AF_UNIX, socket.SOCK_STREAM)
-        self.socket.connect(path)
-        self.came = b""  # what was read and not told yet
-        self.due = 0  # lines without their replies
+        self.client = Client(path)
+        self.socket = self.client._socket  # for measurements, which only count replies
 
     def send(self, *lines):
-        """Sends lines ahead; their replies are the next ones that `reply` has not told yet."""
-        if self.due == 0 and (self.came or select.select([self.socket], [], [], 0)[0]):
-            self.read_on()
-            raise ConnectionError("the hub has sent more replies than it was asked for")
-        self.socket.sendall(b"".join(map(as_line, lines)))
-        self.due += len(lines)
-
-    def read_on(self):
-        more = self.socket.recv(AT_ONCE)
-        if not more:
-            raise ConnectionError("the hub has ended the session")
-        self.came += more
-
-    def row(self):
-        """The next line that the hub sends."""
-        while b"\n" not in self.came:
-            self.read_on()
-        line, _, self.came = self.came.partition(b"\n")
-        return line.decode(*CODE)
+        """Sends lines ahead; their replies are the next ones that `reply` returns."""
+        self.client.send(*map(as_command, lines))
 
     def reply(self):
-        text = self.row()
-        self.due -= 1
+        """The reply to the first line that has none yet."""
+        return self.text(self.client.answer())
+
+    def ask(self, line):
+        """The reply to a line; to NEXT and CHANGED once there is one."""
+        return self.text(self.client.ask(as_command(line)))
+
+    def rows(self, line):
+        """The lines below the reply to LIST or TRACE."""
+        told = self.client.ask(as_command(line))
+        self.text(told)
+        return [row.decode(*CODE) for row in told.rows]
+
+    def ask_all(self, lines):
+        """The replies to lines that are all sent ahead, with refusals among them."""
+        return [told.line.decode(*CODE) for told in self.client.ask_all(map(as_command, lines))]
+
+    def until(self, line, wanted):
+        """Asks again and again until this is the reply, for what other clients have still to do."""
+        while self.ask_all([line]) != [wanted]:
+            time.sleep(PAUSE)
+
+    @staticmethod
+    def text(told):
+        text = told.line.decode(*CODE)
         if text.startswith("ERR "):
             raise Refused(text)
         return text
 
-    def ask(self, line):
-        """The reply to a line. Of NEXT and CHANGED it comes when there is something to tell."""
-        self.send(line)
-        return self.reply()
 
-    def rows(self, line):
-        """The lines below the reply to LIST or TRACE."""
-        return [self.row() for _ in range(int(self.ask(line).split()[1]))]
-
-    def ask_all(self, lines):
-        """The replies to lines that are all sent ahead, refusals as they come. None of them is LIST or TRACE."""
-        self.send(*lines)
-        return [self.reply_or_refusal() for _ in lines]
-
-    def reply_or_refusal(self):
-        try:
-            return self.reply()
-        except Refused as refusal:
-            return str(refusal)
-
-    def until(self, line, wanted):
-        """Asks again and again, until this is the reply: for what other clients have still to do."""
-        while True:
-            try:
-                if self.ask(line) == wanted:
-                    return
-            except Refused as refusal:
-                if str(refusal) != "ERR 11 no-topic":  # nobody has opened it yet
-                    raise
-            time.sleep(0.01)
+def as_command(line):
+    """A line of text as a command. What has an end of line in it would be two, and is refused."""
+    return commands.raw(line.encode(*CODE))
 
 
 def parser(doc):
-    """The words of a client's command line, which begin with the path of a socket; `--help` prints the client's own text."""
+    """The arguments of a client, which begin with the path of a socket; `--help` prints the client's own text."""
     words = argparse.ArgumentParser(
         description=doc,
         formatter_class=argparse.RawDescriptionHelpFormatter,
-        epilog="exit status: 0 where the session went to its end, else 1; 2 where the words are wrong",
+        epilog="exit status: 0 if the session went to its end, else 1; 2 for bad usage",
     )
     words.add_argument("path", metavar="PATH", help="the socket, as in: topichub serve PATH --sessions 4")
     return words
 
 
-def connected(path):
-    """A session with the server at this socket; where nobody listens there, the client ends."""
+def connected(path, kind=Hub, **how):
+    """A session with the server at this socket. If nobody listens there, the program ends."""
     sys.stdout.reconfigure(encoding=CODE[0], errors=CODE[1])  # so that a value is printed as it came
     try:
-        return Hub(path)
+        return kind(path, **how)
     except OSError as fault:
         sys.exit(f"{path}: {fault.strerror}; does `serve` listen there, with a session left?")
 
 
 def session(doc):
-    """A session with the server whose socket is the one word of the command line."""
-    return connected(parser(doc).parse_args().path)
+    """A client of the server whose socket is the only argument of the command line."""
+    return connected(parser(doc).parse_args().path, Client, encoding="utf-8")

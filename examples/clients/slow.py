@@ -1,15 +1,17 @@
 #!/usr/bin/env python3
-"""A slow subscriber: it looks only when ten news are there, and the window keeps four of them."""
-from hub import session
+"""A slow subscriber: it looks only when ten news items have been sent, and the topic keeps four of them."""
+from hub import session, until
+from topichub import Closed, Lagged, commands
 
-hub = session(__doc__)
-hub.until("SUB news", "OK")
-hub.until("LEFT news", "OK 10")  # it has other work to do meanwhile
-while True:
-    reply = hub.ask("NEXT news")  # waits, where nothing is there yet
-    print(reply)
-    if reply.startswith("LAG "):
-        print("  so many were missed; it goes on with the oldest one that is kept")
-    if reply == "CLOSED":
-        break
-print(hub.ask("QUIT"))
+with session(__doc__) as hub:
+    until(hub, commands.subscribe("news"), True)
+    until(hub, commands.left("news"), 10)  # it has other work to do meanwhile
+    while True:
+        try:
+            print(hub.ask(commands.recv("news")).decode())  # waits if there is nothing yet
+        except Lagged as lag:
+            print("missed", lag.count, "and continues with the oldest item that is kept")
+        except Closed:
+            print("closed")
+            break
+    hub.ask(commands.quit_session())

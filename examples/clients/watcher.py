@@ -1,16 +1,19 @@
 #!/usr/bin/env python3
-"""Watches settings: gets the newest ones whenever it is told of a change, and says which it has applied."""
-from hub import session
+"""Watches settings: looks at the newest ones whenever they have changed, and reports which it has applied."""
+from hub import session, until
+from topichub import Closed, commands
 
-hub = session(__doc__)
-hub.until("SUB settings", "OK")  # the last topic that is opened, so somebody receives on `applied`
-hub.ask("BIND applied")
-reply = hub.ask("GET settings")
-print("at first:", reply)
-hub.ask("PUB applied " + reply.partition(" ")[2])
-while hub.ask("CHANGED settings") == "CHANGED":  # waits for news, and they are seen then
-    reply = hub.ask("GET settings")
-    print("now:", reply)
-    hub.ask("PUB applied " + reply.partition(" ")[2])
-print("closed")
-print(hub.ask("QUIT"))
+with session(__doc__) as hub:
+    until(hub, commands.subscribe("settings"), True)  # the last topic that is opened, so somebody receives on `applied`
+    hub.ask(commands.bind("applied"))
+    settings = hub.ask(commands.borrow("settings")).value
+    print("at first:", settings.decode())
+    hub.ask(commands.send("applied", settings))
+    try:
+        while hub.ask(commands.changed("settings")):  # waits for a change
+            settings = hub.ask(commands.borrow("settings")).value
+            print("now:", settings.decode())
+            hub.ask(commands.send("applied", settings))
+    except Closed:
+        print("closed")
+    hub.ask(commands.quit_session())

@@ -4,10 +4,12 @@ import gc
 import random
 import threading
 import time
+import weakref
 
 import pytest
 
-from topichub import Broadcast, Closed, Empty, Lagged, NoReceivers, TooMany, check
+from topichub import (BadCapacity, BadLimit, Broadcast, ChannelError, Closed, Empty, HandleClosed, HistoryFull, Lagged, NoReceivers,
+                      PartlySent, TooMany, check)
 
 
 def test_each_value_goes_to_each_receiver_in_order():
@@ -51,6 +53,20 @@ def test_without_receivers_a_value_is_not_kept():
         news.send("lost")
     receiver = news.subscribe()
     assert (news.receiver_count(), news.send("told"), receiver.recv()) == (1, 1, "told")
+
+
+def test_a_value_that_was_refused_is_not_held_on_to():
+    news = Broadcast(2)
+    for send in (news.send, lambda value: news.send_many([value])):
+        value = threading.Event()  # any object that can be weakly held
+        left = weakref.ref(value)
+        with pytest.raises(NoReceivers):
+            send(value)
+        del value
+        gc.collect()
+        assert left() is None
+    receiver = news.subscribe()
+    assert (news.send("told"), receiver.recv(), news.queued()) == (1, "told", 0)
 
 
 def test_new_receivers_begin_where_they_say():
@@ -120,18 +136,48 @@ def test_values_are_let_go_after_the_last_receive_and_may_use_the_channel_then()
 
 def test_what_no_channel_can_have_is_refused():
     for capacity in (0, 65_537):
-        with pytest.raises(ValueError):
+        with pytest.raises(BadCapacity):
             Broadcast(capacity)
     for limit in (0, 2, 1_000_001):
-        with pytest.raises(ValueError):
+        with pytest.raises(BadLimit):
             Broadcast(1, recorded=limit)
     with pytest.raises(ValueError):
         Broadcast(1).trace()
+    assert issubclass(BadCapacity, ValueError) and issubclass(BadLimit, ValueError) and issubclass(HandleClosed, ValueError)
+    assert all(issubclass(it, ChannelError) for it in (BadCapacity, BadLimit, HandleClosed, TooMany, PartlySent))
+
+
+def test_the_65_536th_receiver_is_refused_by_name_and_a_closed_one_makes_room():
     news = Broadcast(1)
     receivers = [news.subscribe() for _ in range(65_535)]
-    with pytest.raises(TooMany):
-        news.subscribe()
-    assert len(receivers) == news.receiver_count()
+    for subscribe in (news.subscribe, lambda: news.subscribe(oldest=True), receivers[0].resubscribe):
+        with pytest.raises(TooMany, match="65,535 receivers"):
+            subscribe()
+    assert news.receiver_count() == 65_535
+    assert news.send("still") == 65_535
+    receivers.pop().close()
+    receivers.append(news.subscribe())
+    assert (news.receiver_count(), receivers[0].recv()) == (65_535, "still")
+
+
+def test_the_65_536th_sender_is_refused_by_name_and_a_closed_one_makes_room():
+    senders = [Broadcast(1)]
+    senders += [senders[0].clone() for _ in range(65_534)]
+    with pytest.raises(TooMany, match="65,535 senders"):
+        senders[-1].clone()
+    senders.pop().close()
+    senders.append(senders[0].clone())
+
+
+def test_a_closed_handle_says_so():
+    news = Broadcast(1)
+    receiver = news.subscribe()
+    news.close()
+    receiver.close()
+    for use in (lambda: news.send(1), news.subscribe, news.clone, news.queued, receiver.recv, receiver.try_recv, receiver.left,
+                lambda: receiver.recv_many(2), lambda: news.send_many([1, 2])):
+        with pytest.raises(HandleClosed):
+            use()
 
 
 def test_a_receive_waits_no_longer_than_it_is_told():
@@ -143,6 +189,168 @@ def test_a_receive_waits_no_longer_than_it_is_told():
     timer.start()
     assert receiver.recv(timeout=60) == "late"
     timer.join()
+
+
+def test_a_limit_may_be_nothing_or_more_than_a_system_counts():
+    news = Broadcast(4)
+    receiver = news.subscribe()
+    for timeout in (0, -1, 0.0):
+        with pytest.raises(TimeoutError):
+            receiver.recv(timeout)
+        with pytest.raises(TimeoutError):
+            asyncio.run(receiver.recv_async(timeout))
+    timer = threading.Timer(0.01, news.send_many, [["late", "later"]])
+    timer.start()
+    assert receiver.recv(1e300) == "late"
+    assert asyncio.run(receiver.recv_async(float("inf"))) == "later"
+    timer.join()
+    news.send("there")
+    assert receiver.recv(0) == "there"
+
+
+def test_what_comes_after_the_limit_is_the_next_receive():
+    async def run():
+        news = Broadcast(4)
+        receiver = news.subscribe()
+        for wait in (receiver.recv_async(timeout=0.01), receiver.recv_many_async(3, timeout=0.01)):
+            with pytest.raises(TimeoutError):
+                await wait
+        for wait in (receiver.recv_async(), receiver.recv_many_async(3)):
+            with pytest.raises(asyncio.TimeoutError):
+                await asyncio.wait_for(wait, 0.01)
+        for wait in (lambda: receiver.recv(0.01), lambda: receiver.recv_many(3, 0.01)):
+            with pytest.raises(TimeoutError):
+                wait()
+        news.send_many([1, 2, 3])
+        return [await receiver.recv_async(timeout=60), receiver.recv(60), *receiver.recv_many(3)]
+
+    assert asyncio.run(run()) == [1, 2, 3]
+
+
+def test_short_waits_and_cancels_miss_nothing():
+    dice = random.Random(3)
+
+    async def receive(receiver, told):
+        while True:
+            limit = dice.random() / 5_000
+            wait = dice.choice([lambda: receiver.recv_async(limit), receiver.recv_async, lambda: receiver.recv_many_async(3, limit)])
+            waiting = asyncio.create_task(wait())
+            await asyncio.wait([waiting], timeout=limit)
+            waiting.cancel()  # whether it has its value or not
+            try:
+                found = await waiting
+                told += found if isinstance(found, list) else [found]
+            except Lagged as lag:
+                told += [None] * lag.count
+            except (TimeoutError, asyncio.CancelledError):
+                pass
+            except Closed:
+                return told
+
+    news = Broadcast(64)
+    receiver = news.subscribe()
+
+    def send():
+        with news:
+            for number in range(3_000):
+                news.send(number)
+                if number % 50 == 0:
+                    time.sleep(0.0001)  # so that the receiver has to wait now and then
+
+    sending = threading.Thread(target=send)
+    sending.start()
+    told = asyncio.run(receive(receiver, []))
+    sending.join()
+    assert [number if value is None else value for number, value in enumerate(told)] == list(range(3_000))
+
+
+def test_many_values_are_sent_in_a_row_and_received_as_far_as_they_are_there():
+    with Broadcast(4) as news:
+        first, second = news.subscribe(), news.subscribe()
+        assert news.send_many(iter("abc")) == 2
+        assert news.send_many([]) == 0
+        assert first.recv_many(2) == ["a", "b"]
+        assert first.recv_many(9) == ["c"]
+        assert (first.recv_many(0), first.recv_many(-1), second.left()) == ([], [], 3)
+        news.send_many("defg")
+        with pytest.raises(Lagged) as lag:
+            second.recv_many(9)
+        assert (lag.value.count, second.recv_many(3), second.recv_many(9)) == (3, ["d", "e", "f"], ["g"])
+    assert first.recv_many(9) == ["d", "e", "f", "g"]
+    with pytest.raises(Closed):
+        first.recv_many(9)
+    assert second.recv_many(0) == []
+
+
+def test_a_receive_of_many_waits_for_one():
+    news = Broadcast(4)
+    receiver = news.subscribe()
+    timer = threading.Timer(0.01, news.send_many, [[1, 2]])
+    timer.start()
+    assert receiver.recv_many(9, timeout=60) == [1, 2]
+    timer.join()
+    timer = threading.Timer(0.01, news.send_many, [[3, 4]])
+    timer.start()
+    assert asyncio.run(receiver.recv_many_async(9, timeout=60)) == [3, 4]
+    timer.join()
+
+
+def test_a_send_of_many_to_nobody_sends_none():
+    with pytest.raises(NoReceivers):
+        Broadcast(8).send_many([1, 2])
+
+
+def test_a_history_without_room_is_named():
+    news = Broadcast(8, recorded=3)  # room for one call, and for the drops of the sender and one receiver
+    receiver = news.subscribe()
+    with pytest.raises(HistoryFull):
+        news.subscribe()
+    assert (news.send("there"), receiver.recv(), issubclass(HistoryFull, OverflowError)) == (1, "there", True)
+
+
+def test_a_send_of_many_that_fails_wakes_those_who_get_the_first(monkeypatch):
+    news = Broadcast(8)
+    receiver = news.subscribe()
+    channel, made = news._channel, []
+    call = channel.call
+
+    def fails(name, *numbers):
+        made.append(name)
+        if made == ["send"] * 3:
+            raise MemoryError("memory was refused")
+        return call(name, *numbers)
+
+    told = []
+    receiving = threading.Thread(target=lambda: told.append(receiver.recv(60)))
+    receiving.start()
+    while not channel.waiting._wakes:
+        time.sleep(0.001)
+    with monkeypatch.context() as refusing:
+        refusing.setattr(channel, "call", lambda name, *numbers: fails(name, *numbers) if name == "send" else call(name, *numbers))
+        with pytest.raises(PartlySent) as partly:
+            news.send_many([1, 2, 3, 4])
+    receiving.join()
+    assert (partly.value.sent, type(partly.value.__cause__), told) == (2, MemoryError, [1])
+    assert (news.send(5), receiver.recv_many(9)) == (1, [2, 5])
+
+
+def test_a_receive_of_many_that_fails_keeps_what_it_has(monkeypatch):
+    news = Broadcast(8)
+    receiver = news.subscribe()
+    news.send_many([1, 2, 3])
+    channel, made = news._channel, []
+    call = channel.call
+
+    def fails(name, *numbers):
+        made.append(name)
+        if len(made) == 3:
+            raise MemoryError("memory was refused")
+        return call(name, *numbers)
+
+    with monkeypatch.context() as refusing:
+        refusing.setattr(channel, "call", fails)
+        assert receiver.recv_many(9) == [1, 2]
+    assert receiver.recv_many(9) == [3]
 
 
 def test_a_task_waits_and_others_run_meanwhile():

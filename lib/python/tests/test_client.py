@@ -11,8 +11,8 @@ import pytest
 
 from topichub import (AsyncClient, Client, Closed, Empty, Lagged, NoReceivers, ProtocolError, Refused, Shown, commands)
 
-PROGRAM = os.environ.get("TOPICHUB")
-NEEDS_PROGRAM = pytest.mark.skipif(not PROGRAM, reason="TOPICHUB names no program")
+from hubs import NEEDS_PROGRAM, served
+
 NOT_TEXT = b"\xff\x00 \x80"
 
 
@@ -123,9 +123,16 @@ def test_what_no_line_may_have_is_refused_before_it_is_sent():
     for number in (-1, 2**64):
         with pytest.raises(ValueError):
             commands.open_broadcast("t", number)
-    with pytest.raises(TypeError):
-        commands.send("t", "text")
-    assert commands.send("t", bytearray(b"x")).line == b"PUB t x"
+    for value in (5, None, ["x"]):
+        with pytest.raises(TypeError, match="a value is bytes"):
+            commands.send("t", value)
+    with pytest.raises(TypeError, match="a str"):
+        commands.bind(b"t")
+    for line in (b"", b"LIST\nQUIT"):
+        with pytest.raises(ValueError):
+            commands.raw(line)
+    for value in (bytearray(b"x"), memoryview(b"x")):
+        assert commands.send("t", value).line == b"PUB t x"
 
 
 def test_a_session_that_has_ended_says_so(tmp_path):
@@ -159,21 +166,50 @@ def test_commands_may_be_sent_ahead(tmp_path):
         assert [hub.answer() for _ in range(3)] == [True, 1, b"x"]
 
 
+def test_where_one_command_cannot_be_sent_none_is(tmp_path):
+    several = commands.send("t", b"x"), commands.send("t", "text")
+
+    def made():
+        yield commands.send("t", b"x")
+        raise ValueError("the second one cannot be made")
+
+    async def run(path):
+        async with await AsyncClient.connect(path) as hub:
+            for given, fault in ((several, TypeError), (made(), ValueError)):
+                with pytest.raises(fault):
+                    await hub.ask_all(given)
+            return await hub.ask(commands.left("t"))
+
+    with pretended(tmp_path, [b"OK 1\n"]) as (path, lines):
+        assert asyncio.run(run(path)) == 1
+    assert lines == [b"LEFT t\n"]
+    os.remove(path)
+    with pretended(tmp_path, [b"OK 1\n"]) as (path, lines), Client(path) as hub:
+        for act in (lambda: hub.send(*several), lambda: hub.ask_all(several), lambda: hub.ask(several[1])):
+            with pytest.raises(TypeError):
+                act()
+        with pytest.raises(ValueError):
+            hub.ask_all(made())
+        assert hub.ask(commands.left("t")) == 1
+    assert lines == [b"LEFT t\n"]
+
+
 def test_tasks_ask_side_by_side_and_a_cancelled_ask_shifts_no_reply(tmp_path):
     async def run(path):
         async with await AsyncClient.connect(path) as hub:
             given_up = asyncio.create_task(hub.ask(commands.recv("t")))
             await asyncio.sleep(0)
             given_up.cancel()
-            counts = await hub.ask_all([commands.left("t"), commands.left("t")])
+            counts = await hub.ask_all([commands.queued("t"), commands.queued("t")])
             rows = await hub.ask(commands.topics())
+            late = await hub.ask(commands.recv("t"))
             with pytest.raises(Lagged):
                 await hub.ask(commands.recv("t"))
-            return counts, rows
+            return counts, rows, late
 
-    replies = [b"VAL lost\n", b"OK 1\n", b"OK 2\n", b"OK 1\nnews B\n", b"LAG 1\n"]
+    replies = [b"VAL late\n", b"OK 1\n", b"OK 2\n", b"OK 1\nnews B\n", b"LAG 1\n"]
     with pretended(tmp_path, replies) as (path, _):
-        assert asyncio.run(run(path)) == ([1, 2], {"news": "B"})
+        assert asyncio.run(run(path)) == ([1, 2], {"news": "B"}, b"late")
 
 
 def test_tasks_are_told_when_the_session_has_ended(tmp_path):
@@ -188,19 +224,6 @@ def test_tasks_are_told_when_the_session_has_ended(tmp_path):
     with pretended(tmp_path, [b"VAL x\n"]) as (path, _):
         first, second = asyncio.run(run(path))
     assert first == b"x" and isinstance(second, ConnectionError)
-
-
-@contextlib.contextmanager
-def served(folder, sessions):
-    """The path of a server of so many sessions. It has to end by itself."""
-    path = str(folder / "hub")
-    with subprocess.Popen([PROGRAM, "serve", path, "--sessions", str(sessions)], stdout=subprocess.PIPE) as server:
-        try:
-            assert server.stdout.readline() == b"listening\n"
-            yield path
-            assert server.wait(timeout=60) == 0
-        finally:
-            server.kill()
 
 
 @NEEDS_PROGRAM
@@ -246,7 +269,7 @@ EXAMPLES = os.path.join(os.path.dirname(os.path.abspath(__file__)), "..", "..", 
 
 @pytest.mark.skipif(not os.path.isdir(EXAMPLES), reason="the examples are not beside this package")
 def test_the_clients_among_the_examples_print_a_value_as_it_came(tmp_path):
-    script = "from hub import session; hub = session(''); print(hub.ask('GET t'))"
+    script = "import sys; from hub import connected; hub = connected(sys.argv[1]); print(hub.ask('GET t'))"
     with pretended(tmp_path, [b"NEW " + NOT_TEXT + b"\n"]) as (path, _):
         printed = subprocess.run([sys.executable, "-c", script, path], cwd=EXAMPLES, stdout=subprocess.PIPE, check=True,
                                  env={**os.environ, "PYTHONPATH": ".", "PYTHONDONTWRITEBYTECODE": "1"}).stdout

@@ -6,7 +6,7 @@ import time
 
 import pytest
 
-from topichub import Closed, NoReceivers, Shown, Watch, check
+from topichub import Closed, NoReceivers, Shown, TooMany, Watch, check
 
 
 def test_a_change_is_told_once_and_the_newest_value_is_shown():
@@ -93,6 +93,88 @@ def test_a_reader_waits_in_a_thread_or_a_task():
     seen = asyncio.run(asyncio.wait_for(follow(), 60))
     publisher.join()
     assert seen[-1] == 3 and seen == sorted(seen)
+
+
+def test_what_comes_after_the_limit_is_told_by_the_next_wait():
+    async def run():
+        light = Watch(0)
+        reader = light.subscribe()
+        with pytest.raises(TimeoutError):
+            await reader.changed_async(timeout=0.01)
+        with pytest.raises(asyncio.TimeoutError):
+            await asyncio.wait_for(reader.changed_async(), 0.01)
+        with pytest.raises(TimeoutError):
+            await light.wait_closed_async(timeout=0.01)
+        with pytest.raises(TimeoutError):
+            light.wait_closed(timeout=0.01)
+        light.send(1)
+        await reader.changed_async(timeout=60)
+        light.send(2)
+        reader.changed(timeout=60)
+        reader.close()
+        await light.wait_closed_async(timeout=60)
+        light.wait_closed(timeout=60)
+
+    asyncio.run(run())
+
+
+def test_short_waits_and_cancels_miss_no_last_value():
+    dice = random.Random(4)
+
+    async def follow(reader):
+        seen = 0
+        while seen != 1_000:
+            waiting = asyncio.create_task(reader.changed_async(dice.choice([None, dice.random() / 5_000])))
+            await asyncio.wait([waiting], timeout=dice.random() / 5_000)
+            waiting.cancel()  # whether it was told or not
+            # Only after it is told of news does it look; so without the last news it would wait for ever.
+            if (await asyncio.gather(waiting, return_exceptions=True))[0] is None:
+                seen = reader.borrow().value
+
+    light = Watch(0)
+    reader = light.subscribe()
+    publishing = threading.Thread(target=lambda: [light.send(number) for number in range(1, 1_001)])
+    publishing.start()
+    asyncio.run(asyncio.wait_for(follow(reader), 60))
+    publishing.join()
+
+
+def test_many_values_are_published_in_a_row():
+    light = Watch("red", recorded=100)
+    with pytest.raises(NoReceivers):
+        light.send_many(["amber", "green"])
+    reader = light.subscribe()
+    light.send_many([])
+    assert not reader.has_changed()
+    light.send_many(iter(["amber", "green"]))
+    assert reader.borrow_and_update() == Shown("green", True)
+    assert not reader.has_changed()
+    text = light.trace()
+    assert check(text).word == "legal" and "C send 1 1\nR done\nC send 1 2\nR done\n" in text
+
+
+def test_many_values_wake_a_reader_that_waits():
+    light = Watch("red")
+    reader = light.subscribe()
+    timer = threading.Timer(0.01, light.send_many, [["amber", "green"]])
+    timer.start()
+    reader.changed(timeout=60)
+    timer.join()
+    assert reader.borrow() == Shown("green", False)
+
+
+def test_the_65_536th_handle_is_refused_by_name():
+    light = Watch(0)
+    readers = [light.subscribe() for _ in range(65_535)]
+    for subscribe in (light.subscribe, readers[0].clone):
+        with pytest.raises(TooMany, match="65,535 receivers"):
+            subscribe()
+    readers.pop().close()
+    readers.append(readers[0].clone())
+    assert light.receiver_count() == 65_535
+    senders = [light, *(light.clone() for _ in range(65_534))]
+    with pytest.raises(TooMany, match="65,535 senders"):
+        senders[-1].clone()
 
 
 def test_a_sender_waits_until_nobody_reads():

@@ -1,4 +1,4 @@
-"""What both kinds of channels have in common: the library's channel under a lock, who waits, and what is recorded."""
+"""What both kinds of channels have in common: the library's channel under a lock, the waits, and what is recorded."""
 from __future__ import annotations
 
 import asyncio
@@ -6,25 +6,26 @@ import contextlib
 import ctypes
 import functools
 import threading
-import time
 import weakref
 from collections import deque
 from types import TracebackType
 from typing import Any, Callable, Iterator, NoReturn, Optional, Type, TypeVar
 
 from ._library import Handle, Reply, Status, library, text_of
-from .answers import Empty, TooMany
+from ._limit import Limit
+from .answers import BadCapacity, BadLimit, ChannelError, Empty, Exhausted, HandleClosed, HistoryFull, TooMany
 
 A = TypeVar("A")
 H = TypeVar("H", bound="Held")
 
 FIRST_SENDER = 1
+LATE = "nothing came in time"
 # An entry for the first receiver, and the drops of that one and of the first sender.
 LEAST_LIMIT = 3
 
 
 class Waiters:
-    """Who waits for news, each by what wakes it. It is used under the lock of a channel."""
+    """Those who wait for news, each as the function that wakes it. Used under the lock of a channel."""
 
     def __init__(self) -> None:
         self._wakes: dict[int, Callable[[], None]] = {}
@@ -39,34 +40,34 @@ class Waiters:
         self._wakes.pop(number, None)
 
     def take(self) -> list[Callable[[], None]]:
-        """All who wait, to be woken once the lock is let go."""
+        """All who wait, to be woken once the lock is released."""
         taken, self._wakes = list(self._wakes.values()), {}
         return taken
 
 
 class Core:
-    """A channel of the library, for one call at a time: each call below is made within `turn`.
+    """A channel of the library, which takes one call at a time: each call below is made within `turn`.
 
-    A handle that the garbage collector finds may be found in the middle of a call. So its drop is put down, and made by whoever
-    has the lock next, or had it last.
+    The garbage collector may find a handle in the middle of a call. So its drop is only noted, and carried out by whoever holds the
+    lock then, or takes it next.
     """
 
     def __init__(self, kind: str, argument: int, more: int, limit: Optional[int]) -> None:
         self._prefix = f"topichub_{kind}_"
         self._handle = Handle()
         self._lock = threading.Lock()
-        self._full: deque[Handle] = deque()  # segments of the history that were cut since they were full
+        self._full: deque[Handle] = deque()  # parts of the history that were cut because they were full
         self._found: deque[tuple[str, int]] = deque()
         self._is_recorded = limit is not None
         self._senders, self._receivers = 1, 0
         self.waiting, self.leaving = Waiters(), Waiters()
         if limit is not None and limit < LEAST_LIMIT:
-            raise ValueError("the limit of a history is 3 to 1,000,000")
+            raise BadLimit
         words = (argument, more) if limit is None else (argument, more, limit)
         made = self._function("new" if limit is None else "new_recorded")(ctypes.byref(self._handle), *words)
         if made != Status.DONE:
             refuse(made)
-        # At the end of the process its handles may still be used, and nothing is gained by freeing it.
+        # When the process exits, its handles may still be in use, and freeing it would gain nothing.
         weakref.finalize(self, self._function("free"), ctypes.byref(self._handle)).atexit = False
 
     def _function(self, name: str) -> Any:
@@ -74,7 +75,7 @@ class Core:
 
     @contextlib.contextmanager
     def turn(self) -> Iterator[None]:
-        """Has the lock. Values that are let go have to be held on to within it, since their end may run any code."""
+        """Holds the lock. Values that are released must be kept alive within it, since their finalizers may run any code."""
         try:
             with self._lock:
                 yield
@@ -82,7 +83,7 @@ class Core:
             self._drop_found()
 
     def call(self, name: str, *numbers: int) -> Reply:
-        """Makes a call. Where the history has no room for it, the next segment begins."""
+        """Makes a call. If the history has no room for it, the next part begins."""
         reply: Reply = self._function(name)(ctypes.byref(self._handle), *numbers)
         if reply.status == Status.LOG_FULL:
             self._full.append(self._cut())
@@ -90,24 +91,30 @@ class Core:
         return reply
 
     def ask(self, name: str, wanted: Status, number: int) -> int:
-        """The number of a reply that has this status."""
+        """The number of the reply, which must have this status."""
         reply = self.call(name, number)
         if reply.status != wanted:
             refuse(reply.status)
         return int(reply.number)
 
     def new_sender(self, number: int) -> int:
-        made = self.ask("clone_tx", Status.NEW_TX, number)
+        made = self._make("clone_tx", Status.NEW_TX, number, "senders")
         self._senders += 1
         return made
 
     def new_receiver(self, name: str, number: int) -> int:
-        made = self.ask(name, Status.NEW_RX, number)
+        made = self._make(name, Status.NEW_RX, number, "receivers")
         self._receivers += 1
         return made
 
+    def _make(self, name: str, wanted: Status, number: int, handles: str) -> int:
+        try:
+            return self.ask(name, wanted, number)
+        except TooMany:
+            raise TooMany(f"the channel has 65,535 {handles}, the most that it can have") from None
+
     def drop(self, name: str, number: int) -> tuple[int, list[Callable[[], None]]]:
-        """Drops a handle, by `drop_tx` or `drop_rx`: how many values are let go, and who is to be woken."""
+        """Drops a handle, by `drop_tx` or `drop_rx`. Returns how many values are released, and what wakes those who waited for it."""
         reply = self.call(name, number)
         if reply.status == Status.NOT_OPEN:  # the garbage collector has found the channel first
             return 0, []
@@ -120,7 +127,7 @@ class Core:
         return reply.let_go, [] if self._receivers else self.leaving.take()
 
     def let_go(self, count: int) -> object:
-        """Takes the oldest values that are kept, which are told to be let go."""
+        """Takes out the oldest values that are kept, as many as the library has released."""
         raise NotImplementedError
 
     def drop_now(self, name: str, number: int) -> None:
@@ -131,12 +138,12 @@ class Core:
         del gone
 
     def drop_later(self, name: str, number: int) -> None:
-        """For the garbage collector."""
+        """As `drop_now`, for the garbage collector."""
         self._found.append((name, number))
         self._drop_found()
 
     def _drop_found(self) -> None:
-        # Where the lock is held, its holder comes by here when it has let go of it.
+        # If the lock is held, its holder comes by here after it has released it.
         while self._found and self._lock.acquire(blocking=False):
             gone, woken = [], []
             try:
@@ -157,7 +164,7 @@ class Core:
         return trace
 
     def trace(self) -> str:
-        """The next part of what is recorded."""
+        """The next part of the recorded history."""
         if not self._is_recorded:
             raise ValueError("the channel was made without `recorded`")
         with self.turn():
@@ -170,6 +177,7 @@ class Held:
 
     _drop = "drop_tx"
     _is_open = False
+    _id = 0
 
     def __init__(self, channel: Core, number: int) -> None:
         self._channel = channel
@@ -177,7 +185,7 @@ class Held:
         self._is_open = True
 
     def close(self) -> None:
-        """Drops this handle. Again it does nothing."""
+        """Closes this handle. Closing it again does nothing; any other use of it raises `HandleClosed`."""
         if self._is_open:
             self._is_open = False
             self._channel.drop_now(self._drop, self._id)
@@ -193,23 +201,26 @@ class Held:
         if self._is_open:
             self._channel.drop_later(self._drop, self._id)
 
+    def __repr__(self) -> str:
+        return f"<{type(self).__name__} {self._id}{'' if self._is_open else ', closed'}>"
+
 
 def refuse(status: int) -> NoReturn:
-    """Raises for a status that is no answer."""
+    """Raises the error for a status that is not an answer."""
     if status == Status.TOO_MANY:
         raise TooMany
     if status == Status.NO_MEMORY:
         raise MemoryError("memory was refused")
     if status == Status.NO_HANDLE:
-        raise ValueError("this handle is closed")
+        raise HandleClosed
     if status == Status.BAD_CAPACITY:
-        raise ValueError("a capacity is 1 to 65,536")
+        raise BadCapacity
     if status == Status.BAD_LIMIT:
-        raise ValueError("the limit of a history is 3 to 1,000,000")
+        raise BadLimit
     if status == Status.EXHAUSTED:
-        raise OverflowError("the channel has had its last position or version")
+        raise Exhausted
     if status == Status.LOG_FULL:
-        raise OverflowError("the limit of the history has no room for one entry and the drop of each live handle")
+        raise HistoryFull
     raise RuntimeError(f"libtopichub answered with the status {status}, which this call does not have")
 
 
@@ -218,10 +229,19 @@ def wake_all(wakes: list[Callable[[], None]]) -> None:
         wake()
 
 
+def many(first: A, more: Callable[[], A], most: int) -> list[A]:
+    """The first one, and what follows until one cannot be had, at most so many. Why it could not, the next call is told."""
+    found = [first]
+    with contextlib.suppress(ChannelError, MemoryError):
+        while len(found) < most:
+            found.append(more())
+    return found
+
+
 def wait(core: Core, waiters: Waiters, attempt: Callable[[], A], timeout: Optional[float]) -> A:
-    """What the attempt answers, which is made within a turn, and again after each wake while it raises `Empty`. Raises
-    `TimeoutError` after so many seconds."""
-    end = None if timeout is None else time.monotonic() + timeout
+    """The result of `attempt`, which is made within a turn, and again after each wake while it raises `Empty`. Raises
+    `TimeoutError` after this many seconds. It takes nothing but by an attempt, so a wait that ends otherwise loses nothing."""
+    limit = Limit(timeout)
     while True:
         woken = threading.Event()
         with core.turn():
@@ -229,26 +249,33 @@ def wait(core: Core, waiters: Waiters, attempt: Callable[[], A], timeout: Option
                 return attempt()
             number = waiters.add(woken.set)
         try:
-            if not woken.wait(None if end is None else max(0.0, end - time.monotonic())):
-                raise TimeoutError("nothing came in time")
+            if not woken.wait(limit.left()):
+                raise TimeoutError(LATE)
         except BaseException:
             _leave(core, waiters, number)
             raise
 
 
-async def wait_async(core: Core, waiters: Waiters, attempt: Callable[[], A]) -> A:
+async def wait_async(core: Core, waiters: Waiters, attempt: Callable[[], A], timeout: Optional[float]) -> A:
     """As `wait`, for a task of asyncio."""
+    limit, loop = Limit(timeout), asyncio.get_running_loop()
     while True:
-        woken: asyncio.Future[None] = asyncio.get_running_loop().create_future()
+        woken: asyncio.Future[bool] = loop.create_future()
         with core.turn():
             with contextlib.suppress(Empty):
                 return attempt()
             number = waiters.add(functools.partial(_wake_task, woken))
+        left = limit.left()
+        timer = None if left is None else loop.call_later(left, _resolve, woken, False)
         try:
-            await woken
+            if not await woken:
+                raise TimeoutError(LATE)
         except BaseException:
             _leave(core, waiters, number)
             raise
+        finally:
+            if timer:
+                timer.cancel()
 
 
 def _leave(core: Core, waiters: Waiters, number: int) -> None:
@@ -256,12 +283,12 @@ def _leave(core: Core, waiters: Waiters, number: int) -> None:
         waiters.remove(number)
 
 
-def _wake_task(woken: asyncio.Future[None]) -> None:
+def _wake_task(woken: asyncio.Future[bool]) -> None:
     """Wakes a task, from any thread."""
     with contextlib.suppress(RuntimeError):  # its loop has been closed
-        woken.get_loop().call_soon_threadsafe(_resolve, woken)
+        woken.get_loop().call_soon_threadsafe(_resolve, woken, True)
 
 
-def _resolve(woken: asyncio.Future[None]) -> None:
+def _resolve(woken: asyncio.Future[bool], is_news: bool) -> None:
     if not woken.done():
-        woken.set_result(None)
+        woken.set_result(is_news)

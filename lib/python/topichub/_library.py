@@ -12,11 +12,11 @@ from .answers import Verdict
 SONAME = "libtopichub.so.0"
 _HERE = os.path.dirname(os.path.abspath(__file__))
 _C = os.path.join(_HERE, "..", "..", "c", "build")
-# Beside this package, where it is packaged with it, and in the repository that it stands in: the proved one first.
+# Beside this package, where a wheel puts it, and in the repository around this package: the proved one first.
 _PLACES = tuple(os.path.join(it, "libtopichub.so") for it in (_HERE, _C, os.path.join(_C, "fast")))
 _PIECE = 4_096
 
-# What each call takes besides its channel.
+# How many numbers each call takes beside its channel.
 BROADCAST = {"send": 2, "try_recv": 1, "recv": 1, "subscribe": 1, "subscribe_oldest": 1, "resubscribe": 1, "clone_tx": 1,
              "drop_tx": 1, "drop_rx": 1, "queued": 1, "left": 1, "readers": 1}
 WATCH = {"send": 2, "replace": 2, "set": 2, "quiet": 2, "borrow": 1, "take": 1, "has_changed": 1, "changed": 1,
@@ -26,7 +26,7 @@ CALLS = {"broadcast": BROADCAST, "watch": WATCH}
 
 
 class Status(enum.IntEnum):
-    """What a call comes to: those of `enum topichub_status` that this package meets."""
+    """The result of a call: those values of `enum topichub_status` that this package can get."""
 
     DONE = 0
     SENT = 1
@@ -86,7 +86,7 @@ class Handle(ctypes.Structure):
 _Pointer = ctypes.POINTER(Handle)
 _Number = ctypes.c_uint64
 _Count = ctypes.POINTER(_Number)
-# What makes a channel and cuts its history, in the same way: what each takes besides its channel.
+# What makes a channel and cuts its history, and what each takes beside its channel.
 _MAKERS: dict[str, list[Any]] = {"new": [_Number] * 2, "new_recorded": [_Number] * 3, "cut": [_Pointer]}
 
 
@@ -109,13 +109,13 @@ def _declare(library: ctypes.CDLL) -> None:
 
 @functools.lru_cache(maxsize=None)
 def library() -> ctypes.CDLL:
-    """The shared library: what `TOPICHUB_LIBRARY` names, else one beside this package, else the one that is installed."""
+    """The shared library: the file that `TOPICHUB_LIBRARY` names, else one beside this package, else the one that is installed."""
     named = os.environ.get("TOPICHUB_LIBRARY")
     found = named or next((place for place in _PLACES if os.path.exists(place)), SONAME)
     try:
         loaded = ctypes.CDLL(found)
     except OSError as fault:
-        how = "TOPICHUB_LIBRARY names it" if named else "type `make -C lib/c fast` in a clone, or install it (docs/INSTALL.md)"
+        how = "TOPICHUB_LIBRARY names it" if named else "run `make -C lib/c fast` in a clone, or install it (docs/INSTALL.md)"
         raise ImportError(f"there is no libtopichub ({fault}): {how}") from fault
     _declare(loaded)
     return loaded
@@ -138,7 +138,7 @@ def text_of(trace: Handle) -> str:
 
 
 def check(trace: str | bytes) -> Verdict:
-    """What a check says of the trace of a channel, as the program `topichub check` says it."""
+    """Checks the trace of a channel, as the program `topichub check` does."""
     text = trace.encode() if isinstance(trace, str) else trace
     line = ctypes.c_uint64()
     status = library().topichub_check(text, len(text), ctypes.byref(line))
@@ -155,8 +155,10 @@ def version() -> str:
 
 
 def build() -> str:
-    """How the library that is loaded was built: "proved"; "checked", which is compiled with run-time checks and not proved;
-    "unchecked", which is neither; or "given", where nothing is known of its proof. It is what its builder says."""
+    """How the library that is loaded was built, as its builder says.
+
+    "proved"; "checked": compiled with run-time checks, not proved; "unchecked": neither; "given": nothing is known of its proof.
+    """
     loaded = library()
     try:
         number = loaded.topichub_build()

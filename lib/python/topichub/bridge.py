@@ -1,26 +1,26 @@
 #!/usr/bin/python3
 """Joins hubs by Redis Streams: what is sent on a broadcast topic at one hub is sent on the topic of that name at the others.
 
-A bridge runs beside each hub, with a NAME of its own, and all of them use one Redis, of version 6 or newer. It takes python3-redis.
-A topic has to be opened at each hub; a bridge waits for that. It is a receiver and a sender there, so the topic does not close
-while it runs.
+A bridge runs beside each hub, each with its own NAME, and all of them use one Redis, version 6 or newer. It needs python3-redis.
+A topic has to be opened at each hub; a bridge waits until it is. The bridge is a receiver and a sender there, so the topic does not
+close while it runs.
 
-What was sent while a bridge or Redis was down comes late, once, and in its order, as far as the hub or the stream still has it.
-What is missing is told as a gap, on standard error and on the topic itself, by a value of the byte 26 and `LAG n NAME`, as
-`\\x1aLAG 3 east`. It stands where the n values would be that came to nobody. They were missed
+What was sent while a bridge or Redis was down arrives late, once, and in order, as far as the hub or the stream still has it.
+What is missing is reported as a gap, on standard error and on the topic itself, by a value that is the byte 26 and `LAG n NAME`, such
+as `\\x1aLAG 3 east`. It stands in the place of the n values that nobody received. They were missed
 
-  at the source      the bridge there was too slow, or not running for longer than its hub's history of the topic goes back
+  at the source      the bridge there was too slow, or was down for longer than its hub's history of the topic goes back
   in the stream      entries were trimmed, by --keep or by hand, or lost by Redis, before the bridge here had read them
 
-The n is exact. `LAG ? NAME` is told where nobody can count: the hub there is another one, started anew, or Redis has lost what it
-knew of the bridge there. What was sent while a bridge was down is lost too, and counted, where it is killed once more right after it
-has begun, between its TRACE and Redis' answer.
+The n is exact. `LAG ? NAME` is reported if nobody can count: the hub there was restarted, or Redis has lost what it knew of the
+bridge there. If a bridge is killed again right after its start, between its TRACE and Redis's answer, what was sent while it was down
+is lost too, and counted.
 
-A bridge keeps its account at its hub, in a watch topic `bridge-..`, and in Redis. When it begins it takes a `TRACE` of its topics,
-so a history that others collect by `TRACE` lacks that part; with --no-trace it takes none, and what is sent while it is not running
-is told as `LAG ?`. SIGUSR1 has it print a line of counters for each topic.
+A bridge keeps its state at its hub, in a watch topic `bridge-..`, and in Redis. When it starts it takes a `TRACE` of its topics, so a
+history that others collect by `TRACE` lacks that part; with --no-trace it takes none, and what is sent while it is not running is
+reported as `LAG ?`. On SIGUSR1 it prints a line of counters for each topic.
 
-exit status: 1 where it cannot go on, as without its hub; 2 where the words are wrong. It ends at SIGTERM or Ctrl-C with the status 0.
+exit status: 1 if it cannot continue, as without its hub; 2 for bad usage. SIGTERM and Ctrl-C end it with status 0.
 """
 from __future__ import annotations
 
@@ -41,21 +41,21 @@ from typing import Any, Callable, Iterable, NamedTuple, Optional, Sequence
 
 PAUSE, LONGEST_PAUSE = 0.1, 5.0  # seconds until Redis is tried again: twice as many each time
 PATIENCE = 5  # seconds that Redis may take for an answer
-AGAIN = 0.5  # seconds until a hub that refused a value is tried again
-SOON = 0.01  # seconds until a hub is asked again whether a topic, or an end, has come
+AGAIN = 0.5  # seconds until a value that a hub refused is sent again
+SOON = 0.01  # seconds until a hub is asked again whether a topic is open, or another bridge has ended
 READ = 65_536  # bytes that are read at once
 MOST_READ = 100  # entries of the stream that are read at once
 MOST_APPENDED = 64  # entries that are appended at once
-MOST_VALUES, MOST_BYTES = 256, 4_096  # of one entry; a single value may have 1,024 bytes
-# What is sent at the hub at once, values and bytes. All of it, with the account behind it, goes in one write of less than 32 KiB,
-# which Linux hands over whole or not at all, and which the hub reads as a whole: so a kill never parts the two, or cuts a value.
+MOST_VALUES, MOST_BYTES = 256, 4_096  # in one entry; a single value may have 1,024 bytes
+# What is sent to the hub at once, in values and bytes. All of it, followed by the state, goes in one write of less than 32 KiB, which
+# Linux transfers as a whole or not at all, and which the hub reads as a whole. So a kill never separates the two, or cuts a value.
 PIECE_VALUES, PIECE_BYTES = 32, 12_288
 TAKEN = 256  # values that are taken from the hub at once
-CALM = 32  # values that a receiver of the hub may still have to read when more come from Redis
-GRACE, RUSH = 0.02, 1.0  # seconds that slow receivers are waited for, and seconds in which they are not, after that was in vain
-KEPT = 1_024  # entries that are appended once more where Redis comes back without them
-NOTED = 0.1  # seconds from one note in Redis of how far we have read to the next, while more comes
-MOST_STATE = 1_000  # bytes of the account at the hub; a value has 1,024
+CALM = 32  # values that a receiver at the hub may not have read yet when more come from Redis
+GRACE, RUSH = 0.02, 1.0  # seconds of waiting for slow receivers, and seconds without it after that was in vain
+KEPT = 1_024  # entries that are appended again if Redis comes back without them
+NOTED = 0.1  # seconds between two notes in Redis of how far we have read, while more comes
+MOST_STATE = 1_000  # bytes of the state at the hub; a value has at most 1,024
 GAP = b"\x1aLAG %s %s"
 NAME = re.compile(r"[a-z0-9_-]{1,32}")
 RUN = re.compile(r"[0-9]{1,20}")
@@ -63,8 +63,8 @@ NUMBER = re.compile(r"0|[1-9][0-9]{0,17}")
 VALUE = re.compile(rb"[^\r\n]{1,1024}")
 VALUES = re.compile(rb"[^\r\n]{1,1024}(?:\n[^\r\n]{1,1024}){0,%d}" % (MOST_VALUES - 1))
 PLACE = re.compile(r"[0-9]{1,20}-[0-9]{1,20}")  # of an entry in its stream
-LIFE = re.compile(r"[0-9a-f]{16}")  # of a hub, as the first bridge of a name there calls it
-# What Redis says where it cannot do it now. Anything else it will not do later either.
+LIFE = re.compile(r"[0-9a-f]{16}")  # names one run of a hub; the first bridge of a name there chooses it
+# What Redis says if it cannot do something now. Anything else it will not do later either.
 NOT_NOW = ("OOM", "READONLY", "NOREPLICAS", "MISCONF", "LOADING", "BUSY", "CLUSTERDOWN", "MASTERDOWN", "TRYAGAIN", "UNBLOCKED")
 
 
@@ -73,14 +73,14 @@ def tell(*words: object) -> None:
 
 
 def text(field: Optional[bytes], form: re.Pattern[str]) -> Optional[str]:
-    """What Redis keeps, as text, if it has the form in which a bridge writes it; else `None`. Whoever may write there may write
-    anything, so nothing of it is used before."""
+    """What Redis keeps, as text, if it has the form in which a bridge writes it; else `None`. Others may have written anything there,
+    so nothing is used before this check."""
     found = field.decode("ascii", "replace") if field is not None else ""
     return found if form.fullmatch(found) else None
 
 
 def read_words(line: bytes, forms: Sequence[re.Pattern[str]]) -> Optional[list[str]]:
-    """The words of these forms that a line begins with; `None` where they are not there."""
+    """The words of these forms at the beginning of a line; `None` if they are not there."""
     found = [text(word, form) for word, form in zip(line.split(b" "), forms)]
     words = [it for it in found if it is not None]
     return words if len(words) == len(forms) else None
@@ -89,18 +89,18 @@ def read_words(line: bytes, forms: Sequence[re.Pattern[str]]) -> Optional[list[s
 # ---- the stream
 
 class Entry(NamedTuple):
-    """What a bridge appends: its name, its run, the number in that run of the last value, and how many values were missed, or the
-    values; neither where a run begins."""
+    """What a bridge appends: its name, its run, the number of the last value in that run, and either how many values were missed or
+    the values themselves; neither at the beginning of a run."""
 
     name: str
     run: str
     number: int
     missed: int
-    values: Optional[list[bytes]]  # `None`: it is no value
+    values: Optional[list[bytes]]  # `None`: it is not a value
 
     @classmethod
     def read(cls, fields: dict[bytes, bytes]) -> Optional[Entry]:
-        """The entry with these fields; `None` where no bridge would have written them."""
+        """The entry with these fields; `None` if no bridge would have written them."""
         name, run = text(fields.get(b"from"), NAME), text(fields.get(b"run"), RUN)
         number, missed = text(fields.get(b"number"), NUMBER), text(fields.get(b"gap", b"0"), NUMBER)
         if name is None or run is None or number is None or missed is None or int(missed) > int(number):
@@ -125,15 +125,15 @@ class Entry(NamedTuple):
 
 
 class Due(NamedTuple):
-    """An entry that is to be appended. `end` is what Redis keeps of its bridge from then on: run, number, life of the hub, and of
-    the values that were sent there how many are accounted for, and how many of these were ours."""
+    """An entry that is to be appended. `end` is what Redis keeps of its bridge from then on: the run, the number, the run of the hub,
+    how many of the values that were sent there are accounted for, and how many of these were ours."""
 
     entry: Entry
     end: str
 
 
 class Away:
-    """A Redis that may be away, or refuse for a while: what is asked of it is asked again until it answers."""
+    """A Redis that may be away, or refuse for a while: each question is asked again until it is answered."""
 
     def __init__(self, redis: Any, url: str) -> None:
         self.is_away, self.is_refused = (redis.ConnectionError, redis.TimeoutError), redis.AuthenticationError
@@ -156,8 +156,8 @@ class Away:
                 return answer
 
     def trouble(self, fault: Exception) -> tuple[str, str]:
-        """What is wrong for a while, and more words on it. Raises where that is no matter of time. What Redis says may quote values,
-        so its first word alone is told."""
+        """What is wrong for a while, and more words on it. Raises if waiting will not help. What Redis says may quote values, so only
+        its first word is reported."""
         said = str(fault).rpartition("caused error: ")[2].split(" ")[0]
         word = {"ReadOnlyError": "READONLY", "BusyLoadingError": "LOADING", "OutOfMemoryError": "OOM"}.get(type(fault).__name__, said)
         if word in NOT_NOW:
@@ -178,7 +178,7 @@ class Away:
                 tell("Redis is there again")
 
     def all_at_once(self, *questions: Callable[[Any], Any]) -> list[Any]:
-        """The answers to questions, all of which are asked or none."""
+        """The answers to questions, of which Redis takes all or none."""
         def question(redis: Any) -> Any:
             with redis.pipeline(transaction=True) as line:
                 for it in questions:
@@ -189,20 +189,20 @@ class Away:
 
 
 class Writer:
-    """Appends entries, and notes how far the other direction has read, in a thread of its own. What Redis does not take for now is
-    kept, and what it has lost of the last ones is appended again."""
+    """Appends entries, and notes how far the other direction has read, in its own thread. What Redis does not take for now is kept,
+    and those of the last entries that it has lost are appended again."""
 
     def __init__(self, topic: str, words: argparse.Namespace, redis: Away) -> None:
         self.stream = f"topichub:{topic}"
-        self.ends = f"{self.stream}:ends"  # of each bridge, what `Due.end` says
-        self.read = f"{self.stream}:read:{words.name}"  # how far we have read, and that of each bridge
+        self.ends = f"{self.stream}:ends"  # the `Due.end` of each bridge
+        self.read = f"{self.stream}:read:{words.name}"  # how far we have read, in the stream and of each bridge
         self.name, self.keep, self.hold, self.redis = words.name, words.keep, words.hold, redis
         self.news = threading.Condition()
         self.coming: deque[Due] = deque()
         self.note: dict[str, str] = {}
         self.noting: dict[str, str] = {}
         self.due: deque[Due] = deque()  # what Redis may not have
-        self.kept: deque[Due] = deque(maxlen=KEPT)  # what it had
+        self.kept: deque[Due] = deque(maxlen=KEPT)  # what it has had
         self.waiting = 0  # values that wait for Redis
         self.is_unsure = False
         self.on_room: Callable[[], None] = lambda: None
@@ -257,7 +257,7 @@ class Writer:
             self.waiting -= len(got.entry.values or ())
 
     def compare(self, redis: Any) -> None:
-        """Learns which of the last entries Redis has: of what was asked when it went away it may have done nothing, or all."""
+        """Finds out which of the last entries Redis has: of what was asked when it went away it may have done nothing, or all."""
         end = read_words(redis.hget(self.ends, self.name) or b"", (RUN, NUMBER))
         while self.due and end and end[0] == self.due[0].entry.run and self.due[0].entry.number <= int(end[1]):
             self.has_got()
@@ -274,7 +274,8 @@ class Refused(Exception):
 
 
 class Session:
-    """A session with the hub. Lines are sent ahead, and their replies are read all together."""
+    """A session with the hub. Lines are sent ahead, and their replies are read together. The bridge is installed as one file, so it does
+    not use `topichub.Client`."""
 
     def __init__(self, path: str) -> None:
         self.socket = socket.socket(socket.AF_UNIX, socket.SOCK_STREAM)
@@ -311,24 +312,24 @@ class Session:
 
 
 class Traced(NamedTuple):
-    """What a trace tells."""
+    """What a trace shows."""
 
     begins: int  # the position of the first value that was sent in it
     joined: int  # the position at which our receiver joined
     sender: str  # the number of our sender
-    ours: int  # how many values an earlier run of ours has sent from the due position on
-    dropped: int  # how many other values of them there were too many to be kept
-    sends: list[tuple[int, int, bytes]]  # the others that were sent before we joined: position, ours until then, value
+    ours: int  # how many values our earlier run has sent from the position `due` on
+    dropped: int  # how many of the other values were too many to be kept
+    sends: list[tuple[int, int, bytes]]  # the others that were sent before we joined: position, ours until then, and the value
 
 
-# Of a trace: the position of the next value at its beginning, and the calls that matter here, of the sends those that were sent.
+# In a trace: the position of the next value at its beginning, and the calls that matter here; of the sends only those that succeeded.
 PICTURE = re.compile(rb"^AT [0-9]+ ([0-9]+) ", re.M)
 ENTRY = re.compile(rb"^C (?:(send) ([0-9]+) ([^\n]+)\nR sent |(?:(queued|readers|subscribe) ([0-9]+))$)", re.M)
 
 
 def read_trace(trace: bytes, mark: str, before: str, due: int, most: int) -> Optional[Traced]:
-    """Reads a trace; `None` where it does not tell of us. Our sender is the one that has made the calls of `mark` before it made our
-    receiver; `before` is that of an earlier run. What was sent below the position `due` is known."""
+    """Reads a trace; `None` if it does not show us. Our sender is the one that made the calls of `mark` before it made our receiver;
+    `before` is the sender of an earlier run. What was sent below the position `due` is known already."""
     calls: dict[bytes, str] = {}
     sends: deque[tuple[int, int, bytes]] = deque()
     position = begins = int((PICTURE.search(trace) or [b"", b"0"])[1])
@@ -353,7 +354,7 @@ def read_trace(trace: bytes, mark: str, before: str, due: int, most: int) -> Opt
 
 
 class Item(NamedTuple):
-    """A value to be sent, if there is one, and what is known once that is done."""
+    """A value to be sent, if there is one, and what is known once it is sent."""
 
     value: Optional[bytes]
     name: str
@@ -363,8 +364,8 @@ class Item(NamedTuple):
 
 
 class State:
-    """The account of a bridge, as the watch topic at its hub keeps it: the hub's life, the number of its sender, how many values it
-    has sent, behind which entry it goes on, and of each bridge the run and the number that it has sent last."""
+    """The state of a bridge, as the watch topic at its hub keeps it: the run of the hub, the number of its sender, how many values it
+    has sent, the entry behind which it continues, and for each bridge the run and number that were sent last."""
 
     def __init__(self, life: str) -> None:
         self.life, self.sender, self.sent = life, "0", 0
@@ -377,7 +378,7 @@ class State:
         return other
 
     def know(self, item: Item) -> None:
-        """What holds once this is sent."""
+        """Takes account of an item that is sent."""
         self.seen.pop(item.name, None)
         self.seen[item.name] = item.run, item.number
         self.at = item.at or self.at
@@ -405,7 +406,7 @@ class State:
         self.seen[found] = known[0], int(known[1])
 
     def line(self) -> bytes:
-        """As it is kept: of the bridges those that have sent last, as far as there is room. Redis knows the others."""
+        """The state as it is kept: with those bridges that were sent last, as far as there is room. Redis knows the others."""
         words = f"{self.life} {self.sender} {self.sent} {self.at or '-'}"
         for name in reversed(self.seen):
             run, number = self.seen[name]
@@ -416,21 +417,21 @@ class State:
 
 
 class Window:
-    """Positions of the topic among which ours are, all in a row, and what has been read there: values, or `None` for missed ones."""
+    """A row of positions of the topic, ours among them, and what has been read there: values, or `None` for missed ones."""
 
     def __init__(self, begins: int, ends: int, ours: list[bytes]) -> None:
         self.begins, self.ends, self.ours = begins, ends, ours
         self.found: list[Optional[bytes]] = []
 
     def others(self) -> list[Optional[bytes]]:
-        """What others have sent there; each of ours is left as an empty value. The hub sends lines that came together in a row."""
+        """What others have sent there; each of ours is replaced by an empty value. The hub sends lines that came together in a row."""
         count, found, at = len(self.ours), list(self.found), 0
         fits = [first for first in range(len(found) - count + 1)
                 if all(it in (None, due) for it, due in zip(found[first:first + count], self.ours))]
         if fits:
             first = max(fits, key=lambda first: sum(it is not None for it in found[first:first + count]))
             return [*found[:first], *[b""] * count, *found[first + count:]]
-        for value in self.ours:  # the hub refused one between them, or parted them
+        for value in self.ours:  # the hub refused one of them, or sent others in between
             while at < len(found) and found[at] not in (None, value):
                 at += 1
             if at == len(found):
@@ -440,7 +441,7 @@ class Window:
 
 
 class Topic:
-    """A topic at the hub, with its stream: both directions, in one thread but for the waits for Redis."""
+    """A topic at the hub, and its stream: both directions, in one thread except for the waits for Redis."""
 
     def __init__(self, words: argparse.Namespace, topic: str, redis: Away) -> None:
         self.words, self.topic, self.name, self.redis = words, topic, words.name, redis
@@ -455,16 +456,16 @@ class Topic:
         self.writer.on_room = self.wake
         # To the stream.
         self.run, self.number = "", 0
-        self.place, self.is_placed = 0, False  # the position that our receiver reads next, or if that is not known, since it joined
-        self.left = 0  # how many values it has to read, at the least
+        self.place, self.is_placed = 0, False  # the position that our receiver reads next; if that is not known, counted from its joining
+        self.left = 0  # how many values it has to read, at least
         self.ours = 0  # how many below that are ours
         self.windows: deque[Window] = deque()
-        self.values: list[bytes] = []  # of the entry that is begun
+        self.values: list[bytes] = []  # of the entry that was begun
         self.size, self.last = 0, (0, 0)
         self.entries: list[Due] = []
         # From the stream.
         self.state = State("")
-        self.ahead: dict[str, tuple[str, int]] = {}  # as `state.seen` will be, once all items are sent
+        self.ahead: dict[str, tuple[str, int]] = {}  # what `state.seen` will be once all items are sent
         self.incoming: queue.Queue[list[Any]] = queue.Queue(4)
         self.items: deque[Item] = deque()
         self.queued, self.waits_since, self.rushes_until = 0, 0.0, 0.0
@@ -489,7 +490,7 @@ class Topic:
     # ---- how it begins
 
     def join(self) -> None:
-        """A sender and a receiver, once the topic is there; and what is known of earlier runs."""
+        """Becomes a sender and a receiver, once the topic is open, and learns what is known of earlier runs."""
         pause = SOON
         while True:
             try:
@@ -501,7 +502,7 @@ class Topic:
                 time.sleep(pause)
                 pause = min(2 * pause, AGAIN)
         self.hub.count(b"QUEUED " + self.named)  # which a watch topic refuses
-        self.alarm.ask(b"BIND " + self.named)  # so that it can join whatever becomes of the hub's own sender
+        self.alarm.ask(b"BIND " + self.named)  # so that it can join even if the hub's own sender is closed
         self.take_account()
         ends = self.redis.ask(lambda it: it.hget(self.writer.ends, self.name))
         self.begin_out(ends)
@@ -510,7 +511,7 @@ class Topic:
         self.left = self.hub.count(b"LEFT " + self.named)
 
     def take_account(self) -> None:
-        """Reads our account at the hub. An earlier bridge may still be there, or lines of it that the hub has not read."""
+        """Reads our state at the hub. An earlier bridge may still be running, or the hub may not have read all its lines."""
         life = secrets.token_hex(8)
         try:
             self.hub.ask(b"OPEN %s W %s" % (self.account, State(life).line()))
@@ -526,8 +527,8 @@ class Topic:
         self.state = State.read(self.hub.ask(b"GET " + self.account).split(b" ", 1)[1])
 
     def subscribe(self, due: int) -> Optional[Traced]:
-        """Joins, and tells what the topic's history has from the due position on. A history that is cut in these few lines does not
-        tell of us, so it is tried again."""
+        """Joins, and returns what the topic's history has from the position `due` on. A history that is cut during these few lines does
+        not show us, so it is tried again."""
         if self.words.no_trace:
             self.hub.ask(b"SUB " + self.named)
             return None
@@ -548,7 +549,7 @@ class Topic:
         return None
 
     def begin_out(self, ends: Optional[bytes]) -> None:
-        """Goes on with the run before, where the hub still is the one of that; else begins a run."""
+        """Continues the run before, if the hub has not been restarted since; else begins a run."""
         run = read_words(ends or b"", (RUN, NUMBER, LIFE, NUMBER, NUMBER))
         is_same = run is not None and run[2] == self.state.life
         due, ours = (int(run[3]), int(run[4])) if run and is_same else (0, 0)
@@ -563,7 +564,7 @@ class Topic:
         else:
             before = read_words(ends or b"", (RUN,))
             self.run = str(max(time.time_ns(), int(before[0]) + 1 if before else 0))  # a later run has a larger number
-            is_new = run is not None and traced is not None  # the hub is another one than that of the run before, so all that it has is new
+            is_new = run is not None and traced is not None  # the hub was restarted since the run before, so all that it has is new
             place, known = (traced.begins, self.state.sent - traced.ours) if traced and is_new else (self.place, self.state.sent)
             self.entries.append(Due(Entry(self.name, self.run, 0, 0, []), self.end(place, known)))
             if traced and is_new:
@@ -572,7 +573,7 @@ class Topic:
         self.hand_over("the bridge here was not running")
 
     def catch_up(self, traced: Traced, missed: int) -> None:
-        """Carries what was sent while no bridge was there, and tells what of it is gone."""
+        """Carries what was sent while no bridge was running, and reports what is gone."""
         base = self.state.sent - traced.ours
         missed += traced.dropped
         if missed > 0:
@@ -582,7 +583,8 @@ class Topic:
             self.put(value, position + 1, base + ours)
 
     def begin_in(self) -> None:
-        """Behind which entry we go on, and the last run and number of each bridge: as our hub knows it, else as Redis does."""
+        """Finds the entry behind which we continue, and the last run and number of each bridge, as our hub knows them, else as Redis
+        does."""
         state, read = self.state, self.writer.read
         saved = self.redis.ask(lambda it: it.hgetall(read))
         if not saved and state.at is None:
@@ -614,7 +616,7 @@ class Topic:
         return f"{self.run} {self.number}" + (f" {self.state.life} {place} {ours}" if self.is_placed else "")
 
     def put(self, value: bytes, place: int, ours: int) -> None:
-        """Puts a value behind those that go out. Below `place` all is accounted for then, of which so many were ours."""
+        """Adds a value to those that go out. Everything below `place` is accounted for then, and `ours` of it was ours."""
         if self.values and (len(self.values) >= MOST_VALUES or self.size + len(value) > MOST_BYTES):
             self.end_entry()
         self.number += 1
@@ -646,7 +648,7 @@ class Topic:
             self.entries = []
 
     def account_for(self, replies: list[bytes]) -> None:
-        """What our receiver was told: values of others go out, ours do not."""
+        """Takes what our receiver got: values of others go out, ours do not."""
         for reply in replies:
             word, rest = reply[:4], reply[4:]
             if word == b"VAL ":
@@ -683,7 +685,7 @@ class Topic:
             return
         self.windows.popleft()
         self.place, missed = window.begins, 0
-        for it in (*window.others(), b""):  # the last one only ends a gap
+        for it in (*window.others(), b""):  # the last one is there only to end a gap
             if it is None:
                 missed += 1
                 continue
@@ -701,16 +703,16 @@ class Topic:
     # ---- from the stream to the hub
 
     def read_stream(self) -> None:
-        """Hands over what the stream has, in a thread of its own."""
+        """Hands over what the stream has, in its own thread."""
         at = self.state.at or "0-0"
         is_new = True
 
         def question(redis: Any) -> Any:
             nonlocal at, is_new
-            if is_new:  # a Redis that has lost entries counts from earlier on
+            if is_new:  # a Redis that has lost entries counts from an earlier point
                 newest = redis.xrevrange(self.writer.stream, count=1)
                 if not newest or place_of(newest[0][0]) < place_of(at.encode()):
-                    at = "0-0"  # what comes twice is known by its number
+                    at = "0-0"  # what comes twice is recognized by its number
             is_new = True
             found = redis.xread({self.writer.stream: at}, MOST_READ, 1000)
             is_new = False
@@ -722,7 +724,7 @@ class Topic:
                 at = entries[-1][0].decode()
 
     def gather(self) -> None:
-        """Makes items of what has come, until they are a piece."""
+        """Turns what has come into items, until there are enough to be sent at once."""
         while len(self.items) < PIECE_VALUES:
             try:
                 entries = self.incoming.get_nowait()
@@ -742,13 +744,13 @@ class Topic:
             self.items.append(Item(None, entry.name, run, number, place))
 
     def take_from(self, entry: Entry) -> None:
-        """An entry of another bridge. The first one of a run has the number 0, and tells of nothing."""
+        """Takes an entry of another bridge. The first one of a run has the number 0 and carries nothing."""
         name, run, number, values = entry.name, entry.run, entry.number, entry.values
         last_run, last = self.ahead.setdefault(name, (run, 0))
         count = entry.missed or (1 if values is None else len(values))
-        before = number - count  # the number that is due to be the last one
+        before = number - count  # the number that the last one should have
         if int(run) < int(last_run):
-            return  # it was read before, from a stream that Redis has lost the end of
+            return  # it was read before, from a stream whose end Redis has lost
         if last_run != run:
             self.gap("?", entry, before, "its hub, or Redis, was started anew")
             last = before
@@ -773,7 +775,7 @@ class Topic:
         self.ahead[entry.name] = entry.run, number
 
     def piece(self) -> list[Item]:
-        """What is sent next."""
+        """The items that are sent next."""
         items: list[Item] = []
         values, size = 0, 0
         while self.items and values < PIECE_VALUES and size < PIECE_BYTES:
@@ -784,7 +786,7 @@ class Topic:
         return items
 
     def may_send(self) -> bool:
-        """Whether more may be sent already: who receives at this hub gets some time to read what has come, and not for ever."""
+        """Whether more may be sent already: receivers at this hub get some time to read what has come, but not for ever."""
         now = time.monotonic()
         if self.queued <= max(CALM, self.left) or now < self.rushes_until:
             self.waits_since = 0.0
@@ -811,7 +813,7 @@ class Topic:
                 self.wait(has_room)
 
     def send_piece(self, items: list[Item]) -> None:
-        """Sends values, with the account of what is known then; where there are none, only Redis needs to know it yet."""
+        """Sends values, with the state that holds then; if there are none, only Redis needs to know it yet."""
         while items:
             before = self.state.copy()
             for it in items:
@@ -824,14 +826,14 @@ class Topic:
             self.tell_redis()
 
     def tell_redis(self) -> None:
-        """How far we have read, for a hub that is started anew, and so knows nothing of it."""
+        """Notes in Redis how far we have read, for a hub that is restarted and so knows nothing of it."""
         if not self.is_noted:
             self.writer.note_read(self.note())
             self.is_noted, self.noted_at = True, time.monotonic()
 
     def after_refusals(self, items: list[Item], refused: list[int], before: State) -> list[Item]:
-        """Some of the values were refused, as where the hub has no memory. What is to be sent now: those behind which none was
-        taken, and for others, which would come out of order, that they are missing."""
+        """Some of the values were refused, as when the hub has no memory. Returns what is to be sent now: those behind which none was
+        taken; and for the others, which would arrive out of order, that they are missing."""
         at = [index for index, it in enumerate(items) if it.value is not None]
         taken = [index for nth, index in enumerate(at) if nth not in refused]
         behind = taken[-1] + 1 if taken else 0
@@ -848,7 +850,7 @@ class Topic:
         return [*again, *items[behind:]]
 
     def turn(self, values: list[bytes], takes: bool) -> list[int]:
-        """One exchange with the hub: sends these values, with the account, and takes what has come. Which values were refused."""
+        """One exchange with the hub: sends these values, with the state, and takes what has come. Returns which values were refused."""
         topic, count = self.named, min(self.left + len(values), TAKEN) if takes else 0
         look, sent = b"LEFT " + topic, [b"PUB %s %s" % (topic, it) for it in values]
         if values:
@@ -863,7 +865,7 @@ class Topic:
         return refused
 
     def open_window(self, values: list[bytes], replies: list[bytes]) -> list[int]:
-        """Where our values are; and which of them were refused."""
+        """Notes where our values are, and returns which of them were refused."""
         before, *told, account, after = replies
         sent = [it for it, reply in zip(values, told) if reply.startswith(b"OK ")]
         refused = [nth for nth, reply in enumerate(told) if not reply.startswith(b"OK ")]
@@ -879,7 +881,7 @@ class Topic:
     # ---- waits
 
     def arm(self) -> None:
-        """Has the hub wake us when something is sent: our own session does not wait there, so that it can send meanwhile."""
+        """Has the hub wake us when something is sent, by a second session, so that our own can send meanwhile."""
         self.alarm.send(b"SUB " + self.named, b"NEXT " + self.named)
         self.is_armed = True
         if self.alarm.replies(1)[0] != b"OK":
@@ -889,10 +891,10 @@ class Topic:
         if self.is_armed and (self.alarm.came or select.select([self.alarm.socket], [], [], 0)[0]):
             self.alarm.replies(1)
             self.is_armed = False
-            self.alarm.ask(b"UNSUB " + self.named)  # or what it has not read is kept for it
+            self.alarm.ask(b"UNSUB " + self.named)  # otherwise the hub would keep for it what it has not read
 
     def wait(self, has_room: bool) -> None:
-        """Until the hub or the stream has something, or there is room."""
+        """Waits until the hub or the stream has something, or there is room."""
         self.tell_redis()
         if has_room and not self.is_armed:
             self.arm()
@@ -904,20 +906,20 @@ class Topic:
         if self.woken in ready:
             os.read(self.woken, 4096)
         if self.hub.socket in ready:
-            self.hub.read()  # it says nothing unasked, so it has ended
+            self.hub.read()  # it sends nothing unasked, so it has ended
             raise ConnectionError("the hub has sent more replies than it was asked for")
         if self.alarm.socket in ready:
             self.left = max(self.left, 1)
 
 
 def place_of(at: bytes) -> tuple[int, int]:
-    """Of an entry in its stream, so that it can be compared."""
+    """The place of an entry in its stream, in a form that can be compared."""
     time_of, _, number = at.partition(b"-")
     return int(time_of), int(number)
 
 
 def run(words: argparse.Namespace, redis: Away) -> None:
-    """Both directions of each topic, until one fails."""
+    """Runs both directions of each topic, until one fails."""
     faults: queue.SimpleQueue[str] = queue.SimpleQueue()
     topics = [Topic(words, it, redis) for it in words.topics]
 
@@ -965,7 +967,7 @@ def main() -> None:
                             f"of {MOST_BYTES} bytes")
     about.add_argument("--hold", metavar="N", type=int, default=20_000,
                        help="values that wait here while Redis is away, or some more; %(default)s if left out")
-    about.add_argument("--status", metavar="SECONDS", type=float, help="print the counters so often")
+    about.add_argument("--status", metavar="SECONDS", type=float, help="print the counters this often")
     about.add_argument("--no-trace", action="store_true", help="take no TRACE, so that others lack nothing of the topics' histories")
     words = about.parse_args()
     for name in (words.name, *words.topics):

@@ -1,21 +1,23 @@
-"""A channel in which every value goes to every receiver, with the rules of Tokio's `broadcast`."""
+"""A channel in which every value goes to every receiver, by the rules of Tokio's `broadcast`."""
 from __future__ import annotations
 
 import itertools
-from typing import AsyncIterator, Generic, Iterator, Optional, TypeVar
+from typing import AsyncIterator, Callable, Generic, Iterable, Iterator, Optional, TypeVar
 
-from ._core import FIRST_SENDER, Core, Held, refuse, wait, wait_async, wake_all
+from ._core import FIRST_SENDER, Core, Held, many, refuse, wait, wait_async, wake_all
 from ._library import Reply, Status
-from .answers import Closed, Empty, Lagged, NoReceivers
+from .answers import Closed, Empty, Lagged, NoReceivers, PartlySent
+
+__all__ = ["Broadcast", "Receiver"]
 
 T = TypeVar("T")
 
 
 class _Channel(Core, Generic[T]):
-    """The channel, of numbers, and the values that they stand for.
+    """The channel, which holds numbers, and the values that they stand for.
 
-    A value is there before its number is sent, and goes after it was let go. So a call that is interrupted never leaves a number
-    without its value.
+    A value is stored before its number is sent, and removed after the library has released it. So a call that is interrupted never
+    leaves a number without its value.
     """
 
     def __init__(self, capacity: int, limit: Optional[int]) -> None:
@@ -26,8 +28,27 @@ class _Channel(Core, Generic[T]):
     def let_go(self, count: int) -> object:
         return [self.kept.pop(number) for number in list(itertools.islice(self.kept, count))]
 
+    def send(self, sender: int, value: T) -> tuple[int, object]:
+        """Sends a value. Returns how many receivers there are, and what is released."""
+        number = next(self.numbers)
+        self.kept[number] = value
+        reply = self._sent(sender, number)
+        return int(reply.number), self.let_go(reply.let_go)
+
+    def _sent(self, sender: int, number: int) -> Reply:
+        try:
+            reply = self.call("send", sender, number)
+            if reply.status == Status.NO_RECEIVERS:
+                raise NoReceivers
+            if reply.status != Status.SENT:
+                refuse(reply.status)
+            return reply
+        except Exception:
+            del self.kept[number]
+            raise
+
     def received(self, reply: Reply) -> tuple[T, object]:
-        """The value that a receiver is told, and what is let go. Raises what else it is told."""
+        """The value that a receiver gets, and what is released. Raises what the reply says instead."""
         if reply.status == Status.VALUE:
             return self.kept[reply.number], self.let_go(reply.let_go)
         if reply.status == Status.LAGGED:
@@ -40,17 +61,20 @@ class _Channel(Core, Generic[T]):
 
 
 class Broadcast(Held, Generic[T]):
-    """A sender of a broadcast channel; made by its name, also the channel.
+    """A sender of a broadcast channel. `Broadcast(capacity)` also makes the channel.
 
-    The channel keeps the newest values, `capacity` of them, rounded up to a power of two: 1 to 65,536. It is closed when all its
-    senders are closed. With `recorded` it notes each call with its reply, at most so many entries for each `trace`.
+    The channel keeps the newest values: `capacity` of them, 1 to 65,536, rounded up to a power of two. It is closed when all its
+    senders are closed. It has at most 65,535 senders and 65,535 receivers at a time. With `recorded` it records each call and its
+    reply, at most that many entries for each `trace`.
+
+    Threads and tasks may share a sender. Raises `BadCapacity`, `BadLimit`.
 
     >>> with Broadcast(2) as news:
     ...     receiver = news.subscribe()
     ...     counts = [news.send(word) for word in ("one", "two", "three")]
     >>> receiver.recv()
     Traceback (most recent call last):
-    topichub.answers.Lagged: missed 1 values
+    topichub.answers.Lagged: missed 1 value
     >>> list(receiver)
     ['two', 'three']
     """
@@ -61,22 +85,39 @@ class Broadcast(Held, Generic[T]):
         super().__init__(_Channel[T](capacity, recorded), FIRST_SENDER)
 
     def send(self, value: T) -> int:
-        """Sends a value to every receiver, and answers how many there are. Raises `NoReceivers`; a later send may succeed."""
+        """Sends a value to every receiver, and returns how many there are. Raises `NoReceivers`; a later send may succeed."""
         channel = self._channel
         with channel.turn():
-            number = next(channel.numbers)
-            channel.kept[number] = value
-            reply = channel.call("send", self._id, number)
-            if reply.status != Status.SENT:
-                del channel.kept[number]
-                if reply.status == Status.NO_RECEIVERS:
-                    raise NoReceivers
-                refuse(reply.status)
-            gone = channel.let_go(reply.let_go)
+            count, gone = channel.send(self._id, value)
             woken = channel.waiting.take()
         wake_all(woken)
         del gone
-        return int(reply.number)
+        return count
+
+    def send_many(self, values: Iterable[T]) -> int:
+        """Sends the values in their order, and returns how many receivers there are; 0 if there are no values.
+
+        It is a loop of sends under one lock, after which the receivers are woken once. So no value of another sender comes between
+        them. Raises `NoReceivers`, with none of them sent, and `PartlySent` if a later one cannot be sent.
+        """
+        channel, count, sent, gone = self._channel, 0, 0, []
+        woken: list[Callable[[], None]] = []
+        waiting = list(values)  # which may run any code, and so not under the lock
+        try:
+            with channel.turn():
+                for value in waiting:
+                    count, released = channel.send(self._id, value)
+                    gone.append(released)
+                    sent += 1
+                    woken += channel.waiting.take()
+        except Exception as fault:
+            if not sent:
+                raise
+            raise PartlySent(sent) from fault
+        finally:
+            wake_all(woken)
+        del gone
+        return count
 
     def subscribe(self, *, oldest: bool = False) -> Receiver[T]:
         """A receiver of what is sent from now on; with `oldest`, also of what is still kept for others. Raises `TooMany`."""
@@ -93,43 +134,58 @@ class Broadcast(Held, Generic[T]):
         return sender
 
     def receiver_count(self) -> int:
+        """How many receivers the channel has."""
         with self._channel.turn():
             return self._channel.ask("readers", Status.COUNT, self._id)
 
     def queued(self) -> int:
-        """How many values are kept: those that some receiver has still to read, as far as the capacity goes."""
+        """How many values are kept: those that some receiver has not received yet, at most as many as the capacity."""
         with self._channel.turn():
             return self._channel.ask("queued", Status.COUNT, self._id)
 
     def trace(self) -> str:
-        """The next part of what is recorded, as `check` reads it: from the last trace on, at most as many entries as the limit. A
-        value stands in it as a number, rising in the order of the sends."""
+        """The next part of the recorded history, which starts where the last trace ended, as `check` reads it. It has at most as many
+        entries as the limit. Each value stands in it as a number, which rises in the order of the sends."""
         return self._channel.trace()
 
 
 class Receiver(Held, Generic[T]):
-    """Receives all that is sent to a broadcast channel, from its own place on. `Broadcast.subscribe` makes it.
+    """Receives everything that is sent to a broadcast channel from the moment on at which `Broadcast.subscribe` made it.
 
-    A `for` or `async for` over it ends when the channel is closed, and raises `Lagged` where values were missed; a further one
-    goes on behind them. When it is closed, what only it had still to read is let go.
+    A `for` or `async for` loop over it ends when the channel is closed, and raises `Lagged` where values were missed; another loop
+    continues behind them. When it is closed, the values that only it had still to receive are released.
     """
 
     _channel: _Channel[T]
     _drop = "drop_rx"
 
     def recv(self, timeout: Optional[float] = None) -> T:
-        """The next value. The thread waits until there is one, at most so many seconds.
+        """The next value. The thread waits until there is one, at most this many seconds.
 
-        Raises `Lagged`, `Closed`, `TimeoutError`.
+        Raises `Lagged`, `Closed`, `TimeoutError`. After a `TimeoutError` nothing is lost: a value that comes later goes to the next
+        receive.
         """
         return wait(self._channel, self._channel.waiting, lambda: self._told("recv"), timeout)[0]
 
-    async def recv_async(self) -> T:
-        """The next value. The task waits until there is one. Who cancels the wait has received nothing.
+    async def recv_async(self, timeout: Optional[float] = None) -> T:
+        """As `recv`, for a task. It may be cancelled: a wait that is cancelled has received nothing."""
+        return (await wait_async(self._channel, self._channel.waiting, lambda: self._told("recv"), timeout))[0]
 
-        Raises `Lagged`, `Closed`.
+    def recv_many(self, most: int, timeout: Optional[float] = None) -> list[T]:
+        """The values that are there, at most so many. The thread waits until there is one, at most this many seconds.
+
+        It is a loop of receives under one lock. Raises what `recv` raises where that comes first; what comes behind a value is left
+        to the next receive. With a limit below 1 the list is empty at once.
         """
-        return (await wait_async(self._channel, self._channel.waiting, lambda: self._told("recv")))[0]
+        if most < 1:
+            return []
+        return [it[0] for it in wait(self._channel, self._channel.waiting, lambda: self._told_many(most), timeout)]
+
+    async def recv_many_async(self, most: int, timeout: Optional[float] = None) -> list[T]:
+        """As `recv_many`, for a task. It may be cancelled: a wait that is cancelled has received nothing."""
+        if most < 1:
+            return []
+        return [it[0] for it in await wait_async(self._channel, self._channel.waiting, lambda: self._told_many(most), timeout)]
 
     def try_recv(self) -> T:
         """The next value, if there is one. Raises `Lagged`, `Empty`, `Closed`."""
@@ -140,13 +196,17 @@ class Receiver(Held, Generic[T]):
     def _told(self, name: str) -> tuple[T, object]:
         return self._channel.received(self._channel.call(name, self._id))
 
+    def _told_many(self, most: int) -> list[tuple[T, object]]:
+        # A lag can only come first: nobody sends in between.
+        return many(self._told("recv"), lambda: self._told("recv"), most)
+
     def left(self) -> int:
-        """How many values are still to come, those that were missed among them."""
+        """How many values this receiver has not received yet, including those that it has missed."""
         with self._channel.turn():
             return self._channel.ask("left", Status.COUNT, self._id)
 
     def resubscribe(self) -> Receiver[T]:
-        """A receiver of what is sent from now on. This one stays as it is. Raises `TooMany`."""
+        """Another receiver, of what is sent from now on. This one stays as it is. Raises `TooMany`."""
         with self._channel.turn():
             number = self._channel.new_receiver("resubscribe", self._id)
         return Receiver(self._channel, number)

@@ -1,4 +1,4 @@
-"""Clients of `topichub serve`: one that blocks, and one for tasks of asyncio.
+"""Clients of `topichub serve`: one that blocks its thread, and one for tasks of asyncio.
 
     from topichub import Client, commands
 
@@ -7,83 +7,300 @@
         hub.ask(commands.bind("news"))
         hub.ask(commands.subscribe("news"))
         hub.ask(commands.send("news", b"one"))
-        print(hub.ask(commands.recv("news")))
+        print(hub.ask(commands.recv("news"), timeout=5))
 
-A connection is a session: what it holds is spent when it ends. While it waits for a value, no command behind it is answered.
+A connection is a session: when it ends, the hub closes all its senders and receivers.
+
+Waits with a limit. A wait ends by `TimeoutError` (the built-in one) when its time is up. A task that waits may be cancelled. Either way
+the command has been sent and cannot be taken back: the hub answers it when it can, and this is what becomes of the late reply.
+
+- `recv`, `try_recv`: the late reply, a value or a lag, goes to the next `recv` or `try_recv` of the same topic. So no value is lost, and
+  each comes in its place. `left` counts such values too.
+- `changed`, `try_changed`, `borrow_and_update`: if the late reply marked a value as seen, the news is still to be told. The next `changed`
+  or `try_changed` of the topic tells it; until then `has_changed` answers `True`, and `borrow` and `borrow_and_update` show the newest
+  value as unseen.
+- `trace`: the late reply, a part of the history, goes to the next `trace` of the same topic.
+- All others: the late reply is dropped. A `send` that was given up may or may not have been carried out. To learn which, do not give it
+  up: `Client.send` and `Client.answer(timeout)` let a reply wait, and so does `asyncio.wait({task}, timeout=..)`, which cancels nothing.
+
+While the hub waits for a value to answer `recv` or `changed`, it answers no other command of the session. After such a command was given
+up, the next one of the same kind and topic waits for the same reply; `try_recv` raises `Empty` and `try_changed` answers `False` at once;
+any other command waits behind it, or until its own time is up. `given_up` shows what the hub has still to answer. To be free at once, use
+a second client, or `reconnect`.
 """
 from __future__ import annotations
 
 import asyncio
 import contextlib
+import select
 import socket
+import struct
 from collections import deque
 from types import TracebackType
-from typing import Any, Iterable, Optional, Type, TypeVar
+from typing import Any, Iterable, Literal, Optional, Type, TypeVar, Union, overload
 
-from .commands import Command, Reply, reply_of
+from ._exchange import Asked, Exchange
+from ._limit import Limit
+from .answers import ChannelError, Reconnected
+from .commands import Command
+
+__all__ = ["AsyncClient", "Client"]
 
 A = TypeVar("A")
 
 ENDED = "the hub has ended the session"
+CLOSED = "the client was closed"
+NOT_ACCEPTED = "the hub did not accept the connection in time"
+AT_ONCE = 65_536  # bytes that are read at once
+LONGEST = 1e9  # seconds that the system is told to wait, at most
+PAUSE = 0.01  # seconds until a task tries again to connect
 
 
-def _line(read: bytes) -> bytes:
-    if not read.endswith(b"\n"):
-        raise ConnectionError(ENDED)
-    return read[:-1]
+def _check_encoding(encoding: Optional[str]) -> Optional[str]:
+    if encoding is not None:
+        "".encode(encoding)  # raises LookupError where there is none of that name
+    return encoding
+
+
+def _result(asked: Asked, return_exceptions: bool) -> Any:
+    try:
+        return asked.result()
+    except ChannelError as fault:
+        if not return_exceptions:
+            raise
+        return fault
+
+
+def _connected(path: str, limit: Limit) -> socket.socket:
+    """A socket that is connected to this path."""
+    connection = socket.socket(socket.AF_UNIX, socket.SOCK_STREAM)
+    left = limit.left()
+    try:
+        if left is not None:  # a non-blocking `connect` would not wait for a server whose queue is full
+            micros = max(1, int(1e6 * min(left, LONGEST)))
+            connection.setsockopt(socket.SOL_SOCKET, socket.SO_SNDTIMEO, struct.pack("ll", *divmod(micros, 1_000_000)))
+        connection.connect(path)
+    except BlockingIOError:
+        connection.close()
+        raise TimeoutError(NOT_ACCEPTED) from None
+    except BaseException:
+        connection.close()
+        raise
+    return connection
+
+
+async def _opened(path: str, limit: Limit) -> tuple[asyncio.StreamReader, asyncio.StreamWriter]:
+    """Streams that are connected to this path."""
+    connection = socket.socket(socket.AF_UNIX, socket.SOCK_STREAM)
+    connection.setblocking(False)
+    try:
+        while True:
+            try:
+                connection.connect(path)
+                return await asyncio.open_unix_connection(sock=connection)
+            except BlockingIOError:  # the server's queue is full, and nothing tells when it no longer is
+                if limit.left() == 0:
+                    raise TimeoutError(NOT_ACCEPTED) from None
+                await asyncio.sleep(PAUSE)
+    except BaseException:
+        connection.close()
+        raise
 
 
 class Client:
-    """A session that blocks the thread. It belongs to one thread at a time."""
+    """A session that blocks its thread while it waits. Only one thread may use it at a time.
 
-    def __init__(self, path: str) -> None:
-        """Connects to the socket of `topichub serve PATH`. Raises `OSError`."""
-        self._socket = socket.socket(socket.AF_UNIX, socket.SOCK_STREAM)
-        try:
-            self._socket.connect(path)
-        except OSError:
-            self._socket.close()
-            raise
-        self._replies = self._socket.makefile("rb")
-        self._sent: deque[Command[Any]] = deque()
-        self._fault: Optional[BaseException] = None  # why no command can be sent any more
+    The module `topichub.client` says what becomes of a reply that comes after its time was up.
+    """
 
-    def ask(self, command: Command[A]) -> A:
-        """The answer to a command; of `recv` and `changed` once there is one. Commands sent ahead must have been answered.
+    def __init__(self, path: str, *, encoding: Optional[str] = None, timeout: Optional[float] = None) -> None:
+        """Connects to the socket of `topichub serve PATH`.
 
-        Raises what the reply tells (`answers`), and `ConnectionError` where the session has ended.
+        With an `encoding`, such as "utf-8", commands may have values of type `str`. What is received is `bytes` all the same, since
+        other clients may send any bytes. Raises `OSError` if nobody listens there, and `TimeoutError` if it takes longer than this
+        many seconds.
         """
-        if self._sent and not self._fault:
+        self._path = path
+        self._exchange = Exchange(_check_encoding(encoding))
+        self._ahead: deque[Asked] = deque()
+        self._is_moving = False  # bytes are under way
+        self._fault: Optional[BaseException] = None  # why no command can be sent any more
+        self._socket = _connected(path, Limit(timeout))
+
+    def ask(self, command: Command[A], timeout: Optional[float] = None) -> A:
+        """The answer to a command; of `recv` and `changed` once there is one. All commands sent ahead must have been answered.
+
+        Raises the error that the reply stands for (`topichub.answers`), `TimeoutError` after this many seconds, and
+        `ConnectionError` if the session has ended. A wait that ends by `TimeoutError` loses nothing: see `topichub.client`. Neither
+        does Ctrl-C in a wait; if it comes just while bytes are moving, the session ends.
+        """
+        limit = Limit(timeout)
+        self._go_on()
+        if self._ahead:
             raise RuntimeError("the replies to commands that were sent ahead come first")
-        self.send(command)
-        answer: A = self.answer()
+        asked = self._begin(command)
+        try:
+            self._wait_for(asked, limit)
+        except BaseException:
+            self._exchange.give_up(asked)
+            raise
+        answer: A = asked.result()
         return answer
 
-    def send(self, command: Command[Any]) -> None:
-        """Sends a command ahead. Its answer is that of the first `answer` that no earlier command has."""
+    @overload
+    def ask_all(self, commands: Iterable[Command[A]], timeout: Optional[float] = None, *,
+                return_exceptions: Literal[False] = False) -> list[A]: ...
+
+    @overload
+    def ask_all(self, commands: Iterable[Command[A]], timeout: Optional[float] = None, *,
+                return_exceptions: Literal[True]) -> list[Union[A, ChannelError]]: ...
+
+    def ask_all(self, commands: Iterable[Command[A]], timeout: Optional[float] = None, *,
+                return_exceptions: bool = False) -> list[Any]:
+        """The answers to several commands, all of which are sent before the first is answered. `timeout` is for all of them together.
+
+        Raises the first error. The others are given up then, answered or not: what they have received goes to the next receive.
+        With `return_exceptions` an error of the hub or channel (`ChannelError`) stands in the list in place of an answer.
+        """
+        limit = Limit(timeout)
         self._go_on()
-        self._sent.append(command)
+        if self._ahead:
+            raise RuntimeError("the replies to commands that were sent ahead come first")
+        whole = self._exchange.encoded(commands)
+        asked = []
+        answers: list[Any] = []
         try:
-            self._socket.sendall(command.line + b"\n")
+            for command in whole:
+                asked.append(self._begin(command))
+            for it in asked:
+                self._wait_for(it, limit)
+                answers.append(_result(it, return_exceptions))
+        except BaseException:
+            self._exchange.give_up_others(asked, len(answers))
+            raise
+        return answers
+
+    def send(self, *commands: Command[Any], timeout: Optional[float] = None) -> None:
+        """Sends commands ahead, without waiting for their answers, which `answer` returns one by one, in the order of the commands.
+
+        It waits only if the hub does not read. Raises `TimeoutError` if that takes longer than this many seconds: the commands have
+        been sent ahead all the same, and what is left of their lines goes out with the next call.
+        """
+        limit = Limit(timeout)
+        self._go_on()
+        for command in self._exchange.encoded(commands):
+            self._ahead.append(self._begin(command))
+        while self._exchange.out:
+            self._move(reads=False)
+            if self._exchange.out:
+                self._wait(limit)
+                self._move()
+
+    def answer(self, timeout: Optional[float] = None) -> Any:
+        """The answer to the oldest command that was sent ahead. Raises what `ask` raises.
+
+        After a `TimeoutError` the command is still the oldest one, and the next `answer` waits for the same reply.
+        """
+        limit = Limit(timeout)
+        self._go_on()
+        if not self._ahead:
+            raise IndexError("no command was sent ahead")
+        asked = self._ahead[0]
+        self._wait_for(asked, limit)
+        self._ahead.popleft()
+        return asked.result()
+
+    @property
+    def given_up(self) -> tuple[bytes, ...]:
+        """The lines that were sent and then given up, and that the hub has not answered yet."""
+        return self._exchange.given_up()
+
+    def reconnect(self, timeout: Optional[float] = None) -> Reconnected:
+        """Ends the session, connects again, and makes the client a sender and receiver again on the topics on which it was one.
+
+        Call it after a `ConnectionError`, or to get out of a wait that was given up. The hub keeps nothing of a session that has
+        ended, so nobody knows what was sent in between. `Reconnected` says what is known, and on each broadcast topic the next
+        receive raises `MayHaveMissed` in the place where values may be missing. On a watch topic the newest value counts as unseen.
+        Values that were received before, and not handed out yet, still come first.
+
+        Raises `OSError` if nobody listens, and `TimeoutError` if it all takes longer than this many seconds. It may be called again
+        then.
+        """
+        limit = Limit(timeout)
+        self._end(self._fault or ConnectionError(CLOSED))
+        self._socket = _connected(self._path, limit)
+        self._exchange, self._ahead, self._fault, self._is_moving = self._exchange.renewed(), deque(), None, False
+        steps = self._exchange.hold_again()
+        try:
+            command = next(steps)
+            while True:
+                try:
+                    answer = self.ask(command, limit.left())
+                except ChannelError as fault:
+                    answer = fault
+                command = steps.send(answer)
+        except StopIteration as end:
+            result: Reconnected = end.value
+            return result
         except BaseException as fault:
-            self._end(fault)  # how much of the line was sent is not known
+            self._end(fault)
             raise
 
-    def answer(self) -> Any:
-        """The answer to the oldest command that was sent ahead."""
-        self._go_on()
-        command = self._sent.popleft()
-        try:
-            reply = self._read(command)
-        except BaseException as fault:
-            self._end(fault)  # what is read next would be no reply to the next command
-            raise
-        return command.answer(reply)
+    def _begin(self, command: Command[Any]) -> Asked:
+        if self._exchange.free:  # their replies may have come meanwhile
+            self._move()
+        return self._exchange.ask(command)
 
-    def _read(self, command: Command[Any]) -> Reply:
-        reply = reply_of(_line(self._replies.readline()))
-        rows = tuple(_line(self._replies.readline()) for _ in range(command.count_rows(reply)))
-        return Reply(reply.word, reply.rest, rows)
+    def _wait_for(self, asked: Asked, limit: Limit) -> None:
+        """Waits for the reply. Nothing is lost where it ends otherwise, unless bytes were under way."""
+        try:
+            if self._exchange.out:
+                self._move(reads=False)
+            while asked.reply is None:
+                self._wait(limit)
+                self._move()
+        except TimeoutError:
+            raise TimeoutError(self._exchange.why_late(asked)) from None
+
+    def _wait(self, limit: Limit) -> None:
+        """Waits until the hub sends, or reads what is to be sent. It moves nothing."""
+        waiting, left = select.poll(), limit.left()
+        waiting.register(self._socket, select.POLLIN | select.POLLOUT if self._exchange.out else select.POLLIN)
+        if not waiting.poll(None if left is None else min(1_000 * left, 2**31 - 1)) and limit.left() == 0:
+            raise TimeoutError
+
+    def _move(self, reads: bool = True) -> None:
+        """Sends what can be sent now, and receives what has come. If it does not get to its end, nobody knows which bytes have moved,
+        and the session ends."""
+        if self._is_moving:
+            self._end(ConnectionError("an earlier call was interrupted"))
+        self._go_on()
+        self._is_moving = True
+        try:
+            self._send_now()
+            if reads:
+                self._receive_now()
+        except BaseException as fault:
+            self._end(fault)
+            raise
+        self._is_moving = False
+
+    def _send_now(self) -> None:
+        out = self._exchange.out
+        try:
+            while out:
+                del out[:self._socket.send(out, socket.MSG_DONTWAIT)]
+        except BlockingIOError:
+            pass
+
+    def _receive_now(self) -> None:
+        try:
+            came = self._socket.recv(AT_ONCE, socket.MSG_DONTWAIT)
+        except BlockingIOError:
+            return
+        if not came:
+            raise ConnectionError(ENDED)
+        self._exchange.come(came)
 
     def _go_on(self) -> None:
         if self._fault:
@@ -91,12 +308,11 @@ class Client:
 
     def _end(self, fault: BaseException) -> None:
         self._fault = fault
-        self._replies.close()
         self._socket.close()
 
     def close(self) -> None:
-        """Ends the session. Again it does nothing."""
-        self._end(self._fault or ConnectionError("it was closed here"))
+        """Ends the session. Closing it again does nothing."""
+        self._end(self._fault or ConnectionError(CLOSED))
 
     def __enter__(self) -> Client:
         return self
@@ -105,72 +321,172 @@ class Client:
                  at: Optional[TracebackType]) -> None:
         self.close()
 
+    def __repr__(self) -> str:
+        return f"<{type(self).__name__} {self._path!r}{', ended' if self._fault else ''}>"
+
 
 class AsyncClient:
-    """A session for tasks of one loop. Several tasks may ask at a time, and are answered in the order in which they asked.
+    """A session for the tasks of one event loop. Several tasks may ask at a time, and are answered in the order in which they asked.
 
-    Who cancels an `ask` does not take its command back: the reply is read when it comes, and let go.
+    A task that waits may be cancelled, as by `asyncio.wait_for`, and loses nothing by it. The module `topichub.client` says what
+    becomes of a reply that comes later.
     """
 
-    def __init__(self, reader: asyncio.StreamReader, writer: asyncio.StreamWriter) -> None:
+    def __init__(self, reader: asyncio.StreamReader, writer: asyncio.StreamWriter, *, encoding: Optional[str] = None) -> None:
+        """A session over streams that are connected to a hub. Most programs use `connect`."""
+        self._path: Optional[str] = None
+        self._exchange = Exchange(_check_encoding(encoding))
+        self._use(reader, writer)
+
+    def _use(self, reader: asyncio.StreamReader, writer: asyncio.StreamWriter) -> None:
         self._reader, self._writer = reader, writer
-        self._asked: deque[tuple[Command[Any], asyncio.Future[Any]]] = deque()
         self._fault: Optional[BaseException] = None
-        self._reading = asyncio.get_running_loop().create_task(self._read_all())
+        self._reading = asyncio.get_running_loop().create_task(self._read_all(self._exchange))
 
     @classmethod
-    async def connect(cls, path: str) -> AsyncClient:
-        """Connects to the socket of `topichub serve PATH`. Raises `OSError`."""
-        return cls(*await asyncio.open_unix_connection(path))
+    async def connect(cls, path: str, *, encoding: Optional[str] = None, timeout: Optional[float] = None) -> AsyncClient:
+        """Connects to the socket of `topichub serve PATH`. The arguments and errors are those of `Client`."""
+        _check_encoding(encoding)
+        client = cls(*await _opened(path, Limit(timeout)), encoding=encoding)
+        client._path = path
+        return client
 
-    async def ask(self, command: Command[A]) -> A:
-        """As `Client.ask`."""
-        answer: A = await self._send(command)
+    async def ask(self, command: Command[A], timeout: Optional[float] = None) -> A:
+        """The answer to a command; of `recv` and `changed` once there is one.
+
+        Raises the error that the reply stands for (`topichub.answers`), `TimeoutError` after this many seconds, and
+        `ConnectionError` if the session has ended. A wait that ends by `TimeoutError` or is cancelled loses nothing: see
+        `topichub.client`.
+        """
+        limit, exchange = Limit(timeout), self._exchange
+        asked = self._begin(command)
+        try:
+            await self._wait_for(exchange, asked, limit)
+        except BaseException:
+            exchange.give_up(asked)
+            raise
+        answer: A = asked.result()
         return answer
 
-    async def ask_all(self, commands: Iterable[Command[A]]) -> list[A]:
-        """The answers to several commands, all of which are sent before the first is answered. Raises what the first raises."""
-        return list(await asyncio.gather(*[self._send(command) for command in commands]))
+    @overload
+    async def ask_all(self, commands: Iterable[Command[A]], timeout: Optional[float] = None, *,
+                      return_exceptions: Literal[False] = False) -> list[A]: ...
 
-    def _send(self, command: Command[Any]) -> asyncio.Future[Any]:
-        if self._fault:
+    @overload
+    async def ask_all(self, commands: Iterable[Command[A]], timeout: Optional[float] = None, *,
+                      return_exceptions: Literal[True]) -> list[Union[A, ChannelError]]: ...
+
+    async def ask_all(self, commands: Iterable[Command[A]], timeout: Optional[float] = None, *,
+                      return_exceptions: bool = False) -> list[Any]:
+        """The answers to several commands, all of which are sent before the first is answered. `timeout` is for all of them together.
+
+        Raises the first error. The others are given up then, answered or not: what they have received goes to the next receive.
+        With `return_exceptions` an error of the hub or channel (`ChannelError`) stands in the list in place of an answer.
+        """
+        limit, exchange = Limit(timeout), self._exchange
+        whole = exchange.encoded(commands)
+        asked = []
+        answers: list[Any] = []
+        try:
+            for command in whole:
+                asked.append(self._begin(command))
+            for it in asked:
+                await self._wait_for(exchange, it, limit)
+                answers.append(_result(it, return_exceptions))
+        except BaseException:
+            exchange.give_up_others(asked, len(answers))
+            raise
+        return answers
+
+    @property
+    def given_up(self) -> tuple[bytes, ...]:
+        """The lines that were sent and then given up, and that the hub has not answered yet."""
+        return self._exchange.given_up()
+
+    async def reconnect(self, timeout: Optional[float] = None) -> Reconnected:
+        """As `Client.reconnect`. Tasks that still wait for an answer of the old session get a `ConnectionError`.
+
+        One task calls it, while no other one does. Raises `ValueError` if the client was made without a path.
+        """
+        if self._path is None:
+            raise ValueError("the client was made of streams, and knows no path to connect to")
+        limit = Limit(timeout)
+        self._writer.transport.abort()  # else a hub that does not read would hold up the end
+        await self.close()
+        streams = await _opened(self._path, limit)
+        self._exchange = self._exchange.renewed()
+        self._use(*streams)
+        steps = self._exchange.hold_again()
+        try:
+            command = next(steps)
+            while True:
+                try:
+                    answer = await self.ask(command, limit.left())
+                except ChannelError as fault:
+                    answer = fault
+                command = steps.send(answer)
+        except StopIteration as end:
+            result: Reconnected = end.value
+            return result
+        except BaseException as fault:
+            self._end(fault)
+            raise
+
+    def _begin(self, command: Command[Any]) -> Asked:
+        self._go_on()
+        asked = self._exchange.ask(command, asyncio.get_running_loop().create_future())
+        self._send_out()
+        return asked
+
+    def _send_out(self) -> None:
+        if self._exchange.out:
+            self._writer.write(bytes(self._exchange.out))
+            self._exchange.out.clear()
+
+    async def _wait_for(self, exchange: Exchange, asked: Asked, limit: Limit) -> None:
+        """Waits for the reply."""
+        left = limit.left()
+        timer = None if left is None else asyncio.get_running_loop().call_later(left, asked.wake)
+        try:
+            if asked.told:
+                await asked.told
+        finally:
+            if timer:
+                timer.cancel()
+        if asked.reply is None and exchange.has_ended:
             raise ConnectionError(ENDED) from self._fault
-        told = asyncio.get_running_loop().create_future()
-        self._asked.append((command, told))
-        self._writer.write(command.line + b"\n")
-        return told
+        if asked.reply is None:
+            raise TimeoutError(exchange.why_late(asked))
 
-    async def _read_all(self) -> None:
+    async def _read_all(self, exchange: Exchange) -> None:
         try:
             while True:
-                first = reply_of(_line(await self._reader.readline()))
-                if not self._asked:
-                    raise ConnectionError("the hub told what nobody asked")
-                command, told = self._asked.popleft()
-                try:
-                    rows = [_line(await self._reader.readline()) for _ in range(command.count_rows(first))]
-                except BaseException:
-                    self._asked.appendleft((command, told))
-                    raise
-                _tell(told, command, Reply(first.word, first.rest, tuple(rows)))
+                came = await self._reader.read(AT_ONCE)
+                if not came:
+                    raise ConnectionError(ENDED)
+                exchange.come(came)
+                self._send_out()
         except BaseException as fault:
             self._end(fault)
             if not isinstance(fault, (OSError, ValueError)):
                 raise
 
+    def _go_on(self) -> None:
+        if self._fault:
+            raise ConnectionError(ENDED) from self._fault
+
     def _end(self, fault: BaseException) -> None:
-        self._fault = fault
-        while self._asked:
-            _, told = self._asked.popleft()
-            if not told.done():
-                told.set_exception(ConnectionError(ENDED))
+        self._fault = self._fault or fault
+        self._exchange.end()
         self._writer.close()
 
     async def close(self) -> None:
-        """Ends the session. Who still waits gets a `ConnectionError`. Again it does nothing."""
+        """Ends the session. Tasks that still wait get a `ConnectionError`. Closing it again does nothing."""
+        self._fault = self._fault or ConnectionError(CLOSED)
         self._reading.cancel()
         with contextlib.suppress(asyncio.CancelledError):
             await self._reading
+        self._end(self._fault)
         with contextlib.suppress(OSError):
             await self._writer.wait_closed()
 
@@ -181,11 +497,6 @@ class AsyncClient:
                         at: Optional[TracebackType]) -> None:
         await self.close()
 
-
-def _tell(told: asyncio.Future[Any], command: Command[Any], reply: Reply) -> None:
-    if told.done():  # cancelled meanwhile
-        return
-    try:
-        told.set_result(command.answer(reply))
-    except Exception as fault:
-        told.set_exception(fault)
+    def __repr__(self) -> str:
+        path = "" if self._path is None else f" {self._path!r}"
+        return f"<{type(self).__name__}{path}{', ended' if self._fault else ''}>"

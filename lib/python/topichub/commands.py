@@ -1,81 +1,120 @@
-"""The commands of `topichub serve`: of each its line, and what its reply means.
+"""The commands of `topichub serve`: the line of each, and the meaning of its reply.
 
-A function of this module makes a `Command`, which `Client.ask` and `AsyncClient.ask` carry out. Names of topics are `str` and
-values are `bytes`: a value need not be text.
+Each function of this module makes a `Command`, which `Client.ask` and `AsyncClient.ask` carry out.
 
     hub.ask(commands.send("news", b"one"))
 
-What each command does, and when it is refused, stands in docs/FORMATS.md of the repository. A refusal raises `Refused`.
+The name of a topic is a `str`. A value is `bytes`, since it need not be text: 1 to 1,024 bytes, without LF and CR. A value that is a
+`str` takes a client that was made with an `encoding`; the others refuse it by `TypeError` before anything is sent.
+
+A sender or a receiver belongs to the session: at most one of each on each topic. docs/FORMATS.md in the repository describes every
+command and when it is refused. A refusal raises `Refused`, or one of its subclasses such as `NoTopic`.
 """
 from __future__ import annotations
 
 import re
-from dataclasses import dataclass
-from typing import Callable, Generic, Optional, TypeVar
+from dataclasses import dataclass, field, replace
+from typing import Callable, Generic, Optional, TypeVar, Union
 
-from .answers import Closed, Empty, Lagged, NoReceivers, ProtocolError, Refused, Shown
+from .answers import Closed, Empty, Lagged, MayHaveMissed, NoReceivers, ProtocolError, Shown, refusal
 
 T = TypeVar("T")
 
+__all__ = ["Command", "LONGEST_VALUE", "Reply", "bind", "borrow", "borrow_and_update", "changed", "edit_differ", "edit_quiet", "edit_set",
+           "end", "has_changed", "left", "mark_changed", "mark_unchanged", "open_broadcast", "open_watch", "queued", "quit_session",
+           "raw", "receiver_count", "recv", "reply_of", "resubscribe", "send", "send_replace", "subscribe", "topics", "trace",
+           "try_changed", "try_recv", "unbind", "unsubscribe"]
+
+Value = Union[bytes, bytearray, memoryview, str]
+
 LONGEST_VALUE = 1_024
 NO_RECEIVERS = 17
+# What stands in place of a count where nobody has counted: a client says so to itself after it has reconnected.
+UNKNOWN = b"?"
 _NAME = re.compile(r"[a-z0-9_-]{1,32}")
 _LONGEST_NUMBER = 2**64 - 1
 
 
 @dataclass(frozen=True)
 class Reply:
-    """A line of the hub, parted at its first space, and the lines below it."""
+    """A reply of the hub: its first line, split at the first space, and the lines below it."""
 
     word: bytes
-    rest: bytes
+    rest: bytes = b""
     rows: tuple[bytes, ...] = ()
+
+    @property
+    def line(self) -> bytes:
+        """Its first line, without its end."""
+        return self.word + b" " + self.rest if self.rest else self.word
 
 
 @dataclass(frozen=True)
 class Command(Generic[T]):
-    """A line for the hub, and how its reply is read: `None` where the reply is none to this command."""
+    """A line for the hub, and the function that reads its reply, which answers `None` if the reply does not fit the command.
+
+    Where `text` is set, it is a value that has still to be encoded, and the line ends in front of it.
+    """
 
     line: bytes
-    read: Callable[[Reply], Optional[T]]
-    has_rows: bool = False
+    read: Callable[[Reply], Optional[T]] = field(repr=False)
+    has_rows: bool = field(default=False, repr=False)
+    text: Optional[str] = None
+
+    def encoded(self, encoding: Optional[str]) -> Command[T]:
+        """The command with its whole line. Raises `TypeError` if its value is a `str` and there is no encoding."""
+        if self.text is None:
+            return self
+        if encoding is None:
+            raise TypeError(f"a value is bytes, and {self.text!r} is a str: send {self.text!r}.encode(), or make the client with "
+                            "encoding='utf-8'")
+        return replace(self, line=self.line + _checked(self.text.encode(encoding)), text=None)
 
     def count_rows(self, reply: Reply) -> int:
-        """How many lines stand below this first line of the reply."""
+        """How many lines follow this first line of the reply."""
         return (_count(reply) or 0) if self.has_rows else 0
 
     def answer(self, reply: Reply) -> T:
-        """What the reply means. Raises what it tells in place of an answer."""
+        """The meaning of the reply. Raises the error that it stands for."""
         if reply.word == b"ERR":
             _refuse(reply)
         told = self.read(reply)
         if told is None:
-            raise ProtocolError(self.line, reply.word + b" " + reply.rest)
+            raise ProtocolError(self.line, reply.line)
         return told
 
 
+class _Raw(Command[Reply]):
+    """A command whose reply is not looked at."""
+
+    def answer(self, reply: Reply) -> Reply:
+        return reply
+
+
 def reply_of(line: bytes) -> Reply:
-    """A first line, without its end, as a reply."""
+    """The reply with this first line, which is given without its end."""
     word, _, rest = line.partition(b" ")
     return Reply(word, rest)
 
 
 def _refuse(reply: Reply) -> None:
-    """Raises what a refusal tells. One without a number is none."""
+    """Raises the error of a refusal. A reply without a number is not one."""
     code, _, word = reply.rest.partition(b" ")
     if not code.isdigit():
         return
     if int(code) == NO_RECEIVERS:
         raise NoReceivers
-    raise Refused(int(code), word.decode(errors="backslashreplace"))
+    raise refusal(int(code), word.decode(errors="backslashreplace"))
 
 
 # ---- the fields of a line
 
 
 def _name(topic: str) -> bytes:
+    if not isinstance(topic, str):
+        raise TypeError(f"the name of a topic is a str, and {topic!r} is not")
     if not _NAME.fullmatch(topic):
-        raise ValueError(f"a name has 1 to 32 of a to z, 0 to 9, _ and -, and {topic!r} is none")
+        raise ValueError(f"a name has 1 to 32 of a to z, 0 to 9, _ and -, and {topic!r} does not")
     return topic.encode()
 
 
@@ -85,13 +124,23 @@ def _number(number: int) -> bytes:
     return b"%d" % number
 
 
-def _value(value: bytes) -> bytes:
-    value = bytes(memoryview(value))  # a number would be so many zeros
+def _checked(value: bytes) -> bytes:
     if not 1 <= len(value) <= LONGEST_VALUE:
         raise ValueError(f"a value has 1 to {LONGEST_VALUE:,} bytes, and this one has {len(value):,}")
     if b"\n" in value or b"\r" in value:
         raise ValueError("a value has neither LF nor CR")
     return value
+
+
+def _with_value(line: bytes, value: Value, read: Callable[[Reply], Optional[T]]) -> Command[T]:
+    """The command whose line ends with this value."""
+    if isinstance(value, str):
+        return Command(line, read, text=value)
+    try:
+        value = bytes(memoryview(value))  # `bytes` of a number would be that many zeros
+    except TypeError:
+        raise TypeError(f"a value is bytes, and {value!r} is not") from None
+    return Command(line + _checked(value), read)
 
 
 # ---- what replies mean
@@ -110,13 +159,15 @@ def _count(reply: Reply) -> Optional[int]:
 
 
 def _sent(reply: Reply) -> Optional[int]:
-    """Of a broadcast topic the number of receivers; a watch topic tells none, which is 0."""
+    """The number of receivers; 0 for a watch topic, whose reply has no number."""
     return 0 if _done(reply) else _count(reply)
 
 
 def _received(reply: Reply) -> Optional[bytes]:
     if reply.word == b"LAG" and reply.rest.isdigit():
         raise Lagged(int(reply.rest))
+    if (reply.word, reply.rest) == (b"LAG", UNKNOWN):
+        raise MayHaveMissed
     if reply.word == b"EMPTY":
         raise Empty
     if reply.word == b"CLOSED":
@@ -161,124 +212,152 @@ def _trace(reply: Reply) -> Optional[bytes]:
 
 
 def open_broadcast(topic: str, capacity: int, base: int = 0) -> Command[int]:
-    """Opens a broadcast topic, and answers the capacity in force: the next power of two. Its first position is `base`."""
+    """Opens a broadcast topic that keeps this many values, 1 to 65,536.
+
+    The answer is the capacity in force: the next power of two. The first value has the position `base`. Raises `TopicExists`.
+    """
     at = b" AT " + _number(base) if base else b""
     return Command(b"OPEN " + _name(topic) + b" B " + _number(capacity) + at, _count)
 
 
-def open_watch(topic: str, value: bytes) -> Command[int]:
-    """Opens a watch topic with this value, and answers its version, 1."""
-    return Command(b"OPEN " + _name(topic) + b" W " + _value(value), _count)
+def open_watch(topic: str, value: Value) -> Command[int]:
+    """Opens a watch topic with this value. The answer is its version, 1. Raises `TopicExists`."""
+    return _with_value(b"OPEN " + _name(topic) + b" W ", value, _count)
 
 
 def end(topic: str) -> Command[bool]:
-    """Drops the hub's own sender, so that the topic closes with the last sender of the sessions."""
+    """Closes the hub's own sender. The topic is closed once the last sender of a session is closed too."""
     return Command(b"END " + _name(topic), _done)
 
 
 def topics() -> Command[dict[str, str]]:
-    """The topics in order of opening, each with `B` or `W`."""
+    """The topics in the order in which they were opened, each with `B` for broadcast or `W` for watch."""
     return Command(b"LIST", _topics, has_rows=True)
 
 
 def trace(topic: str) -> Command[bytes]:
-    """What happened on the topic since its last trace, as `topichub check` reads it."""
+    """What has happened on the topic since its last trace, as `topichub check` reads it. The next trace starts behind it."""
     return Command(b"TRACE " + _name(topic), _trace, has_rows=True)
 
 
 def quit_session() -> Command[bool]:
-    """Ends the session, and spends all that it holds."""
+    """Ends the session, and closes all its senders and receivers."""
     return Command(b"QUIT", _bye)
 
 
-# ---- handles
+def raw(line: bytes) -> Command[Reply]:
+    """A line of the protocol as it is, without its end. The answer is the reply as it is, and no refusal is raised.
+
+    The lines below the first line of a reply to `LIST` and `TRACE` are in its `rows`.
+    """
+    if b"\n" in line or b"\r" in line or not line:
+        raise ValueError(f"{line!r} is not one line")
+    return _Raw(line, lambda reply: reply, has_rows=line.partition(b" ")[0] in (b"LIST", b"TRACE"))
+
+
+# ---- senders and receivers
 
 
 def bind(topic: str) -> Command[bool]:
-    """A sender of one's own."""
+    """Makes this session a sender on the topic. Raises `AlreadyHeld`, `TopicClosed`."""
     return Command(b"BIND " + _name(topic), _done)
 
 
 def unbind(topic: str) -> Command[bool]:
+    """Closes this session's sender on the topic. Raises `NotHeld`."""
     return Command(b"UNBIND " + _name(topic), _done)
 
 
 def subscribe(topic: str, oldest: bool = False) -> Command[bool]:
-    """A receiver for what is sent from now on; of a broadcast topic, with `oldest`, for what is kept too."""
+    """Makes this session a receiver of what is sent from now on; with `oldest`, on a broadcast topic, also of what is still kept.
+
+    Raises `AlreadyHeld`, `TopicClosed`.
+    """
     return Command(b"SUB " + _name(topic) + (b" OLDEST" if oldest else b""), _done)
 
 
 def unsubscribe(topic: str) -> Command[bool]:
+    """Closes this session's receiver on the topic. Raises `NotHeld`."""
     return Command(b"UNSUB " + _name(topic), _done)
 
 
 def resubscribe(topic: str) -> Command[bool]:
-    """A receiver for what is sent from now on, in place of the one that was held."""
+    """Replaces this session's receiver on a broadcast topic by one of what is sent from now on. Raises `NotHeld`."""
     return Command(b"RESUB " + _name(topic), _done)
 
 
 def receiver_count(topic: str) -> Command[int]:
+    """How many receivers the topic has, in all sessions."""
     return Command(b"READERS " + _name(topic), _count)
 
 
 # ---- values
 
 
-def send(topic: str, value: bytes) -> Command[int]:
-    """Sends, and answers how many receivers will get it; on a watch topic, which does not tell, 0. Raises `NoReceivers`."""
-    return Command(b"PUB " + _name(topic) + b" " + _value(value), _sent)
+def send(topic: str, value: Value) -> Command[int]:
+    """Sends a value. The answer is how many receivers will get it; on a watch topic, where the hub does not say, 0.
+
+    Raises `NoReceivers`, `NotHeld`.
+    """
+    return _with_value(b"PUB " + _name(topic) + b" ", value, _sent)
 
 
 def recv(topic: str) -> Command[bytes]:
-    """The next value. The hub answers when there is one. Raises `Lagged`, `Closed`."""
+    """The next value of a broadcast topic. The hub answers once there is one, and no other command of the session until then.
+
+    Raises `Lagged`, `Closed`, `NotHeld`; after a reconnect `MayHaveMissed`.
+    """
     return Command(b"NEXT " + _name(topic), _received)
 
 
 def try_recv(topic: str) -> Command[bytes]:
-    """The next value, if there is one. Raises `Lagged`, `Empty`, `Closed`."""
+    """The next value, if there is one. Raises `Empty` and what `recv` raises.
+
+    While a `recv` that was given up has no reply yet, it raises `Empty` at once.
+    """
     return Command(b"TRY " + _name(topic), _received)
 
 
 def left(topic: str) -> Command[int]:
-    """How many values are still to come for the receiver, those that it missed among them."""
+    """How many values this session's receiver has not received yet, including those that it has missed."""
     return Command(b"LEFT " + _name(topic), _count)
 
 
 def queued(topic: str) -> Command[int]:
-    """How many values the topic keeps."""
+    """How many values a broadcast topic keeps."""
     return Command(b"QUEUED " + _name(topic), _count)
 
 
 # ---- watch topics
 
 
-def send_replace(topic: str, value: bytes) -> Command[bytes]:
-    """Publishes, also where nobody reads, and answers the value before."""
-    return Command(b"SWAP " + _name(topic) + b" " + _value(value), _was)
+def send_replace(topic: str, value: Value) -> Command[bytes]:
+    """Publishes a value, even if there is no receiver. The answer is the value before it."""
+    return _with_value(b"SWAP " + _name(topic) + b" ", value, _was)
 
 
-def edit_set(topic: str, value: bytes) -> Command[bool]:
-    """Publishes, also where nobody reads."""
-    return Command(b"EDIT " + _name(topic) + b" SET " + _value(value), _yes)
+def edit_set(topic: str, value: Value) -> Command[bool]:
+    """Publishes a value, even if there is no receiver."""
+    return _with_value(b"EDIT " + _name(topic) + b" SET ", value, _yes)
 
 
-def edit_differ(topic: str, value: bytes) -> Command[bool]:
-    """Publishes if the value differs from the newest one, and answers whether it did."""
-    return Command(b"EDIT " + _name(topic) + b" DIFFER " + _value(value), _yes)
+def edit_differ(topic: str, value: Value) -> Command[bool]:
+    """Publishes a value if it differs from the newest one. The answer is whether it did."""
+    return _with_value(b"EDIT " + _name(topic) + b" DIFFER ", value, _yes)
 
 
-def edit_quiet(topic: str, value: bytes) -> Command[bool]:
-    """Puts the value in place of the newest one, and tells nobody."""
-    return Command(b"EDIT " + _name(topic) + b" QUIET " + _value(value), _yes)
+def edit_quiet(topic: str, value: Value) -> Command[bool]:
+    """Replaces the newest value without notifying the receivers. The answer is `False`."""
+    return _with_value(b"EDIT " + _name(topic) + b" QUIET ", value, _yes)
 
 
 def borrow(topic: str) -> Command[Shown[bytes]]:
-    """Looks at the newest value; it stays unseen if it was."""
+    """The newest value, and whether it is unseen. It stays unseen."""
     return Command(b"GET " + _name(topic), _shown)
 
 
 def borrow_and_update(topic: str) -> Command[Shown[bytes]]:
-    """Looks at the newest value, which is seen from then on."""
+    """The newest value, and whether it was unseen. It is seen from then on."""
     return Command(b"TAKE " + _name(topic), _shown)
 
 
@@ -288,18 +367,26 @@ def has_changed(topic: str) -> Command[bool]:
 
 
 def changed(topic: str) -> Command[bool]:
-    """Answers once the newest value is unseen, and it is seen from then on. Raises `Closed`."""
+    """Waits until the newest value is unseen, and marks it as seen. The hub answers no other command of the session until then.
+
+    Raises `Closed`.
+    """
     return Command(b"CHANGED " + _name(topic), _changed)
 
 
 def try_changed(topic: str) -> Command[bool]:
-    """As `changed`, without waiting: whether there was news. Raises `Closed`."""
+    """Marks the newest value as seen, without waiting. The answer is whether it was unseen. Raises `Closed`.
+
+    While a `changed` that was given up has no reply yet, the answer is `False` at once.
+    """
     return Command(b"TRYCHANGED " + _name(topic), _changed)
 
 
 def mark_changed(topic: str) -> Command[bool]:
+    """Makes the newest value unseen by this session's receiver."""
     return Command(b"MARK " + _name(topic), _done)
 
 
 def mark_unchanged(topic: str) -> Command[bool]:
+    """Marks the newest value as seen by this session's receiver."""
     return Command(b"UNMARK " + _name(topic), _done)

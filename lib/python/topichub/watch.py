@@ -1,17 +1,19 @@
-"""A channel that keeps the newest value alone, with the rules of Tokio's `watch`."""
+"""A channel that keeps only the newest value, by the rules of Tokio's `watch`."""
 from __future__ import annotations
 
-from typing import Callable, Generic, Optional, TypeVar
+from typing import Callable, Generic, Iterable, Optional, TypeVar
 
 from ._core import FIRST_SENDER, Core, Held, refuse, wait, wait_async, wake_all
 from ._library import Status
-from .answers import Closed, Empty, NoReceivers, Shown
+from .answers import Closed, Empty, NoReceivers, PartlySent, Shown
+
+__all__ = ["Watch", "WatchReceiver"]
 
 T = TypeVar("T")
 
 
 class _Channel(Core, Generic[T]):
-    """The channel, of numbers, and its newest value: the number is how many values were put in the place of the first one."""
+    """The channel, which holds a number, and the newest value: the number counts the values that have replaced the first one."""
 
     def __init__(self, value: T, limit: Optional[int]) -> None:
         super().__init__("watch", 0, 1, limit)
@@ -22,7 +24,7 @@ class _Channel(Core, Generic[T]):
         return None
 
     def publish(self, name: str, number: int, value: T) -> tuple[int, T]:
-        """Puts a value in the place of the newest one: the status, and the value that is let go."""
+        """Replaces the newest value. Returns the status, and the value that is released."""
         reply = self.call(name, number, self.published + 1)
         if not reply.let_go:
             return reply.status, value
@@ -32,10 +34,12 @@ class _Channel(Core, Generic[T]):
 
 
 class Watch(Held, Generic[T]):
-    """A sender of a watch channel; made by its name, also the channel, with this value.
+    """A sender of a watch channel. `Watch(value)` also makes the channel, with this value.
 
-    The channel is closed when all its senders are closed. With `recorded` it notes each call with its reply, at most so many
-    entries for each `trace`.
+    The channel is closed when all its senders are closed. It has at most 65,535 senders and 65,535 receivers at a time. With
+    `recorded` it records each call and its reply, at most that many entries for each `trace`.
+
+    Threads and tasks may share a sender. Raises `BadLimit`.
 
     >>> light = Watch("red")
     >>> reader = light.subscribe()
@@ -52,20 +56,48 @@ class Watch(Held, Generic[T]):
         super().__init__(_Channel[T](value, recorded), FIRST_SENDER)
 
     def send(self, value: T) -> None:
-        """Publishes a value, where there is a receiver. Raises `NoReceivers`; a later send may succeed."""
+        """Publishes a value, if there is a receiver. Raises `NoReceivers`; a later send may succeed."""
         if self._publish("send", lambda _: value)[0] == Status.NO_RECEIVERS:
             raise NoReceivers
 
+    def send_many(self, values: Iterable[T]) -> None:
+        """Publishes the values in their order. Receivers see only the last of them; a recorded history has them all.
+
+        It is a loop of sends under one lock, after which the receivers are woken once. Raises `NoReceivers`, with none of them sent,
+        and `PartlySent` if a later one cannot be sent.
+        """
+        channel, sent, gone = self._channel, 0, []
+        woken: list[Callable[[], None]] = []
+        waiting = list(values)  # which may run any code, and so not under the lock
+        try:
+            with channel.turn():
+                for value in waiting:
+                    status, before = channel.publish("send", self._id, value)
+                    if status == Status.NO_RECEIVERS:
+                        raise NoReceivers
+                    if status != Status.DONE:
+                        refuse(status)
+                    gone.append(before)
+                    sent += 1
+                    woken += channel.waiting.take()
+        except Exception as fault:
+            if not sent:
+                raise
+            raise PartlySent(sent) from fault
+        finally:
+            wake_all(woken)
+        del gone
+
     def send_replace(self, value: T) -> T:
-        """Publishes a value, whether there are receivers or not, and answers the one before."""
+        """Publishes a value, even if there is no receiver, and returns the one before."""
         return self._publish("replace", lambda _: value)[1]
 
     def send_modify(self, change: Callable[[T], T]) -> None:
-        """Publishes what comes of the newest value, whether there are receivers or not. `change` must not use the channel."""
+        """Publishes `change(newest)`, even if there is no receiver. `change` must not use the channel."""
         self._publish("set", change)
 
     def send_quietly(self, change: Callable[[T], T]) -> None:
-        """Shows what comes of the newest value from now on, and tells nobody. `change` must not use the channel."""
+        """Replaces the newest value by `change(newest)` without notifying the receivers. `change` must not use the channel."""
         self._publish("quiet", change)
 
     def _publish(self, name: str, change: Callable[[T], T]) -> tuple[int, T]:
@@ -79,7 +111,7 @@ class Watch(Held, Generic[T]):
         return status, before
 
     def subscribe(self) -> WatchReceiver[T]:
-        """A receiver, to which the newest value is seen. Raises `TooMany`."""
+        """A receiver, which counts the newest value as seen. Raises `TooMany`."""
         with self._channel.turn():
             number = self._channel.new_receiver("subscribe", self._id)
         return WatchReceiver(self._channel, number)
@@ -93,6 +125,7 @@ class Watch(Held, Generic[T]):
         return sender
 
     def receiver_count(self) -> int:
+        """How many receivers the channel has."""
         with self._channel.turn():
             return self._channel.ask("readers", Status.COUNT, self._id)
 
@@ -102,12 +135,12 @@ class Watch(Held, Generic[T]):
             return self._is_gone()
 
     def wait_closed(self, timeout: Optional[float] = None) -> None:
-        """Waits until no receiver is left, at most so many seconds. Raises `TimeoutError`."""
+        """Waits until no receiver is left, at most this many seconds. Raises `TimeoutError`."""
         wait(self._channel, self._channel.leaving, self._gone, timeout)
 
-    async def wait_closed_async(self) -> None:
-        """As `wait_closed`, for a task."""
-        await wait_async(self._channel, self._channel.leaving, self._gone)
+    async def wait_closed_async(self, timeout: Optional[float] = None) -> None:
+        """As `wait_closed`, for a task. It may be cancelled."""
+        await wait_async(self._channel, self._channel.leaving, self._gone, timeout)
 
     def _is_gone(self) -> bool:
         reply = self._channel.call("is_closed", self._id)
@@ -120,23 +153,26 @@ class Watch(Held, Generic[T]):
             raise Empty
 
     def trace(self) -> str:
-        """The next part of what is recorded, as `check` reads it: from the last trace on, at most as many entries as the limit. A
-        value stands in it as a number: 0 is the one that the channel was made with, and each further one has the next."""
+        """The next part of the recorded history, which starts where the last trace ended, as `check` reads it. It has at most as many
+        entries as the limit. Each value stands in it as a number: 0 is the first value, and each later one has the next number."""
         return self._channel.trace()
 
 
 class WatchReceiver(Held, Generic[T]):
-    """Looks at the newest value, and is told once of each that it has not seen. `Watch.subscribe` makes it."""
+    """Sees the newest value, and learns of each change. `Watch.subscribe` makes it.
+
+    The newest value is unseen by a receiver until the receiver has marked it as seen, which `changed` and `borrow_and_update` do.
+    """
 
     _channel: _Channel[T]
     _drop = "drop_rx"
 
     def borrow(self) -> Shown[T]:
-        """The newest value. It stays unseen if it was."""
+        """The newest value, and whether it is unseen. It stays unseen."""
         return self._look("borrow")
 
     def borrow_and_update(self) -> Shown[T]:
-        """The newest value, which is seen from then on."""
+        """The newest value, and whether it was unseen. It is seen from then on."""
         return self._look("take")
 
     def _look(self, name: str) -> Shown[T]:
@@ -147,7 +183,7 @@ class WatchReceiver(Held, Generic[T]):
             return Shown(self._channel.newest, bool(reply.status == Status.NEW))
 
     def has_changed(self) -> bool:
-        """Whether the newest value is unseen. Raises `Closed` where no sender is left."""
+        """Whether the newest value is unseen. Raises `Closed` if no sender is left."""
         with self._channel.turn():
             reply = self._channel.call("has_changed", self._id)
         if reply.status == Status.CLOSED:
@@ -157,12 +193,15 @@ class WatchReceiver(Held, Generic[T]):
         return bool(reply.status == Status.YES)
 
     def changed(self, timeout: Optional[float] = None) -> None:
-        """Waits for a value that is unseen, at most so many seconds, and marks it seen. Raises `Closed`, `TimeoutError`."""
+        """Waits until the newest value is unseen, at most this many seconds, and marks it as seen.
+
+        Raises `Closed`, `TimeoutError`. After a `TimeoutError` nothing is marked: the next call learns of a value that comes later.
+        """
         wait(self._channel, self._channel.waiting, self._told, timeout)
 
-    async def changed_async(self) -> None:
-        """As `changed`, for a task. Who cancels the wait has marked nothing. Raises `Closed`."""
-        await wait_async(self._channel, self._channel.waiting, self._told)
+    async def changed_async(self, timeout: Optional[float] = None) -> None:
+        """As `changed`, for a task. It may be cancelled: a wait that is cancelled has marked nothing."""
+        await wait_async(self._channel, self._channel.waiting, self._told, timeout)
 
     def _told(self) -> None:
         reply = self._channel.call("changed", self._id)
@@ -179,12 +218,12 @@ class WatchReceiver(Held, Generic[T]):
             self._channel.ask("mark_changed", Status.DONE, self._id)
 
     def mark_unchanged(self) -> None:
-        """Marks the newest value seen by this receiver."""
+        """Marks the newest value as seen by this receiver."""
         with self._channel.turn():
             self._channel.ask("mark_unchanged", Status.DONE, self._id)
 
     def clone(self) -> WatchReceiver[T]:
-        """A receiver, to which the newest value is seen or unseen as to this one. Raises `TooMany`."""
+        """Another receiver, which has seen the newest value if this one has. Raises `TooMany`."""
         with self._channel.turn():
             number = self._channel.new_receiver("clone_rx", self._id)
         return WatchReceiver(self._channel, number)
