@@ -23,7 +23,7 @@ import time
 
 from histories import entries_of
 from program import PATIENCE, program, run
-from sessions import Client
+from sessions import DIED, OTHERS, Client
 
 TOGETHER = 16  # clients of a topic
 WORKERS = 2  # processes with clients
@@ -34,8 +34,6 @@ VALUE_BYTES = 24  # bytes of a value, or some more where its numbers are longer
 SETTINGS = {"MALLOC_ARENA_MAX": "1"}
 CHECKED = 5  # seconds from one check of the files to the next
 VALUE = re.compile(rb"(\d+)\.(\d+);x*")
-# What the server says of a session whose client was killed, in the midst of its lines or while it waited.
-ENDED = re.compile(r"topichub: session \d+: (read fault|write fault|gone)")
 
 
 class Wrong(Exception):
@@ -336,7 +334,7 @@ def served(folder, words, clients, seconds, kills, seed, size, traces=None, tell
     path = os.path.join(folder, "hub")
     stands = "--at-once" in words
     words = [program(), "serve", path, *words, *(["--traces", traces] if traces else [])]
-    # Of thousands of clients that are killed it says more than a pipe takes that nobody reads, and would wait there.
+    # Of clients that are killed it says in hours more than a pipe takes that nobody reads, and would wait there.
     errors = open(os.path.join(folder, "errors"), "w+", encoding="utf-8")
     server = subprocess.Popen(words, env={**os.environ, **SETTINGS}, stdin=subprocess.PIPE, stdout=subprocess.PIPE, stderr=errors, text=True)
     shares = [clients // WORKERS + (number < clients % WORKERS) for number in range(WORKERS)]
@@ -370,7 +368,7 @@ def served(folder, words, clients, seconds, kills, seed, size, traces=None, tell
         printed, _ = server.communicate(timeout=4 * PATIENCE)
         need(server.returncode == 0 and printed.startswith("done "), f"the server ended with {server.returncode}, {printed!r}")
         errors.seek(0)
-        wrong = [line for line in errors.read().splitlines() if not ENDED.fullmatch(line)]
+        wrong = [line for line in errors.read().splitlines() if not (DIED.fullmatch(line) or OTHERS.fullmatch(line))]
         need(not wrong, f"the server said {wrong[:1]}")
         need(not os.path.exists(path), "the socket is left behind")
     finally:

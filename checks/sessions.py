@@ -1,5 +1,6 @@
 """Servers and clients of `topichub serve`, for the scripts that try it. Nothing is waited for longer than `patience` allows."""
 import os
+import re
 import resource
 import select
 import signal
@@ -8,6 +9,10 @@ import subprocess
 import threading
 
 from program import eventually, patience, program
+
+# What people are told of a session whose client has died, and of how many others one that stands has not told.
+DIED = re.compile(r"topichub: session ([0-9]+): (?:read fault|write fault|gone)")
+OTHERS = re.compile(r"topichub: (?:(1) more session was|([0-9]+) more sessions were) stopped")
 
 
 class Server:

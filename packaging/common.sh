@@ -225,8 +225,8 @@ put_as_is() {
     if [ -x "$1" ]; then put 755 "$1" "$2"; else put 644 "$1" "$2"; fi
 }
 
-# stage_documents FOLDER: the documents, as their links want them to stand, and the examples. examples/check and
-# examples/beside are left out, since they run the repository's program.
+# stage_documents FOLDER: the documents, as their links want them to stand, and the examples with the Python that they use.
+# examples/check and examples/beside are left out, since they run the repository's program.
 stage_documents() {
     put 644 "$root/README.md" "$1"
     put 644 "$root"/docs/*.* "$1/docs"
@@ -237,6 +237,11 @@ stage_documents() {
         for file in "$root/examples/$kind"/*; do
             [ ! -f "$file" ] || put_as_is "$file" "$1/examples/$kind"
         done
+    done
+    # The package that examples/clients use, without the bridge, which is a program of its own.
+    put 644 "$root/lib/python/README.md" "$1/lib/python"
+    for file in "$root"/lib/python/topichub/*.py "$root/lib/python/topichub/py.typed"; do
+        [ "${file##*/}" = bridge.py ] || put 644 "$file" "$1/lib/python/topichub"
     done
 }
 

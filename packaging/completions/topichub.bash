@@ -9,7 +9,7 @@ _topichub() {
         :-*) words='-h --help -V --version' ;;
         :*) words='replay check serve help' ;;
         replay:-*) words='-h --help' ;;
-        check:-*) words='--joined --files-from -h --help' ;;
+        check:-*) words='--joined --whole --files-from -h --help' ;;
         check:*)
             compopt -o filenames 2>/dev/null
             mapfile -t COMPREPLY < <(compgen -f -- "$word")
@@ -18,8 +18,8 @@ _topichub() {
         help:*) [ "$COMP_CWORD" -ne 2 ] || words='replay check serve help' ;;
         serve:*)
             case $before:$word in
-                --sessions:* | --at-once:* | --history:* | --memory:* | --socket-fd:* | =:*) ;; # a number
-                *:-*) words='--sessions --at-once --replace --until-eof --verbose --history --memory --traces --socket-fd -h --help' ;;
+                --sessions:* | --at-once:* | --history:* | --memory:* | --socket-fd:* | --memory-bytes:* | =:*) ;; # a number
+                *:-*) words='--sessions --at-once --replace --until-eof --verbose --history --memory --traces --socket-fd --busy --memory-bytes --sync --anchors -h --help' ;;
                 *)
                     compopt -o filenames 2>/dev/null
                     mapfile -t COMPREPLY < <(compgen -d -- "$word")

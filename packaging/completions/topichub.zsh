@@ -29,12 +29,13 @@ _topichub() {
         check)
             _arguments "$help[@]" \
                 '--joined[the files are to be one history]' \
+                '--whole[that history is to be whole]' \
                 '(*)--files-from=[the files that a list names]:list:_files' \
                 '*:trace:_files' && ret=0
             ;;
         serve)
             _arguments "$help[@]" \
-                '(--at-once --replace --until-eof --verbose --history --memory --traces --socket-fd)--sessions=[how many connections are served]:number from 1 to 64: ' \
+                '(--at-once --replace --until-eof --verbose --history --memory --traces --socket-fd --busy --memory-bytes --sync --anchors)--sessions=[how many connections are served]:number from 1 to 64: ' \
                 '(--sessions)--at-once=[any number of connections, so many at a time]:number from 1 to 1024: ' \
                 '(--sessions --socket-fd)--replace[take the place of a socket whose server is gone]' \
                 '(--sessions)--until-eof[end at the end of standard input]' \
@@ -43,6 +44,10 @@ _topichub() {
                 '(--sessions)--memory=[how many entries all histories hold]:number from 1024 to 1000000000: ' \
                 '(--sessions)--traces=[keep what was cut below this directory]:directory:_files -/' \
                 '(--sessions --replace)--socket-fd=[a socket that is bound already]:descriptor from 3 to 1023: ' \
+                '(--sessions)--busy[tell a client beyond N so, and close it]' \
+                '(--sessions)--memory-bytes=[how many bytes it takes]:number from 67108864 to 1099511627776: ' \
+                '(--sessions)--sync[have each trace on the disk before it gets its name]' \
+                '(--sessions)--anchors[tell sums that bind the traces, on standard error]' \
                 '1:path of the new socket:_files -/' && ret=0
             ;;
         help)

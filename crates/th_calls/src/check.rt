@@ -15,6 +15,7 @@ pub fn law(news: &Segment<Broadcast<Value, RingShelf<Value>>>, light: &Segment<W
     laws::legal_texts();
     laws::one_next();
     laws::joined_texts();
+    laws::openings();
     laws::printed_broadcast_traces_are_legal(news);
     laws::printed_watch_traces_are_legal(light);
 }
@@ -33,4 +34,6 @@ pub fn judge(alloc: Global, reader: &mut Counted<File>, text: &mut Vec<u8>) {
 pub fn join(alloc: Global, reader: &mut Counted<File>, text: &mut Vec<u8>) {
     let mut history = Joining::new();
     let _ = history.add(alloc, reader, text);
+    let _ = history.is_opened();
+    let _ = history.is_over();
 }

@@ -41,7 +41,7 @@ pub fn check_with(
     let _ = rt.open("t.1.trace");
     let _ = rt.list(alloc, "traces");
     let _ = check_files(alloc, rt, names, output, errors, true);
-    let _ = check_joined(alloc, rt, names, output, errors, true);
+    let _ = check_joined(alloc, rt, names, false, output, errors, true);
     let _ = check_by_words(alloc, rt, words, input, output, errors, true);
 }
 

@@ -1,5 +1,5 @@
 -- Texts that are added one after the other are one legal history.
-use Rattle.std.proofs.Common.{◌≡◌, ◌∙◌, ◌⊎◌, inl, inr, ℕ, List, [], ◌∷◌, ◌++◌, length, map, refl, sym, ap, subst, Option, Some, None, arith, length-append}
+use Rattle.std.proofs.Common.{◌≡◌, ◌∙◌, ◌⊎◌, inl, inr, ℕ, Bool, List, [], ◌∷◌, ◌++◌, length, map, refl, sym, ap, subst, Option, Some, None, arith, length-append}
 use Rattle.std.proofs.lemmas.Option.{none-some, same_Some}
 use Rattle.th_model.specs.BroadcastMachine as bm
 use Rattle.th_model.specs.BroadcastPicture as bp
@@ -19,7 +19,7 @@ use Rattle.th_traces.specs.declared.picture.Picture.TheVariants as picture
 use Rattle.th_traces.specs.Shown.{Spells}
 use Rattle.th_traces.specs.Spelled.{Bytes}
 use Rattle.th_check.specs.Histories.{HasHistory, IsTrace, end_point}
-use Rattle.th_check.specs.Joined.{AreAdded, AreOne, BeginsAt, BroadcastPiece, IsBroadcastHistory, IsOneHistory, IsPart, IsSoundPicture, IsWatchHistory, Part, TellsBroadcast, TellsWatch, WatchPiece, part_at, part_of}
+use Rattle.th_check.specs.Joined.{AreAdded, AreOne, BeginsAt, BroadcastPiece, IsBroadcastHistory, IsOneHistory, IsPart, IsSoundPicture, IsWatchHistory, Part, Reach, TellsBroadcast, TellsWatch, WatchPiece, is_opening, part_at, part_of, reach_by}
 use Rattle.th_check.specs.Points.{Point, InPicture, InBroadcast, InWatch, ended_with, watch_machine}
 use Rattle.th_check.specs.Stages.{CallDue, ReplyDue, Ended}
 use Rattle.th_check.proofs.Tracing.{led_to, told_to}
@@ -209,25 +209,34 @@ module _ {E S C R : Type 0} (m : Machine E S C R) (proper : E → Type 0) (sound
       subst (λ (q : Piece S C R). IsLegal m sound q) (sym j.5)
       (legal-joined m proper sound whole stays answer j.0 j.1 (legal text j.0 j.2) (all_legal (next ∷ later) j.1 j.3) j.4)
 
-  -- what is left of a history from a picture on
-  abbrev IsChain : S → List (List Line) → ℕ → Option Picture → Type 0
-  IsChain q texts count there = (w : Piece S C R) × AreOne Tells texts w × (w.start ≡ q) × (length w.entries ≡ count)
-      × (there ≡ Some (shows w.last))
+  -- a history that has come to such a picture
+  abbrev at : Bool → S → Option Reach
+  at opened q = Some (record { is_opened = opened; end = shows q })
 
-  chain : (q : S) (text : List Line) (later : List (List Line)) (count : ℕ) (there : Option Picture)
-      → AreAdded (Some (shows q)) (text ∷ later) count there → IsChain q (text ∷ later) count there
-  chain q text [] count there (next, one, rest, adds, done, counted) =
+  -- what is left of a history from a picture on
+  abbrev IsChain : Bool → S → List (List Line) → ℕ → Option Reach → Type 0
+  IsChain opened q texts count there = (w : Piece S C R) × AreOne Tells texts w × (w.start ≡ q) × (length w.entries ≡ count)
+      × (there ≡ at opened w.last)
+
+  -- where a part leads
+  led_by : (opened : Bool) (q : S) (part : Part) (piece : Piece S C R) → part ≡ part_of shows piece
+      → Some (reach_by (at opened q) part.from part.to) ≡ at opened piece.last
+  led_by opened q part piece e = ap (λ (p : Part). Some (reach_by (at opened q) p.from p.to)) e
+
+  chain : (opened : Bool) (q : S) (text : List Line) (later : List (List Line)) (count : ℕ) (there : Option Reach)
+      → AreAdded (at opened q) (text ∷ later) count there → IsChain opened q (text ∷ later) count there
+  chain opened q text [] count there (next, one, rest, adds, done, counted) =
       let k = part_from text adds.part q adds.is adds.begins in (
         k.0,
         k.1,
         k.3,
         omega (arith, ap (λ (p : Part). p.count) k.2, adds.counted, counted, done.0),
-        done.1 ∙ adds.ends ∙ ap (λ (p : Part). Some p.to) k.2,
+        done.1 ∙ adds.ends ∙ led_by opened q adds.part k.0 k.2,
       )
-  chain q text (other ∷ later) count there (next, one, rest, adds, added, counted) =
+  chain opened q text (other ∷ later) count there (next, one, rest, adds, added, counted) =
       let k = part_from text adds.part q adds.is adds.begins in
-      let r = chain k.0.last other later rest there
-      (subst (λ (n : Option Picture). AreAdded n (other ∷ later) rest there) (adds.ends ∙ ap (λ (p : Part). Some p.to) k.2) added) in (
+      let r = chain opened k.0.last other later rest there
+      (subst (λ (n : Option Reach). AreAdded n (other ∷ later) rest there) (adds.ends ∙ led_by opened q adds.part k.0 k.2) added) in (
         joined k.0 r.0,
         (k.0, r.0, k.1, r.1, sym r.2, refl),
         k.3,
@@ -235,18 +244,32 @@ module _ {E S C R : Type 0} (m : Machine E S C R) (proper : E → Type 0) (sound
         r.4,
       )
 
-  one_history : (q : S) (text : List Line) (later : List (List Line)) (count : ℕ) (there : Option Picture)
-      → AreAdded (Some (shows q)) (text ∷ later) count there → IsOneHistory m sound shows Tells (text ∷ later) count there
+  one_history : (q : S) (text : List Line) (later : List (List Line)) (count : ℕ) (there : Option Reach)
+      → AreAdded (at (is_opening (shows q)) q) (text ∷ later) count there → IsOneHistory m sound shows Tells (text ∷ later) count there
   one_history q text later count there added =
-      let k = chain q text later count there added in
-      record { whole = k.0; one = k.1; legal = all_legal (text ∷ later) k.0 k.1; counted = k.3; ends = k.4 }
+      let k = chain (is_opening (shows q)) q text later count there added in
+      record {
+        whole = k.0;
+        one = k.1;
+        legal = all_legal (text ∷ later) k.0 k.1;
+        counted = k.3;
+        ends = k.4 ∙ ap (λ (p : S). at (is_opening (shows p)) k.0.last) (sym k.2);
+      }
 
   -- and back
-  added_back : (here : Option Picture) (texts : List (List Line)) (w : Piece S C R) → AreOne Tells texts w → BeginsAt here (shows w.start)
-      → AreAdded here texts (length w.entries) (Some (shows w.last))
+  comes_to : (here : Option Reach) (a b : Picture) → (reach_by here a b).end ≡ b
+  comes_to None a b = refl
+  comes_to (Some r) a b = refl
+
+  reached_twice : (here : Option Reach) (a b c : Picture) → reach_by (Some (reach_by here a b)) b c ≡ reach_by here a c
+  reached_twice None a b c = refl
+  reached_twice (Some r) a b c = refl
+
+  added_back : (here : Option Reach) (texts : List (List Line)) (w : Piece S C R) → AreOne Tells texts w → BeginsAt here (shows w.start)
+      → AreAdded here texts (length w.entries) (Some (reach_by here (shows w.start) (shows w.last)))
   added_back here [] w j begins = absurd j
   added_back here (text ∷ []) w t begins = (
-    Some (shows w.last),
+    Some (reach_by here (shows w.start) (shows w.last)),
     length w.entries,
     0,
     record { part = part_of shows w; is = told text w t; begins = begins; counted = refl; ends = refl },
@@ -255,36 +278,48 @@ module _ {E S C R : Type 0} (m : Machine E S C R) (proper : E → Type 0) (sound
   )
   added_back here (text ∷ next ∷ later) w j begins =
       subst (λ (p : Piece S C R). BeginsAt here (shows p.start) → AreAdded here (text ∷ next ∷ later) (length p.entries)
-      (Some (shows p.last))) (sym j.5)
-      (λ begun. (
-        Some (shows j.0.last),
+      (Some (reach_by here (shows p.start) (shows p.last)))) (sym j.5)
+      (λ begun.
+      let mid = Some (reach_by here (shows j.0.start) (shows j.0.last)) in
+      let begins_there = ap shows (sym j.4) ∙ sym (comes_to here (shows j.0.start) (shows j.0.last)) in
+      let rest = added_back mid (next ∷ later) j.1 j.3 begins_there in
+      let led = ap (λ (p : S). reach_by mid (shows p) (shows j.1.last)) (sym j.4)
+      ∙ reached_twice here (shows j.0.start) (shows j.0.last) (shows j.1.last) in (
+        mid,
         length j.0.entries,
         length j.1.entries,
         record { part = part_of shows j.0; is = told text j.0 j.2; begins = begun; counted = refl; ends = refl },
-        added_back (Some (shows j.0.last)) (next ∷ later) j.1 j.3 (ap shows (sym j.4)),
+        subst (λ (r : Reach). AreAdded mid (next ∷ later) (length j.1.entries) (Some r)) led rest,
         length-append j.0.entries j.1.entries,
       )) begins
 
-  history_added : (texts : List (List Line)) (count : ℕ) (there : Option Picture) → IsOneHistory m sound shows Tells texts count there →
+  history_added : (texts : List (List Line)) (count : ℕ) (there : Option Reach) → IsOneHistory m sound shows Tells texts count there →
       AreAdded None texts count there
   history_added texts count there h =
       subst (λ (n : ℕ). AreAdded None texts n there) h.counted
-      (subst (λ (o : Option Picture). AreAdded None texts (length h.whole.entries) o) (sym h.ends) (added_back None texts h.whole h.one tt))
+      (subst (λ (o : Option Reach). AreAdded None texts (length h.whole.entries) o) (sym h.ends) (added_back None texts h.whole h.one tt))
 
 -- the first of them tells which kind it is
-begun_at : (from : Picture) (text : List Line) (later : List (List Line)) (count : ℕ) (there : Option Picture)
-    → (a : AreAdded None (text ∷ later) count there) → a.3.part.from ≡ from → AreAdded (Some from) (text ∷ later) count there
+begun_at : (from : Picture) (text : List Line) (later : List (List Line)) (count : ℕ) (there : Option Reach)
+    → (a : AreAdded None (text ∷ later) count there) → a.3.part.from ≡ from
+    → AreAdded (Some (record { is_opened = is_opening from; end = from })) (text ∷ later) count there
 begun_at from text later count there (next, one, rest, adds, added, counted) e = (
   next,
   one,
   rest,
-  record { part = adds.part; is = adds.is; begins = e; counted = adds.counted; ends = adds.ends },
+  record {
+    part = adds.part;
+    is = adds.is;
+    begins = e;
+    counted = adds.counted;
+    ends = adds.ends ∙ ap (λ (p : Picture). Some (record { is_opened = is_opening p; end = adds.part.to })) e;
+  },
   added,
   counted,
 )
 
-module _ (text : List Line) (later : List (List Line)) (count : ℕ) (there : Option Picture) where
-  by_first : (from : Picture) → AreAdded (Some from) (text ∷ later) count there →
+module _ (text : List Line) (later : List (List Line)) (count : ℕ) (there : Option Reach) where
+  by_first : (from : Picture) → AreAdded (Some (record { is_opened = is_opening from; end = from })) (text ∷ later) count there →
       IsBroadcastHistory (text ∷ later) count there ⊎ IsWatchHistory (text ∷ later) count there
   by_first (picture.Broadcast q) added = inl
       (one_history machines.broadcast bm.IsProper bp.IsSound picture.Broadcast TellsBroadcast broadcast-whole broadcast-step broadcast-answer

@@ -13,3 +13,4 @@ mod Walking
 mod Adding
 mod OneNext
 mod NextPart
+mod Openings

@@ -1,5 +1,5 @@
 -- What is said of a text that was read as the next part of a history.
-use Rattle.std.proofs.Common.{◌≡◌, ◌∙◌, ℕ, List, [], ◌++◌, refl, sym, ap, subst, append-nil, Option, Some}
+use Rattle.std.proofs.Common.{◌≡◌, ◌∙◌, ℕ, List, [], ◌++◌, refl, sym, ap, ap₂, subst, append-nil, Option, Some}
 use Rattle.th_lines.specs.Lines.{Line, lines_of}
 use Rattle.th_traces.specs.declared.picture.Picture.{Picture}
 use Rattle.th_check.specs.declared.parts.Joined.TheVariants.{Judged, Apart}
@@ -8,7 +8,7 @@ use Rattle.th_check.specs.declared.point.Spot.{Spot}
 use Rattle.th_check.specs.declared.verdict.Verdict.{Verdict}
 use Rattle.th_check.specs.declared.verdict.Verdict.TheVariants as verdict
 use Rattle.th_check.specs.Checked.{Checked}
-use Rattle.th_check.specs.Joined.{Adds, BeginsAt, IsApart, IsPart, Joins, Part}
+use Rattle.th_check.specs.Joined.{Adds, BeginsAt, IsApart, IsPart, Joins, Part, Reach, reach_by}
 use Rattle.th_check.specs.Judging.{IsEndedWith, IsHeldAfter}
 use Rattle.th_check.specs.Spans.{IsEnded, IsSpan}
 use Rattle.th_check.proofs.Adding.{ended_part}
@@ -18,7 +18,7 @@ at_end : (P : List Line → Type 0) (input more : List ℕ) → more ≡ [] → 
 at_end P input more none p =
     subst (λ (l : List ℕ). P (lines_of l)) (sym (ap (λ (l : List ℕ). input ++ l) none ∙ append-nil input)) p
 
-module _ (r r' : Option (List ℕ)) (here : Option Picture) where
+module _ (r r' : Option (List ℕ)) (here : Option Reach) where
   pub not_legal : (v : Verdict) → ((n : ℕ) → v ≡ verdict.Legal n → ⊥) → Checked r r' v → Joins r r' here (Judged v) here
   not_legal (verdict.Legal count) never checked = absurd (never count refl)
   not_legal (verdict.Illegal number) never checked = record {
@@ -46,7 +46,7 @@ module _ (r r' : Option (List ℕ)) (here : Option Picture) where
           let s = is ended.end p.0 ended.holds p.1 in
           (p.0, record { end = ended.end; led = ended.led; is = p.1; sound = s.sound }, p.2, s.from, s.to)
 
-      pub goes_on : (there : Option Picture) → BeginsAt here span.from → there ≡ Some span.to →
+      pub goes_on : (there : Option Reach) → BeginsAt here span.from → there ≡ Some (reach_by here span.from span.to) →
           Joins r r' here (Judged (verdict.Legal count)) there
       goes_on there begins to =
           let p = part_is in
@@ -59,12 +59,12 @@ module _ (r r' : Option (List ℕ)) (here : Option Picture) where
                   is = p.1;
                   begins = subst (λ (from : Picture). BeginsAt here from) p.3 begins;
                   counted = p.2;
-                  ends = to ∙ ap Some p.4;
+                  ends = to ∙ ap₂ (λ (a b : Picture). Some (reach_by here a b)) p.3 p.4;
                 });
             whole = λ legal. ended.whole;
           }
 
-      pub is_apart : (there : Option Picture) → (BeginsAt here span.from → ⊥) → there ≡ here → Joins r r' here Apart there
+      pub is_apart : (there : Option Reach) → (BeginsAt here span.from → ⊥) → there ≡ here → Joins r r' here Apart there
       is_apart there elsewhere same =
           let p = part_is in
           record {
@@ -87,6 +87,6 @@ pub held_legal : (r r' : Option (List ℕ)) (v : Verdict) (count : ℕ) (held : 
     IsEndedWith r r' count held
 held_legal r r' v count held e h = subst (λ (w : Verdict). IsHeldAfter r r' w held) e h
 
-pub said_legal : (r r' : Option (List ℕ)) (here : Option Picture) (v : Verdict) (count : ℕ) → v ≡ verdict.Legal count
-    → (there : Option Picture) → Joins r r' here (Judged (verdict.Legal count)) there → Joins r r' here (Judged v) there
+pub said_legal : (r r' : Option (List ℕ)) (here : Option Reach) (v : Verdict) (count : ℕ) → v ≡ verdict.Legal count
+    → (there : Option Reach) → Joins r r' here (Judged (verdict.Legal count)) there → Joins r r' here (Judged v) there
 said_legal r r' here v count e there h = subst (λ (w : Verdict). Joins r r' here (Judged w) there) (sym e) h

@@ -1,12 +1,14 @@
 -- Texts that are one history, one after the other (docs/FORMATS.md, "Checks").
-use Rattle.std.specs.Prelude.{◌≡◌, ℕ, ◌+◌, ◌≤◌, List, [], ◌∷◌, ◌++◌, length, map, Option, Some, None}
+use Rattle.std.specs.Prelude.{◌≡◌, ℕ, ◌+◌, ◌≤◌, ◌==◌, ◌&&◌, Bool, false, List, [], ◌∷◌, ◌++◌, length, map, Option, Some, None}
 use Rattle.std.specs.Io.KnownBytes.{Consumes, IsAtEnd}
 use Rattle.std.specs.List.{AllByRecursion}
 use Rattle.th_model.specs.declared.broadcast.BCall.{BCall}
 use Rattle.th_model.specs.declared.broadcast.BReply.{BReply}
 use Rattle.th_model.specs.declared.watch.WCall.{WCall}
 use Rattle.th_model.specs.declared.watch.WReply.{WReply}
+use Rattle.th_model.specs.BroadcastMachine as broadcast
 use Rattle.th_model.specs.BroadcastPicture as broadcast_picture
+use Rattle.th_model.specs.WatchMachine as watch
 use Rattle.th_model.specs.WatchPicture as watch_picture
 use Rattle.th_lines.specs.Lines.{Line, Good, lines_of}
 use Rattle.th_log.specs.History.{Machine, Piece, IsLegal, joined}
@@ -66,28 +68,75 @@ pub record IsPart (lines : List Line) (part : Part) : Type 0 where
   pub is : part_at end ≡ Some part
   pub sound : IsSoundPicture part.from
 
--- A part begins where a history has ended. One without a part yet begins anywhere.
-abbrev pub BeginsAt : Option Picture → Picture → Type 0
-BeginsAt None from = Unit {0}
-BeginsAt (Some here) from = from ≡ here
+-- the picture of a channel that was just opened, as the machine begins; a watch channel has version 1
+abbrev pub IsOpening : Picture → Type 0
+IsOpening (picture.Broadcast p) =
+    p ≡ broadcast_picture.see (broadcast.opened p.window.capacity p.window.tail)
+IsOpening (picture.Watch p) = p ≡ watch_picture.see (watch.opened p.last 1)
 
--- the lines are the next part of a history, by which it has so many entries more and ends there
-pub record Adds (here : Option Picture) (lines : List Line) (count : ℕ) (there : Option Picture)
+-- one sender, which is the only handle that was ever made
+abbrev pub is_first : (senders receivers next : ℕ) → Bool
+is_first senders receivers next = senders == 1 && receivers == 0 && next == 2
+
+-- the same of every picture that some channel looks like
+abbrev pub is_opening : Picture → Bool
+is_opening (picture.Broadcast p) = is_first (length p.senders) (length p.window.places) p.next
+is_opening (picture.Watch p) =
+    is_first (length p.senders) (length p.readers) p.next && p.version == 1
+
+-- no handle of the channel is live
+abbrev pub is_spent : Picture → Bool
+is_spent (picture.Broadcast p) = length p.senders == 0 && length p.window.places == 0
+is_spent (picture.Watch p) = length p.senders == 0 && length p.readers == 0
+
+-- How far a history has come that has a part: whether its channel was just opened where it begins, and the picture at which
+-- it has ended.
+pub record Reach : Type 0 where
+  pub is_opened : Bool
+  pub end : Picture
+
+-- with a part more that goes from this picture to that one
+abbrev pub reach_by : Option Reach → (from to : Picture) → Reach
+reach_by None from to = record { is_opened = is_opening from; end = to }
+reach_by (Some here) from to = record { is_opened = here.is_opened; end = to }
+
+-- the same of what the code has of it, which has no picture before the first part
+abbrev pub reach_of : Bool → Option Picture → Option Reach
+reach_of opened None = None
+reach_of opened (Some end) = Some (record { is_opened = opened; end = end })
+
+-- a history begins with a channel that was just opened; one without a part has not begun
+abbrev pub is_opened : Option Reach → Bool
+is_opened None = false
+is_opened (Some here) = here.is_opened
+
+-- a history has ended with no live handle; one without a part has not
+abbrev pub is_over : Option Reach → Bool
+is_over None = false
+is_over (Some here) = is_spent here.end
+
+-- A part begins where a history has ended. One without a part yet begins anywhere.
+abbrev pub BeginsAt : Option Reach → Picture → Type 0
+BeginsAt None from = Unit {0}
+BeginsAt (Some here) from = from ≡ here.end
+
+-- the lines are the next part of a history, by which it has so many entries more and has come there
+pub record Adds (here : Option Reach) (lines : List Line) (count : ℕ) (there : Option Reach)
     : Type 0 where
   pub part : Part
   pub is : IsPart lines part
   pub begins : BeginsAt here part.from
   pub counted : part.count ≡ count
-  pub ends : there ≡ Some part.to
+  pub ends : there ≡ Some (reach_by here part.from part.to)
 
 -- the lines are a legal text which begins elsewhere
-pub record IsApart (here : Option Picture) (lines : List Line) : Type 0 where
+pub record IsApart (here : Option Reach) (lines : List Line) : Type 0 where
   pub part : Part
   pub is : IsPart lines part
   pub elsewhere : BeginsAt here part.from → ⊥
 
--- what is said of the lines that come next in a history, and where it ends then
-abbrev pub SaysNext : Option Picture → List Line → Joined → Option Picture → Type 0
+-- what is said of the lines that come next in a history, and how far it has come then
+abbrev pub SaysNext : Option Reach → List Line → Joined → Option Reach → Type 0
 SaysNext here lines (Judged (verdict.Legal count)) there = Adds here lines count there
 SaysNext here lines (Judged said) there = IsSo lines said × (there ≡ here)
 SaysNext here lines Apart there = IsApart here lines × (there ≡ here)
@@ -100,8 +149,8 @@ IsLegalSaid Apart = Unit {0}
 
 -- It is said of the whole text: it is so of what was read, whatever comes after it. At the end of the
 -- input nothing does; and no text is legal before.
-pub record Joins (reader reader' : Option (List ℕ)) (here : Option Picture) (said : Joined)
-    (there : Option Picture) : Type 0 where
+pub record Joins (reader reader' : Option (List ℕ)) (here : Option Reach) (said : Joined)
+    (there : Option Reach) : Type 0 where
   pub input : List ℕ
   pub read : Consumes reader reader' input
   pub so : (more : List ℕ) → (IsAtEnd reader' → more ≡ []) →
@@ -109,11 +158,11 @@ pub record Joins (reader reader' : Option (List ℕ)) (here : Option Picture) (s
   pub whole : IsLegalSaid said → IsAtEnd reader'
 
 -- Each of these texts is the next part of a history. By all of them it has so many entries more, and
--- ends there.
-abbrev pub AreAdded : Option Picture → List (List Line) → ℕ → Option Picture → Type 0
+-- has come there.
+abbrev pub AreAdded : Option Reach → List (List Line) → ℕ → Option Reach → Type 0
 AreAdded here [] count there = (count ≡ 0) × (there ≡ here)
 AreAdded here (text ∷ later) count there =
-    (next : Option Picture) × (one rest : ℕ) × Adds here text one next
+    (next : Option Reach) × (one rest : ℕ) × Adds here text one next
     × AreAdded next later rest there × (count ≡ one + rest)
 
 -- The lines of a text tell this part of a channel's history: its first picture, and its entries, which
@@ -157,19 +206,19 @@ AreOne {S} {C} {R} Tells (text ∷ next ∷ later) whole =
     (one rest : Piece S C R) × Tells text one × AreOne Tells (next ∷ later) rest
     × (one.last ≡ rest.start) × (whole ≡ joined one rest)
 
--- The texts tell one history with so many entries, which is legal from the first picture and ends there.
+-- The texts tell one history with so many entries, which is legal from the first picture and has come there.
 pub record IsOneHistory {E S C R : Type 0} (m : Machine E S C R) (is_sound : S → Type 0)
     (shows : S → Picture) (Tells : List Line → Piece S C R → Type 0) (texts : List (List Line))
-    (count : ℕ) (there : Option Picture) : Type 0 where
+    (count : ℕ) (there : Option Reach) : Type 0 where
   pub whole : Piece S C R
   pub one : AreOne Tells texts whole
   pub legal : IsLegal m is_sound whole
   pub counted : length whole.entries ≡ count
-  pub ends : there ≡ Some (shows whole.last)
+  pub ends : there ≡ Some (reach_by None (shows whole.start) (shows whole.last))
 
-abbrev pub IsBroadcastHistory : List (List Line) → ℕ → Option Picture → Type 0
+abbrev pub IsBroadcastHistory : List (List Line) → ℕ → Option Reach → Type 0
 IsBroadcastHistory =
     IsOneHistory machines.broadcast broadcast_picture.IsSound picture.Broadcast TellsBroadcast
 
-abbrev pub IsWatchHistory : List (List Line) → ℕ → Option Picture → Type 0
+abbrev pub IsWatchHistory : List (List Line) → ℕ → Option Reach → Type 0
 IsWatchHistory = IsOneHistory watch_machine watch_picture.IsSound picture.Watch TellsWatch

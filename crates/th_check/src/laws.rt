@@ -1,11 +1,11 @@
 //! Laws of the definitions. The contract of each function is the law: what the body does is of no use but to its proof.
-ghost use Rattle.std.specs.Prelude.{◌≡◌, ◌↔◌, ◌≤◌, ◌⊎◌, ℕ, List, ◌∷◌, length, Option, None};
+ghost use Rattle.std.specs.Prelude.{◌≡◌, ◌↔◌, ◌≤◌, ◌⊎◌, ℕ, IsTrue, List, ◌∷◌, length, Option, None};
 ghost use Rattle.th_lines.specs.Lines.{Line, lines_of};
 ghost use Rattle.th_traces.specs.Traces.{broadcast_trace, watch_trace};
 ghost use Rattle.th_traces.specs.declared.picture.Picture.{Picture};
 ghost use Rattle.th_check.specs.declared.parts.Joined.{Joined};
 ghost use Rattle.th_check.specs.Histories.{IsTrace};
-ghost use Rattle.th_check.specs.Joined.{AreAdded, IsBroadcastHistory, IsWatchHistory, SaysNext};
+ghost use Rattle.th_check.specs.Joined.{AreAdded, IsBroadcastHistory, IsOpening, IsSoundPicture, IsWatchHistory, Reach, SaysNext, is_opening};
 ghost use Rattle.th_check.specs.Stages.{most_entries};
 ghost use Rattle.th_check.specs.Verdicts.{IsLegalText, IsSo};
 
@@ -33,10 +33,10 @@ pub fn legal_texts()
     ensures { (lines : List Line) (count : ℕ) → IsLegalText lines count ↔ IsTrace lines count }
 {}
 
-/// Of a text that comes next in a history one thing is said, and the history ends in one place then.
+/// Of a text that comes next in a history one thing is said, and the history has come to one place then.
 pub fn one_next()
-    ensures { (here : Option Picture) (lines : List Line)
-        → (said other : Joined) (there elsewhere : Option Picture)
+    ensures { (here : Option Reach) (lines : List Line)
+        → (said other : Joined) (there elsewhere : Option Reach)
         → SaysNext here lines said there → SaysNext here lines other elsewhere
         → (said ≡ other) × (there ≡ elsewhere) }
 {}
@@ -45,10 +45,17 @@ pub fn one_next()
 /// legal history: each is a legal text, and begins with the picture to which the entries before it lead.
 pub fn joined_texts()
     ensures { (text : List Line) (later : List (List Line))
-        → (count : ℕ) (there : Option Picture)
+        → (count : ℕ) (there : Option Reach)
         → AreAdded None (text ∷ later) count there
         ↔ (IsBroadcastHistory (text ∷ later) count there
         ⊎ IsWatchHistory (text ∷ later) count there) }
+{}
+
+/// Of the pictures that some channel looks like, those of a channel that was just opened are known by their handles, and of
+/// a watch channel by its version.
+pub fn openings()
+    ensures { (shown : Picture) → IsSoundPicture shown
+        → IsTrue (is_opening shown) ↔ IsOpening shown }
 {}
 
 /// What a segment of a broadcast channel's history is printed as is a legal text, with as many entries:

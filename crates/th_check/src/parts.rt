@@ -2,7 +2,7 @@
 ghost use Rattle.std.specs.Prelude.{◌≡◌, ◌↔◌, ◌+◌, ◌≤◌, ◌^◌, IfErr, IfOk, IsTrue, None, OnErr, Some, false, true};
 ghost use Rattle.th_check.specs.Checked.{Stopped, failures_of};
 ghost use Rattle.th_check.specs.Explaining.{ExplainsNext};
-ghost use Rattle.th_check.specs.Joined.{BeginsAt, Joins};
+ghost use Rattle.th_check.specs.Joined.{BeginsAt, Joins, is_first, is_opened, is_opening, is_over, is_spent, reach_by};
 ghost use Rattle.th_check.specs.Spans.{IsEnded, IsSpan};
 
 use crate::checker::judge;
@@ -38,17 +38,58 @@ struct Span {
 /// grow with the texts or their entries.
 #[derive(Drop)]
 pub struct Joining {
+    // Whether its channel was just opened where it begins. It says nothing before the first text.
+    is_opened: bool,
     // Where the history has ended; none before its first text.
     end: Option<Picture>,
 }
 
 impl Model for Joining {
     ghost use Rattle.std.specs.Prelude.{Option};
-    ghost use Rattle.th_traces.specs.declared.picture.Picture.{Picture};
+    ghost use Rattle.th_check.specs.Joined.{Reach, reach_of};
 
-    ghost Value = { Option Picture };
+    ghost Value = { Option Reach };
 
-    ghost view = { λ j. j.end };
+    ghost view = { λ j. reach_of j.is_opened j.end };
+}
+
+// Whether so many live handles, the next of which gets this number, are one sender that is the only one ever made.
+fn is_first(senders: usize, receivers: usize, next: u64) -> bool
+    ensures { result ≡ is_first senders receivers next }
+{
+    senders == 1 && receivers == 0 && next == 2
+}
+
+// Whether the channel was just opened.
+fn is_opening(picture: &Picture) -> bool
+    ensures { result ≡ is_opening picture.now }
+{
+    match picture {
+        Picture::Broadcast(parts) => is_first(
+            parts.senders().len(),
+            parts.window().places().len(),
+            parts.next_number(),
+        ),
+        Picture::Watch(parts) => {
+            is_first(
+                parts.senders().len(),
+                parts.readers().len(),
+                parts.next_number(),
+            ) && parts.version() == 1
+        }
+    }
+}
+
+// Whether no handle of the channel is live.
+fn is_spent(picture: &Picture) -> bool
+    ensures { result ≡ is_spent picture.now }
+{
+    match picture {
+        Picture::Broadcast(parts) => {
+            parts.senders().is_empty() && parts.window().places().is_empty()
+        }
+        Picture::Watch(parts) => parts.senders().is_empty() && parts.readers().is_empty(),
+    }
 }
 
 // Whether it is the same picture.
@@ -94,19 +135,43 @@ impl Joining {
     pub fn new() -> Joining
         ensures { result ≡ None }
     {
-        Joining { end: None }
+        Joining {
+            is_opened: false,
+            end: None,
+        }
+    }
+
+    /// Whether the history begins with the picture of a channel that was just opened. One without a text has not begun.
+    pub fn is_opened(&self) -> bool
+        ensures { result ≡ is_opened self.now }
+    {
+        self.end.is_some() && self.is_opened
+    }
+
+    /// Whether the history has ended with no live handle. One without a text has not.
+    pub fn is_over(&self) -> bool
+        ensures { result ≡ is_over self.now }
+    {
+        match &self.end {
+            Some(end) => is_spent(end),
+            None => false,
+        }
     }
 
     // Whether a part with these pictures begins where the history has ended. Then the history ends where the part does.
     fn takes(&mut self, span: Span) -> bool
-        ensures on { result ≡ true → BeginsAt self.old span.from × (self.new ≡ Some span.to) }
+        ensures on { result ≡ true → BeginsAt self.old span.from
+            × (self.new ≡ Some (reach_by self.old span.from span.to)) }
         ensures apart { result ≡ false →
             (BeginsAt self.old span.from → ⊥) × (self.new ≡ self.old) }
     {
-        if let Some(end) = &self.end {
-            if !is_same(&span.from, end) {
-                return false;
+        match &self.end {
+            Some(end) => {
+                if !is_same(&span.from, end) {
+                    return false;
+                }
             }
+            None => self.is_opened = is_opening(&span.from),
         }
         self.end = Some(span.to);
         true

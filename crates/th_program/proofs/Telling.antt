@@ -6,8 +6,7 @@ use Rattle.std.proofs.KnownBytes.{Appends-trans}
 use Rattle.std.proofs.lemmas.List.{drop_more, map-append, map_more, take-append-drop}
 use Rattle.std.proofs.lemmas.Option.{none-some, same_Some}
 use Rattle.th_lines.specs.Lines.{Line, lines_of}
-use Rattle.th_traces.specs.declared.picture.Picture.{Picture}
-use Rattle.th_check.specs.Joined.{Adds, AreAdded}
+use Rattle.th_check.specs.Joined.{Adds, AreAdded, Reach}
 use Rattle.th_check.specs.declared.fault.CheckFault.{CheckFault}
 use Rattle.th_check.specs.declared.fault.CheckFault.TheVariants as fault
 use Rattle.th_check.specs.declared.parts.Joined.{Joined}
@@ -16,9 +15,11 @@ use Rattle.th_check.specs.declared.verdict.Verdict.TheVariants as verdict
 use Rattle.th_program.specs.declared.end.End.{End}
 use Rattle.th_program.specs.declared.part_names.Misplaced.{Misplaced}
 use Rattle.th_program.specs.declared.part_names.Place.{Place}
-use Rattle.th_program.specs.Files.{AreOneHistory, EachIsTold, EndsEach, EndsFolder, EndsJoined, IsBrokenBy, Breaks, IsFile, IsMisplaced, IsNext, IsOutcome, IsTextOf, IsToldBy, Outcome, PartFile, TellsBroken, Told, broken_line, end_by, end_of, entries_in, entries_of, fault_line, file_line, lines_by, place_of, worse, worst}
+use Rattle.th_program.specs.Files.{AreOneHistory, EachIsTold, EndsEach, EndsFolder, EndsJoined, IsBrokenBy, Breaks, IsFile, IsMisplaced, IsNext, IsOutcome, IsTextOf, IsToldBy, Outcome, PartFile, TellsBroken, TellsHistory, Told, broken_line, end_by, end_of, end_with, entries_in, entries_of, fault_line, file_line, history_line, lines_by, place_of, worse, worst}
 use Rattle.th_program.specs.PartNames.{GoesOn}
 use Rattle.th_program.specs.Run.{Errors, IsSaid}
+use Rattle.th_program.specs.Whole.{lack_if}
+use Rattle.th_program.specs.declared.whole.Lack.{Lack}
 use Rattle.th_program.proofs.Hearing.{said_more}
 use Rattle.th_program.proofs.Placing.{place_apart, place_more}
 
@@ -64,10 +65,10 @@ module _ (holds : List ℕ → Option (List ℕ)) (names : List (List ℕ)) (nam
       }
 
 -- a further text of a history
-added_more : (here mid there : Option Picture) (texts : List (List Line)) (text : List Line) (n m : ℕ) → AreAdded here texts n mid →
+added_more : (here mid there : Option Reach) (texts : List (List Line)) (text : List Line) (n m : ℕ) → AreAdded here texts n mid →
     Adds mid text m there → AreAdded here (texts ++ text ∷ []) (n + m) there
 added_more here mid there [] text n m a adds =
-    (there, m, 0, subst (λ (o : Option Picture). Adds o text m there) a.1 adds, (refl, refl), omega (arith, a.0))
+    (there, m, 0, subst (λ (o : Option Reach). Adds o text m there) a.1 adds, (refl, refl), omega (arith, a.0))
 added_more here mid there (t ∷ ts) text n m (next, one, rest, first, later, counted) adds =
     (next, one, rest + m, first, added_more next mid there ts text rest m later adds, omega (arith, counted))
 
@@ -76,13 +77,13 @@ entries_more [] f = omega arith
 entries_more (g ∷ later) f = omega (arith, entries_more later f)
 
 -- the history up to a file
-pub record UpTo (holds : List ℕ → Option (List ℕ)) (names : List (List ℕ)) (count : ℕ) (there : Option Picture)
+pub record UpTo (holds : List ℕ → Option (List ℕ)) (names : List (List ℕ)) (count : ℕ) (there : Option Reach)
     (place : Option Place) : Type 0 where
   pub history : AreOneHistory holds names count there (place_of place)
   pub counted : entries_in history.files ≡ count
 
 module _ (holds : List ℕ → Option (List ℕ)) (names : List (List ℕ)) (name : List ℕ) where
-  pub history_more : (n m : ℕ) (mid there : Option Picture) (place next : Option Place) → UpTo holds names n mid place
+  pub history_more : (n m : ℕ) (mid there : Option Reach) (place next : Option Place) → UpTo holds names n mid place
       → IsNext (holds name) mid (Judged (verdict.Legal m)) there → GoesOn place n (n + m) name (Ok next)
       → UpTo holds (names ++ name ∷ []) (n + m) there next
   history_more n m mid there place next up (left, j) goes =
@@ -134,9 +135,24 @@ goes_on (Err why) n e = absurd (none-some n e)
 pub never_on : (said : Result Joined CheckFault) → entries_of said ≡ None → (n : ℕ) → said ≡ Ok (Judged (verdict.Legal n)) → ⊥
 never_on said none n e = absurd (none-some n (sym none ∙ ap entries_of e))
 
+-- what holds of a run that failed to write, and of each other one
+unless_write : (P : End → Type 0) (ends : End) → P End.Write → ((ends ≡ End.Write → ⊥) → P ends) → P ends
+unless_write P End.Done p q = q (λ e. absurd (subst IsWrite (sym e) tt))
+unless_write P End.Help p q = q (λ e. absurd (subst IsWrite (sym e) tt))
+unless_write P End.Read p q = q (λ e. absurd (subst IsWrite (sym e) tt))
+unless_write P End.Write p q = p
+unless_write P End.TooLong p q = q (λ e. absurd (subst IsWrite (sym e) tt))
+unless_write P End.Short p q = q (λ e. absurd (subst IsWrite (sym e) tt))
+unless_write P End.Socket p q = q (λ e. absurd (subst IsWrite (sym e) tt))
+unless_write P End.Usage p q = q (λ e. absurd (subst IsWrite (sym e) tt))
+unless_write P End.Illegal p q = q (λ e. absurd (subst IsWrite (sym e) tt))
+unless_write P End.Bad p q = q (λ e. absurd (subst IsWrite (sym e) tt))
+unless_write P End.Apart p q = q (λ e. absurd (subst IsWrite (sym e) tt))
+unless_write P End.Partial p q = q (λ e. absurd (subst IsWrite (sym e) tt))
+
 -- how a history ends that a file breaks
-module _ (holds : List ℕ → Option (List ℕ)) (names earlier later : List (List ℕ)) (name : List ℕ)
-    (parts : names ≡ earlier ++ name ∷ later) (count : ℕ) (mid there : Option Picture) (place : Option Place)
+module _ (holds : List ℕ → Option (List ℕ)) (is_whole : Bool) (names earlier later : List (List ℕ)) (name : List ℕ)
+    (parts : names ≡ earlier ++ name ∷ later) (count : ℕ) (mid there : Option Reach) (place : Option Place)
     (up : UpTo holds earlier count mid place) (before after : Option (List ℕ)) where
   breaks : (said : Joined) → Breaks (holds name) up.history.files name mid said → Appends before after (broken_line name said)
       → IsBrokenBy holds names said before after
@@ -154,11 +170,11 @@ module _ (holds : List ℕ → Option (List ℕ)) (names earlier later : List (L
   }
 
   as_it_was : (said : Joined) → there ≡ mid → IsNext (holds name) mid said there → IsNext (holds name) mid said mid
-  as_it_was said same next = subst (λ (o : Option Picture). IsNext (holds name) mid said o) same next
+  as_it_was said same next = subst (λ (o : Option Reach). IsNext (holds name) mid said o) same next
 
   by_said : (said : Result Joined CheckFault) → IfOk said (λ s. IsNext (holds name) mid s there)
       → ((n : ℕ) → said ≡ Ok (Judged (verdict.Legal n)) → ⊥) → IsToldBy name said before after
-      → EndsJoined holds names before after (end_by said)
+      → EndsJoined holds is_whole names before after (end_by said)
   by_said (Ok (Judged (verdict.Legal n))) next never told = absurd (never n refl)
   by_said (Ok (Judged (verdict.Illegal n))) next never told =
       (n, breaks (Judged (verdict.Illegal n)) (as_it_was (Judged (verdict.Illegal n)) (next.1.so [] (λ e. refl)).1 next) told)
@@ -169,33 +185,17 @@ module _ (holds : List ℕ → Option (List ℕ)) (names earlier later : List (L
   by_said (Err fault.TooLong) next never told = told
   by_said (Err fault.Short) next never told = told
 
-  by_end : (ends : End) → (ends ≡ End.Write → EndsJoined holds names before after ends)
-      → ((ends ≡ End.Write → ⊥) → EndsJoined holds names before after ends) → EndsJoined holds names before after ends
-  by_end End.Done p q = q (λ e. absurd (subst IsWrite (sym e) tt))
-  by_end End.Help p q = q (λ e. absurd (subst IsWrite (sym e) tt))
-  by_end End.Read p q = q (λ e. absurd (subst IsWrite (sym e) tt))
-  by_end End.Write p q = tt
-  by_end End.TooLong p q = q (λ e. absurd (subst IsWrite (sym e) tt))
-  by_end End.Short p q = q (λ e. absurd (subst IsWrite (sym e) tt))
-  by_end End.Socket p q = q (λ e. absurd (subst IsWrite (sym e) tt))
-  by_end End.Usage p q = q (λ e. absurd (subst IsWrite (sym e) tt))
-  by_end End.Illegal p q = q (λ e. absurd (subst IsWrite (sym e) tt))
-  by_end End.Bad p q = q (λ e. absurd (subst IsWrite (sym e) tt))
-  by_end End.Apart p q = q (λ e. absurd (subst IsWrite (sym e) tt))
-
   pub ends_broken : (said : Result Joined CheckFault) → IfOk said (λ s. IsNext (holds name) mid s there)
       → ((n : ℕ) → said ≡ Ok (Judged (verdict.Legal n)) → ⊥) → (ends : End) → TellsBroken name said before after ends
-      → EndsJoined holds names before after ends
-  ends_broken said next never ends tells = by_end ends
-      (λ write. subst (λ (e : End). EndsJoined holds names before after e) (sym write) tt)
+      → EndsJoined holds is_whole names before after ends
+  ends_broken said next never ends tells = unless_write (λ (e : End). EndsJoined holds is_whole names before after e) ends tt
       (λ no. let t = tells no in
-      subst (λ (e : End). EndsJoined holds names before after e) (sym t.0) (by_said said next never t.1))
+      subst (λ (e : End). EndsJoined holds is_whole names before after e) (sym t.0) (by_said said next never t.1))
 
   pub ends_misplaced : (m : ℕ) (e : Misplaced) → IsNext (holds name) mid (Judged (verdict.Legal m)) there
       → GoesOn place count (count + m) name (Err e)
-      → (ends : End) → TellsBroken name (Ok Apart) before after ends → EndsJoined holds names before after ends
-  ends_misplaced m e next goes ends tells = by_end ends
-      (λ write. subst (λ (e : End). EndsJoined holds names before after e) (sym write) tt)
+      → (ends : End) → TellsBroken name (Ok Apart) before after ends → EndsJoined holds is_whole names before after ends
+  ends_misplaced m e next goes ends tells = unless_write (λ (e : End). EndsJoined holds is_whole names before after e) ends tt
       (λ no. let t = tells no in
       let file : PartFile = record { name = name; lines = []; entries = m } in
       let misplaced : IsMisplaced (holds name) up.history.files name mid = record {
@@ -204,7 +204,22 @@ module _ (holds : List ℕ → Option (List ℕ)) (names earlier later : List (L
         next = next;
         apart = place_apart up.history.files file count up.counted place e up.history.placed goes;
       } in
-      subst (λ (e : End). EndsJoined holds names before after e) (sym t.0) (breaks Apart (inr misplaced) t.1))
+      subst (λ (e : End). EndsJoined holds is_whole names before after e) (sym t.0) (breaks Apart (inr misplaced) t.1))
+
+-- how a history ends that no file breaks
+module _ (holds : List ℕ → Option (List ℕ)) (is_whole : Bool) (names : List (List ℕ)) (count : ℕ) (there : Option Reach)
+    (place : Option (List ℕ × ℕ)) (are : AreOneHistory holds names count there place) (before after : Option (List ℕ)) where
+  by_lack : (lack : Option Lack) → lack ≡ lack_if is_whole there place → Appends before after (history_line names count place lack)
+      → EndsJoined holds is_whole names before after (end_with lack)
+  by_lack None e told = record { count = count; there = there; place = place; are = are; lacks = e; told = told }
+  by_lack (Some lack) e told =
+      (lack, record { count = count; there = there; place = place; are = are; lacks = e; told = told })
+
+  pub ends_told : (lack : Option Lack) → lack ≡ lack_if is_whole there place → (ends : End)
+      → TellsHistory names count place lack before after ends → EndsJoined holds is_whole names before after ends
+  ends_told lack e ends tells = unless_write (λ (e : End). EndsJoined holds is_whole names before after e) ends tt
+      (λ no. let t = tells no in
+      subst (λ (e : End). EndsJoined holds is_whole names before after e) (sym t.0) (by_lack lack e t.1))
 
 -- before the first file
 pub nothing_told : (holds : List ℕ → Option (List ℕ)) (before : Option (List ℕ)) (people : Bool) (a : Errors) →
@@ -229,24 +244,24 @@ no_history holds = record {
 }
 
 -- histories that are checked one after the other
-each_history : (holds : List ℕ → Option (List ℕ)) (all : List (List (List ℕ))) (names : List (List ℕ)) (begun so_far said : End)
-    (before mid after : Option (List ℕ)) → EndsEach holds all begun before mid so_far → EndsJoined holds names mid after said
-    → EndsEach holds (all ++ names ∷ []) begun before after (worse so_far said)
-each_history holds [] names begun so_far said before mid after each one = (
+each_history : (holds : List ℕ → Option (List ℕ)) (is_whole : Bool) (all : List (List (List ℕ))) (names : List (List ℕ)) (begun so_far said : End)
+    (before mid after : Option (List ℕ)) → EndsEach holds is_whole all begun before mid so_far → EndsJoined holds is_whole names mid after said
+    → EndsEach holds is_whole (all ++ names ∷ []) begun before after (worse so_far said)
+each_history holds is_whole [] names begun so_far said before mid after each one = (
   after,
   said,
-  subst (λ (o : Option (List ℕ)). EndsJoined holds names o after said) each.0 one,
+  subst (λ (o : Option (List ℕ)). EndsJoined holds is_whole names o after said) each.0 one,
   (refl, ap (λ (e : End). worse e said) each.1),
 )
-each_history holds (first ∷ later) names begun so_far said before mid after (now, told, joined, rest) one =
-    (now, told, joined, each_history holds later names (worse begun told) so_far said now mid after rest one)
+each_history holds is_whole (first ∷ later) names begun so_far said before mid after (now, told, joined, rest) one =
+    (now, told, joined, each_history holds is_whole later names (worse begun told) so_far said now mid after rest one)
 
-pub folder_begins : (holds : List ℕ → Option (List ℕ)) (before : Option (List ℕ)) → EndsFolder holds before before End.Done
-folder_begins holds before = record { topics = []; each = (refl, refl) }
+pub folder_begins : (holds : List ℕ → Option (List ℕ)) (is_whole : Bool) (before : Option (List ℕ)) → EndsFolder holds is_whole before before End.Done
+folder_begins holds is_whole before = record { topics = []; each = (refl, refl) }
 
-pub folder_more : (holds : List ℕ → Option (List ℕ)) (names : List (List ℕ)) (so_far said : End) (before mid after : Option (List ℕ))
-    → EndsFolder holds before mid so_far → EndsJoined holds names mid after said → EndsFolder holds before after (worse so_far said)
-folder_more holds names so_far said before mid after folder one = record {
+pub folder_more : (holds : List ℕ → Option (List ℕ)) (is_whole : Bool) (names : List (List ℕ)) (so_far said : End) (before mid after : Option (List ℕ))
+    → EndsFolder holds is_whole before mid so_far → EndsJoined holds is_whole names mid after said → EndsFolder holds is_whole before after (worse so_far said)
+folder_more holds is_whole names so_far said before mid after folder one = record {
   topics = folder.topics ++ names ∷ [];
-  each = each_history holds folder.topics names End.Done so_far said before mid after folder.each one;
+  each = each_history holds is_whole folder.topics names End.Done so_far said before mid after folder.each one;
 }

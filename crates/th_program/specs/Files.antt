@@ -6,9 +6,8 @@ use Rattle.std.specs.List.{AllByRecursion}
 use Rattle.std.specs.Option.{option_map}
 use Rattle.clap.specs.Words.{fault_of}
 use Rattle.th_lines.specs.Lines.{Line, lines_of}
-use Rattle.th_traces.specs.declared.picture.Picture.{Picture}
 use Rattle.th_check.specs.Checked.{Checked}
-use Rattle.th_check.specs.Joined.{AreAdded, IsPart, Joins, Part}
+use Rattle.th_check.specs.Joined.{AreAdded, IsPart, Joins, Part, Reach}
 use Rattle.th_check.specs.declared.fault.CheckFault.{CheckFault}
 use Rattle.th_check.specs.declared.fault.CheckFault.TheVariants as fault
 use Rattle.th_check.specs.declared.parts.Joined.{Joined}
@@ -23,8 +22,12 @@ use Rattle.th_program.specs.Run.{Errors, IsSaid, verdict_line}
 use Rattle.th_program.specs.Shown.{shown}
 use Rattle.th_program.specs.Status.{status_of}
 use Rattle.th_program.specs.Listed.{held_by, listed}
-use Rattle.th_program.specs.Words.{HasFiles, arguments_by, asked_by, command_line, files_of, is_joined, list_of}
+use Rattle.th_program.specs.Words.{HasFiles, arguments_by, asked_by, command_line, files_of, list_of, manner_of}
+use Rattle.th_program.specs.Whole.{lack_if, lack_line}
 use Rattle.th_program.specs.declared.modes.Asked.{Asked}
+use Rattle.th_program.specs.declared.modes.Manner.{Manner}
+use Rattle.th_program.specs.declared.modes.Manner.TheVariants as manner
+use Rattle.th_program.specs.declared.whole.Lack.{Lack}
 
 -- what came of a file: the verdict on it, or why there is none
 abbrev pub Outcome : Type 0
@@ -139,9 +142,9 @@ abbrev pub entries_in : List PartFile → ℕ
 entries_in [] = 0
 entries_in (f ∷ later) = f.entries + entries_in later
 
--- These files are one history with so many entries, which ends there, and stands at this place by their names.
+-- These files are one history with so many entries, which has come there, and stands at this place by their names.
 pub record AreOneHistory (holds : List ℕ → Option (List ℕ)) (names : List (List ℕ)) (count : ℕ)
-    (there : Option Picture) (place : Option (List ℕ × ℕ)) : Type 0 where
+    (there : Option Reach) (place : Option (List ℕ × ℕ)) : Type 0 where
   pub files : List PartFile
   pub named : map (λ f. f.name) files ≡ names
   pub are : AllByRecursion (IsFile holds) files
@@ -168,7 +171,7 @@ broken_line name (Judged said) = file_line (name, Ok said)
 broken_line name Apart = codes "gap " ++ (shown name ++ 10 ∷ [])
 
 -- the file is judged as the next part of a history, by what is known of its bytes
-abbrev pub IsNext : Option (List ℕ) → Option Picture → Joined → Option Picture → Type 0
+abbrev pub IsNext : Option (List ℕ) → Option Reach → Joined → Option Reach → Type 0
 IsNext held here said there = (left : Option (List ℕ)) × Joins held left here said there
 
 -- how many entries a file has that goes on with a history
@@ -181,15 +184,15 @@ entries_of (Err why) = None
 -- The file is legal and begins where the history of these files ends, and by its name it stands elsewhere, wherever that
 -- history stands by theirs.
 pub record IsMisplaced (held : Option (List ℕ)) (files : List PartFile) (name : List ℕ)
-    (here : Option Picture) : Type 0 where
+    (here : Option Reach) : Type 0 where
   pub count : ℕ
-  pub there : Option Picture
+  pub there : Option Reach
   pub next : IsNext held here (Judged (verdict.Legal count)) there
   pub apart : (topic : List ℕ) (first : ℕ) → 1 ≤ first → StandFrom topic first 0 files
       → Stands topic first (entries_in files) (entries_in files + count) name → ⊥
 
 -- why this is said of a file that does not go on with the history of these files
-abbrev pub Breaks : Option (List ℕ) → List PartFile → (name : List ℕ) → (here : Option Picture)
+abbrev pub Breaks : Option (List ℕ) → List PartFile → (name : List ℕ) → (here : Option Reach)
     → Joined → Type 0
 Breaks held files name here (Judged said) = IsNext held here (Judged said) here
 Breaks held files name here Apart = IsNext held here Apart here ⊎ IsMisplaced held files name here
@@ -202,28 +205,56 @@ pub record IsBrokenBy (holds : List ℕ → Option (List ℕ)) (names : List (Li
   pub later : List (List ℕ)
   pub parts : names ≡ earlier ++ name ∷ later
   pub count : ℕ
-  pub there : Option Picture
+  pub there : Option Reach
   pub place : Option (List ℕ × ℕ)
   pub so_far : AreOneHistory holds earlier count there place
   pub breaks : Breaks (holds name) so_far.files name there said
   pub told : Appends before after (broken_line name said)
 
--- how a run ends that checks files as one history
-abbrev pub EndsJoined : (List ℕ → Option (List ℕ)) → List (List ℕ) → (before after : Option (List ℕ))
-    → End → Type 0
-EndsJoined holds names before after end.Done = (count : ℕ) × (there : Option Picture)
-    × (place : Option (List ℕ × ℕ)) × AreOneHistory holds names count there place
-    × Appends before after (joined_line count place)
-EndsJoined holds names before after end.Illegal =
+-- These files are one history, which lacks this of a whole one where it is to be whole, and else nothing. The line is told.
+pub record IsHistoryTold (holds : List ℕ → Option (List ℕ)) (is_whole : Bool)
+    (names : List (List ℕ)) (lack : Option Lack) (line : ℕ → Option (List ℕ × ℕ) → List ℕ)
+    (before after : Option (List ℕ)) : Type 0 where
+  pub count : ℕ
+  pub there : Option Reach
+  pub place : Option (List ℕ × ℕ)
+  pub are : AreOneHistory holds names count there place
+  pub lacks : lack ≡ lack_if is_whole there place
+  pub told : Appends before after (line count place)
+
+-- how a run ends that checks files as one history, which is to be whole or not
+abbrev pub EndsJoined : (List ℕ → Option (List ℕ)) → Bool → List (List ℕ)
+    → (before after : Option (List ℕ)) → End → Type 0
+EndsJoined holds is_whole names before after end.Done =
+    IsHistoryTold holds is_whole names None joined_line before after
+EndsJoined holds is_whole names before after end.Partial = (lack : Lack)
+    × IsHistoryTold holds is_whole names (Some lack) (λ count place. lack_line lack names)
+    before after
+EndsJoined holds is_whole names before after end.Illegal =
     (number : ℕ) × IsBrokenBy holds names (Judged (verdict.Illegal number)) before after
-EndsJoined holds names before after end.Bad =
+EndsJoined holds is_whole names before after end.Bad =
     (number : ℕ) × IsBrokenBy holds names (Judged (verdict.BadTrace number)) before after
-EndsJoined holds names before after end.Apart = IsBrokenBy holds names Apart before after
-EndsJoined holds names before after end.Read = after ≡ before
-EndsJoined holds names before after end.TooLong = after ≡ before
-EndsJoined holds names before after end.Short = after ≡ before
-EndsJoined holds names before after end.Write = Unit {0}
-EndsJoined holds names before after so = ⊥
+EndsJoined holds is_whole names before after end.Apart = IsBrokenBy holds names Apart before after
+EndsJoined holds is_whole names before after end.Read = after ≡ before
+EndsJoined holds is_whole names before after end.TooLong = after ≡ before
+EndsJoined holds is_whole names before after end.Short = after ≡ before
+EndsJoined holds is_whole names before after end.Write = Unit {0}
+EndsJoined holds is_whole names before after so = ⊥
+
+-- the line of a history that lacks this, and how a run ends by it
+abbrev pub history_line : List (List ℕ) → ℕ → Option (List ℕ × ℕ) → Option Lack → List ℕ
+history_line names count place None = joined_line count place
+history_line names count place (Some lack) = lack_line lack names
+
+abbrev pub end_with : Option Lack → End
+end_with None = end.Done
+end_with (Some lack) = end.Partial
+
+-- the run ends so, and the line is on standard output, unless a write to it failed
+abbrev pub TellsHistory : List (List ℕ) → ℕ → Option (List ℕ × ℕ) → Option Lack
+    → (before after : Option (List ℕ)) → End → Type 0
+TellsHistory names count place lack before after ends = ends ≢ end.Write
+    → (ends ≡ end_with lack) × Appends before after (history_line names count place lack)
 
 -- how a run ends at what is said of a file
 abbrev pub end_by : Result Joined CheckFault → End
@@ -243,18 +274,18 @@ TellsBroken name said before after ends =
     ends ≢ end.Write → (ends ≡ end_by said) × IsToldBy name said before after
 
 -- each of these lists of files is one history, or is told not to be; the run ends by the worst of it
-abbrev pub EndsEach : (List ℕ → Option (List ℕ)) → List (List (List ℕ)) → (so_far : End)
+abbrev pub EndsEach : (List ℕ → Option (List ℕ)) → Bool → List (List (List ℕ)) → (so_far : End)
     → (before after : Option (List ℕ)) → End → Type 0
-EndsEach holds [] so_far before after ends = (after ≡ before) × (ends ≡ so_far)
-EndsEach holds (names ∷ later) so_far before after ends = (mid : Option (List ℕ)) × (said : End)
-    × EndsJoined holds names before mid said
-    × EndsEach holds later (worse so_far said) mid after ends
+EndsEach holds is_whole [] so_far before after ends = (after ≡ before) × (ends ≡ so_far)
+EndsEach holds is_whole (names ∷ later) so_far before after ends =
+    (mid : Option (List ℕ)) × (said : End) × EndsJoined holds is_whole names before mid said
+    × EndsEach holds is_whole later (worse so_far said) mid after ends
 
 -- how a run ends that checks the files of each topic in a folder
-pub record EndsFolder (holds : List ℕ → Option (List ℕ)) (before after : Option (List ℕ))
-    (ends : End) : Type 0 where
+pub record EndsFolder (holds : List ℕ → Option (List ℕ)) (is_whole : Bool)
+    (before after : Option (List ℕ)) (ends : End) : Type 0 where
   pub topics : List (List (List ℕ))
-  pub each : EndsEach holds topics end.Done before after ends
+  pub each : EndsEach holds is_whole topics end.Done before after ends
 
 -- how a run ends that could not read a folder, or found none there
 abbrev pub EndsUnread : End → (before after : Option (List ℕ)) → Type 0
@@ -264,11 +295,13 @@ EndsUnread end.Usage before after = after ≡ before
 EndsUnread so before after = ⊥
 
 -- how a run ends that checks histories: one of these files, or of a folder that stands alone one of each topic
-abbrev pub EndsHistories : (List ℕ → Option (List ℕ)) → List (List ℕ)
+abbrev pub EndsHistories : (List ℕ → Option (List ℕ)) → Bool → List (List ℕ)
     → (before after : Option (List ℕ)) → End → Type 0
-EndsHistories holds names before after ends = EndsJoined holds names before after ends
+EndsHistories holds is_whole names before after ends =
+    EndsJoined holds is_whole names before after ends
     ⊎ ((folder : List ℕ) × (names ≡ folder ∷ []) × (holds folder ≡ None)
-    × (ends ≢ end.Write → EndsFolder holds before after ends ⊎ EndsUnread ends before after))
+    × (ends ≢ end.Write
+    → EndsFolder holds is_whole before after ends ⊎ EndsUnread ends before after))
 
 -- the words ask rightly to check files
 pub record AreFiles (words : List (List ℕ)) : Type 0 where
@@ -277,13 +310,15 @@ pub record AreFiles (words : List (List ℕ)) : Type 0 where
   pub files : HasFiles (arguments_by words)
   pub named : IsSome (files_of (arguments_by words)) ⊎ IsSome (list_of (arguments_by words))
 
--- how a run ends that checks these files
-abbrev pub EndsNamed : (List ℕ → Option (List ℕ)) → Bool → List (List ℕ)
+-- how a run ends that checks these files so
+abbrev pub EndsNamed : (List ℕ → Option (List ℕ)) → Manner → List (List ℕ)
     → (before after : Option (List ℕ)) → Bool → Errors → Errors → End → Type 0
-EndsNamed holds true names before after people errors errors' ends =
-    EndsHistories holds names before after ends
-EndsNamed holds false names before after people errors errors' ends =
+EndsNamed holds manner.Each names before after people errors errors' ends =
     ends ≢ end.Write → EachIsTold holds names before after people errors errors' ends
+EndsNamed holds manner.Joined names before after people errors errors' ends =
+    EndsHistories holds false names before after ends
+EndsNamed holds manner.Whole names before after people errors errors' ends =
+    EndsHistories holds true names before after ends
 
 -- how a run ends whose list of files is not read, or names none
 abbrev pub EndsUnlisted : End → Type 0
@@ -294,28 +329,29 @@ EndsUnlisted end.Usage = Unit {0}
 EndsUnlisted so = ⊥
 
 -- how a run ends that checks the files that a list names, of which this is known
-abbrev pub EndsListed : (List ℕ → Option (List ℕ)) → Bool → Option (List ℕ)
+abbrev pub EndsListed : (List ℕ → Option (List ℕ)) → Manner → Option (List ℕ)
     → (before after : Option (List ℕ)) → Bool → Errors → Errors → End → Type 0
-EndsListed holds is_one list before after people errors errors' ends =
+EndsListed holds so list before after people errors errors' ends =
     ((names : List (List ℕ)) × IfSome list (λ bytes. names ≡ listed bytes)
-    × EndsNamed holds is_one names before after people errors errors' ends)
+    × EndsNamed holds so names before after people errors errors' ends)
     ⊎ (EndsUnlisted ends × (after ≡ before))
 
 -- the same of files that are named by words, or by a list
-abbrev pub EndsSources : (List ℕ → Option (List ℕ)) → (input : Option (List ℕ)) → Bool
+abbrev pub EndsSources : (List ℕ → Option (List ℕ)) → (input : Option (List ℕ)) → Manner
     → Option (List (List ℕ)) → Option (List ℕ)
     → (before after : Option (List ℕ)) → Bool → Errors → Errors → End → Type 0
-EndsSources holds input is_one (Some names) list before after people errors errors' ends =
-    EndsNamed holds is_one names before after people errors errors' ends
-EndsSources holds input is_one None (Some list) before after people errors errors' ends =
-    EndsListed holds is_one (held_by holds input list) before after people errors errors' ends
-EndsSources holds input is_one None None before after people errors errors' ends = ⊥
+EndsSources holds input so (Some names) list before after people errors errors' ends =
+    EndsNamed holds so names before after people errors errors' ends
+EndsSources holds input so None (Some list) before after people errors errors' ends =
+    EndsListed holds so (held_by holds input list) before after people errors errors' ends
+EndsSources holds input so None None before after people errors errors' ends = ⊥
 
 -- It checks the files that these words name, or ends for want of memory with nothing on standard output.
 abbrev pub EndsFiles : (List ℕ → Option (List ℕ)) → (input : Option (List ℕ)) → List (List ℕ)
     → (before after : Option (List ℕ)) → Bool → Errors → Errors → End → Type 0
 EndsFiles holds input words before after people errors errors' ends =
     let rows = arguments_by words in
-    EndsSources holds input (is_joined rows) (files_of rows) (list_of rows) before after people
-    errors errors' ends
+    ((so : Manner) × (manner_of rows ≡ Some so)
+    × EndsSources holds input so (files_of rows) (list_of rows) before after people
+    errors errors' ends)
     ⊎ ((ends ≡ end.Short) × (after ≡ before))

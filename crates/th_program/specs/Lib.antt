@@ -5,4 +5,5 @@ pub mod Shown
 pub mod Listed
 pub mod PartNames
 pub mod Files
+pub mod Whole
 pub mod Advice

@@ -1,10 +1,12 @@
 -- What the words of the command line ask for.
-use Rattle.std.specs.Prelude.{◌≡◌, ◌⊎◌, ◌≤◌, ◌||◌, ◌&&◌, ℕ, Bool, List, [], ◌∷◌, Option, Some, None, is_some, IfSome, IsSome, Result, MatchResult, codes, map, string_bytes, true, false, if◌then◌else◌}
+use Rattle.std.specs.Prelude.{◌≡◌, ◌⊎◌, ◌≤◌, ◌||◌, ◌&&◌, not, ℕ, Bool, List, [], ◌∷◌, Option, Some, None, is_some, IfSome, IsSome, Result, MatchResult, codes, map, string_bytes, true, false, if◌then◌else◌}
 use Rattle.std.specs.Str.{bytes_eq}
 use Rattle.std.specs.Str.Parse.{IsNumeral, digits_value, without_leading_plus}
 use Rattle.std.specs.Option.{option_map, unwrap_or}
 use Rattle.clap.specs.Words.{App, Row, Rule, all_of, fault_of, first_of, new_app, new_rule, subcommand_of, with_rule, with_subcommand}
 use Rattle.clap.specs.declared.builder.action.ArgAction.TheVariants.{Append, SetTrue}
+use Rattle.th_program.specs.declared.modes.Manner.{Manner}
+use Rattle.th_program.specs.declared.modes.Manner.TheVariants as manner
 use Rattle.th_program.specs.declared.modes.Mode.{Mode}
 use Rattle.th_program.specs.declared.modes.Mode.TheVariants.{Check, CheckFiles, Replay, Serve}
 use Rattle.th_program.specs.declared.modes.Serving.{Serving}
@@ -80,6 +82,7 @@ IsWithin (serving.Standing how) = (1 ≤ how.at_once) × (how.at_once ≤ 1024)
     × (1 ≤ how.history) × (how.history ≤ 1000000)
     × (1024 ≤ how.memory) × (how.memory ≤ 1000000000)
     × IfSome how.socket_fd (λ fd. (3 ≤ fd) × (fd ≤ 1023))
+    × IfSome how.memory_bytes (λ bytes. (67108864 ≤ bytes) × (bytes ≤ 1099511627776))
 
 -- a mode that serves has so many
 abbrev pub HasSessions : Mode → Type 0
@@ -121,23 +124,38 @@ with_keeping app =
     (option_of (codes "traces")))
     (option_of (codes "socket-fd"))
 
+-- and those that guard it: who is one too many, how many bytes it takes, and how what is cut lasts
+abbrev pub with_guarding : App → App
+with_guarding app =
+    with_rule
+    (with_rule
+    (with_rule
+    (with_rule app (flag_of (codes "busy")))
+    (option_of (codes "memory-bytes")))
+    (flag_of (codes "sync")))
+    (flag_of (codes "anchors"))
+
 -- `serve` and its words: a path, how many sessions, and those of a server that stands
 abbrev pub serve_line : App
 serve_line =
-    with_keeping
+    with_guarding
+    (with_keeping
     (with_standing
     (with_rule
     (with_rule (new_app (codes "serve")) (record (new_rule (codes "PATH")) { required = true }))
-    (option_of (codes "sessions"))))
+    (option_of (codes "sessions")))))
 
--- `check` and its words: files, whether they are one history, and a list of files
+-- the words of a history: whether files are one, and whether it is to be whole
+abbrev pub with_history : App → App
+with_history app = with_rule (with_rule app (flag_of (codes "joined"))) (flag_of (codes "whole"))
+
+-- `check` and its words: files, what is asked of them as a history, and a list of files
 abbrev pub check_line : App
 check_line =
     with_rule
-    (with_rule
+    (with_history
     (with_rule (new_app (codes "check"))
-    (record (new_rule (codes "FILE")) { action = Some Append }))
-    (flag_of (codes "joined")))
+    (record (new_rule (codes "FILE")) { action = Some Append })))
     (option_of (codes "files-from"))
 
 -- the command line as `clap` reads it: `replay`, which takes no words, `check` and `serve`
@@ -208,6 +226,10 @@ AsksMemory rows = IsCountOr 2000000 1024 1000000000 (first_of (codes "memory") r
 abbrev pub AsksSocket : List Row → Option ℕ → Type 0
 AsksSocket rows = IsCountIf 3 1023 (first_of (codes "socket-fd") rows)
 
+-- how many bytes it may take
+abbrev pub AsksBytes : List Row → Option ℕ → Type 0
+AsksBytes rows = IsCountIf 67108864 1099511627776 (first_of (codes "memory-bytes") rows)
+
 -- whether such a word was given
 abbrev pub is_given : List ℕ → List Row → Bool
 is_given word rows = bytes_eq (text_of word rows) (codes "true")
@@ -215,6 +237,11 @@ is_given word rows = bytes_eq (text_of word rows) (codes "true")
 -- a socket that is bound already is to be replaced
 abbrev pub replaces_bound : List Row → Bool
 replaces_bound rows = is_given (codes "replace") rows && has (codes "socket-fd") rows
+
+-- it is said how traces are written, and none are
+abbrev pub lacks_traces : List Row → Bool
+lacks_traces rows = (is_given (codes "sync") rows || is_given (codes "anchors") rows)
+    && not (has (codes "traces") rows)
 
 -- a server that stands runs as these words say
 pub record StandsBy (rows : List Row) (how : Standing) : Type 0 where
@@ -226,7 +253,12 @@ pub record StandsBy (rows : List Row) (how : Standing) : Type 0 where
   pub memory : AsksMemory rows how.memory
   pub traces : option_map string_bytes how.traces ≡ first_of (codes "traces") rows
   pub socket_fd : AsksSocket rows how.socket_fd
+  pub is_busy_told : how.is_busy_told ≡ is_given (codes "busy") rows
+  pub memory_bytes : AsksBytes rows how.memory_bytes
+  pub syncs : how.syncs ≡ is_given (codes "sync") rows
+  pub anchors : how.anchors ≡ is_given (codes "anchors") rows
   pub leaves_bound : replaces_bound rows ≡ false
+  pub has_traces : lacks_traces rows ≡ false
 
 -- which words of one that serves are given: how many sessions in all, how many at a time, and others of a server that stands
 abbrev pub has_sessions : List Row → Bool
@@ -239,9 +271,16 @@ abbrev pub has_flags : List Row → Bool
 has_flags rows = is_given (codes "replace") rows
     || is_given (codes "until-eof") rows || is_given (codes "verbose") rows
 
-abbrev pub has_others : List Row → Bool
-has_others rows = has_flags rows || has (codes "history") rows || has (codes "memory") rows
+abbrev pub has_keeping : List Row → Bool
+has_keeping rows = has (codes "history") rows || has (codes "memory") rows
     || has (codes "traces") rows || has (codes "socket-fd") rows
+
+abbrev pub has_guarding : List Row → Bool
+has_guarding rows = is_given (codes "busy") rows || has (codes "memory-bytes") rows
+    || is_given (codes "sync") rows || is_given (codes "anchors") rows
+
+abbrev pub has_others : List Row → Bool
+has_others rows = has_flags rows || has_keeping rows || has_guarding rows
 
 -- as many sessions are served as these words say, and none of them belongs to the other way to serve
 abbrev pub ServesBy : List Row → Serving → Type 0
@@ -257,12 +296,24 @@ files_of rows = all_of (codes "FILE") rows
 abbrev pub is_joined : List Row → Bool
 is_joined rows = is_given (codes "joined") rows
 
+-- and a whole one
+abbrev pub is_whole : List Row → Bool
+is_whole rows = is_given (codes "whole") rows
+
+-- as what they are checked; files that are no history cannot be a whole one
+abbrev pub manner_of : List Row → Option Manner
+manner_of rows =
+    if is_joined rows then Some (if is_whole rows then manner.Whole else manner.Joined)
+    else if is_whole rows then None
+    else Some manner.Each
+
 -- the list that names them instead
 abbrev pub list_of : List Row → Option (List ℕ)
 list_of rows = first_of (codes "files-from") rows
 
--- a history has a file at least, and files are named by words or by a list
+-- a history has a file at least, what is whole is a history, and files are named by words or by a list
 pub record HasFiles (rows : List Row) : Type 0 where
+  pub whole : is_whole rows ≡ true → is_joined rows ≡ true
   pub some : is_joined rows ≡ true → IsSome (files_of rows) ⊎ IsSome (list_of rows)
   pub one : IsSome (files_of rows) → list_of rows ≡ None
 
@@ -273,30 +324,33 @@ AreSources rows (Words names) =
 AreSources rows (sources.List list) =
     (files_of rows ≡ None) × (list_of rows ≡ Some (string_bytes list))
 
--- the files are those of this list
-abbrev pub IsList : Mode → List ℕ → Bool → Type 0
-IsList (CheckFiles (sources.List list) joined) name is_one =
-    (string_bytes list ≡ name) × (joined ≡ is_one)
-IsList mode name is_one = ⊥
+-- the files are those of this list, and are checked so
+abbrev pub IsList : Mode → List ℕ → Manner → Type 0
+IsList (CheckFiles (sources.List list) manner) name so =
+    (string_bytes list ≡ name) × (manner ≡ so)
+IsList mode name so = ⊥
 
 -- the mode that was asked for; one that checks files has those that the words name, and one that serves has what they say
 abbrev pub IsMode : Asked → List Row → Mode → Type 0
 IsMode asked rows Replay = asked ≡ Asked.Replay
 IsMode asked rows Check = (asked ≡ Asked.Check)
-    × (files_of rows ≡ None) × (list_of rows ≡ None) × (is_joined rows ≡ false)
-IsMode asked rows (CheckFiles files joined) = (asked ≡ Asked.Check)
+    × (files_of rows ≡ None) × (list_of rows ≡ None) × (manner_of rows ≡ Some manner.Each)
+IsMode asked rows (CheckFiles files manner) = (asked ≡ Asked.Check)
     × AreSources rows files
-    × (joined ≡ is_joined rows)
+    × (manner_of rows ≡ Some manner)
 IsMode asked rows (Serve path serving) = (asked ≡ Asked.Serve)
     × (string_bytes path ≡ text_of (codes "PATH") rows)
     × ServesBy rows serving
 
--- the further words of a server that stands are right: numbers within their bounds, and no bound socket that is to be replaced
+-- the further words of a server that stands are right: numbers within their bounds, no bound socket that is to be replaced, and
+-- traces where it is said how they are written
 pub record AreRight (rows : List Row) : Type 0 where
   pub history : CountsIf 1 1000000 (first_of (codes "history") rows)
   pub memory : CountsIf 1024 1000000000 (first_of (codes "memory") rows)
   pub socket_fd : CountsIf 3 1023 (first_of (codes "socket-fd") rows)
+  pub memory_bytes : CountsIf 67108864 1099511627776 (first_of (codes "memory-bytes") rows)
   pub leaves_bound : replaces_bound rows ≡ false
+  pub has_traces : lacks_traces rows ≡ false
 
 -- words that ask rightly to serve so many sessions, or so many at a time: one of both, and further words with the second alone
 abbrev pub AsksRightly : List Row → ℕ → Type 0

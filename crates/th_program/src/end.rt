@@ -27,6 +27,8 @@ pub enum End {
     Bad,
     /// Of traces that were checked as one history, one does not begin where the one before it ends.
     Apart,
+    /// Traces that were checked as a whole history are a part of one.
+    Partial,
 }
 
 /// The exit status: 0 where all went well, 1 where the machine or a limit stopped the run, 2 where
@@ -39,7 +41,7 @@ pub fn status(end: &End) -> u8
         End::Done | End::Help => 0,
         End::Read | End::Write | End::TooLong | End::Short | End::Socket => 1,
         End::Usage => 2,
-        End::Illegal | End::Bad | End::Apart => 3,
+        End::Illegal | End::Bad | End::Apart | End::Partial => 3,
     }
 }
 
@@ -53,6 +55,7 @@ pub fn explanation(end: &End) -> Option<&'static str>
         End::TooLong => Some("topichub: too long"),
         End::Short => Some("topichub: no memory"),
         End::Socket => Some("topichub: socket fault"),
-        End::Done | End::Help | End::Usage | End::Illegal | End::Bad | End::Apart => None,
+        End::Done | End::Help | End::Usage | End::Illegal | End::Bad | End::Apart | End::Partial =>
+            None,
     }
 }

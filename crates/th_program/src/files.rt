@@ -1,17 +1,18 @@
 //! Traces in files, checked.
 ghost use Rattle.std.specs.Prelude.{◌≡◌, ◌≢◌, ◌+◌, ◌≤◌, ◌^◌, Option, None, List, ℕ, IfOk, IfSome, IsSome, OnErr, Ok, Err, map, string_bytes, true};
 ghost use Rattle.std.specs.Io.KnownBytes.{Appends};
-ghost use Rattle.th_program.specs.Files.{AreFiles, EachIsTold, EndsFiles, EndsHistories, EndsJoined, EndsListed, EndsNamed, EndsUnlisted, IsNext, IsOutcome, TellsBroken, broken_line, end_of, entries_of, fault_line, fault_word, file_line, joined_line, place_of, place_told, worse};
+ghost use Rattle.th_program.specs.Files.{AreFiles, EachIsTold, EndsFiles, EndsHistories, EndsJoined, EndsListed, EndsNamed, EndsUnlisted, IsNext, IsOutcome, TellsBroken, TellsHistory, broken_line, end_of, entries_of, fault_line, fault_word, file_line, joined_line, place_of, place_told, worse};
 ghost use Rattle.th_program.specs.Listed.{held_by};
 ghost use Rattle.th_program.specs.Run.{IsSaid, errors_of};
 
 use crate::end::{End, status};
 use crate::folders::check_folder;
 use crate::listed::{ListFault, listed};
-use crate::modes::{Mode, ModeFault, Sources};
+use crate::modes::{Manner, Mode, ModeFault, Sources};
 use crate::part_names::{Place, placed};
 use crate::program::{explain, run_short, say, write_number, write_text, write_verdict};
 use crate::shown::{say_shown, write_shown};
+use crate::whole::{Lack, lack_if, write_lack};
 use crate::words::mode;
 use std::alloc::Global;
 use std::fs::File;
@@ -341,21 +342,50 @@ fn write_joined<W: Write>(output: &mut Counted<W>, count: u64, place: Option<Pla
     write_text(output, b"\n")
 }
 
+// Tells of files with these names that are one history, at this place by their names, and which is to be whole or not:
+// the end of the run.
+fn tell_history<W: Write, E: Write>(
+    output: &mut Counted<W>,
+    errors: &mut Counted<E>,
+    names: &[String],
+    count: u64,
+    place: Option<Place<'_>>,
+    lack: Option<Lack>,
+) -> End
+    ensures { IfSome place.entry (λ p. p.first + count ≤ 2 ^ 64)
+        → TellsHistory (map string_bytes names.now) count (place_of place.entry) lack
+        (W.contents output.old.device) (W.contents output.new.device) result }
+{
+    let (told, end) = match lack {
+        Some(lack) => (write_lack(output, lack, names), End::Partial),
+        None => (write_joined(output, count, place), End::Done),
+    };
+    if told {
+        end
+    } else {
+        explain(errors, &End::Write);
+        End::Write
+    }
+}
+
 /// Checks these files as one history, in their order: each is to be legal, and to begin with the picture to which the
 /// entries of the one before it lead. Files with names of parts of a topic's history are also to be parts of one topic, and
-/// the number in each name is to be that of the history's first event and the entries before the file. `output` gets one
-/// line: how many entries they have, and, where a name tells it, from which event to which; or which file is the first that
-/// breaks the history. No file behind that is read. A file that there is no verdict on is told of in `errors`, and so is, to
-/// people at a terminal, what is wrong with a trace. More than 2^64 - 1 entries are too long.
+/// the number in each name is to be that of the history's first event and the entries before the file. Where it is to be
+/// whole, it also begins with the picture of a channel that was just opened, and with event 1 where a name tells it, and
+/// ends with no live handle. `output` gets one line: how many entries they have, and, where a name tells it, from which event
+/// to which; or which file is the first that breaks the history, or in which a whole one lacks its beginning or its end. No
+/// file behind that is read. A file that there is no verdict on is told of in `errors`, and so is, to people at a terminal,
+/// what is wrong with a trace. More than 2^64 - 1 entries are too long.
 pub fn check_joined<O: Opens, W: Write, E: Write>(
     alloc: Global,
     files: &O,
     names: &[String],
+    whole: bool,
     output: &mut Counted<W>,
     errors: &mut Counted<E>,
     people: bool,
 ) -> End
-    ensures { EndsJoined (O.holds files.now) (map string_bytes names.now)
+    ensures { EndsJoined (O.holds files.now) whole (map string_bytes names.now)
         (W.contents output.old.device) (W.contents output.new.device) result }
 {
     let mut history = Joining::new();
@@ -378,12 +408,8 @@ pub fn check_joined<O: Opens, W: Write, E: Write>(
         count = sum;
         place = next;
     }
-    if write_joined(output, count, place) {
-        End::Done
-    } else {
-        explain(errors, &End::Write);
-        End::Write
-    }
+    let lack = lack_if(whole, &history, place);
+    tell_history(output, errors, names, count, place, lack)
 }
 
 // Says why a list names no files: the end of the run.
@@ -409,19 +435,31 @@ fn check_histories<O: Opens, W: Write, E: Write>(
     alloc: Global,
     files: &O,
     names: &[String],
+    whole: bool,
     output: &mut Counted<W>,
     errors: &mut Counted<E>,
     people: bool,
 ) -> End
-    ensures { EndsHistories (O.holds files.now) (map string_bytes names.now)
+    ensures { EndsHistories (O.holds files.now) whole (map string_bytes names.now)
         (W.contents output.old.device) (W.contents output.new.device) result }
 {
     let [name] = names else {
-        return check_joined(alloc, files, names, output, errors, people);
+        return check_joined(alloc, files, names, whole, output, errors, people);
     };
     match files.list(alloc, name.as_str()) {
-        Ok(None) => check_joined(alloc, files, names, output, errors, people),
-        Ok(Some(found)) => check_folder(alloc, files, name.as_str(), found, output, errors, people),
+        Ok(None) => check_joined(alloc, files, names, whole, output, errors, people),
+        Ok(Some(found)) => {
+            check_folder(
+                alloc,
+                files,
+                name.as_str(),
+                found,
+                whole,
+                output,
+                errors,
+                people,
+            )
+        }
         Err(_) => {
             say_fault(errors, name.as_str(), CheckFault::Read);
             End::Read
@@ -429,24 +467,24 @@ fn check_histories<O: Opens, W: Write, E: Write>(
     }
 }
 
-// Checks the files of these names, each by itself or as one history.
+// Checks the files of these names, each by itself or as one history, whole or not.
 fn check_named<O: Opens, W: Write, E: Write>(
     alloc: Global,
     files: &O,
     names: &[String],
-    joined: bool,
+    manner: Manner,
     output: &mut Counted<W>,
     errors: &mut Counted<E>,
     people: bool,
 ) -> End
-    ensures { EndsNamed (O.holds files.now) joined (map string_bytes names.now)
+    ensures { EndsNamed (O.holds files.now) manner (map string_bytes names.now)
         (W.contents output.old.device) (W.contents output.new.device) people
         (errors_of E.contents errors.old) (errors_of E.contents errors.new) result }
 {
-    if joined {
-        check_histories(alloc, files, names, output, errors, people)
-    } else {
-        check_files(alloc, files, names, output, errors, people)
+    match manner {
+        Manner::Each => check_files(alloc, files, names, output, errors, people),
+        Manner::Joined => check_histories(alloc, files, names, false, output, errors, people),
+        Manner::Whole => check_histories(alloc, files, names, true, output, errors, people),
     }
 }
 
@@ -455,13 +493,13 @@ fn check_list<O: Opens, R: Read, W: Write, E: Write>(
     alloc: Global,
     files: &O,
     list: &str,
-    joined: bool,
+    manner: Manner,
     input: &mut R,
     output: &mut Counted<W>,
     errors: &mut Counted<E>,
     people: bool,
 ) -> End
-    ensures { EndsListed (O.holds files.now) joined
+    ensures { EndsListed (O.holds files.now) manner
         (held_by (O.holds files.now) (R.remaining input.old) list.now)
         (W.contents output.old.device) (W.contents output.new.device) people
         (errors_of E.contents errors.old) (errors_of E.contents errors.new) result }
@@ -474,7 +512,7 @@ fn check_list<O: Opens, R: Read, W: Write, E: Write>(
     if names.is_empty() {
         return refuse_list(errors, list, None);
     }
-    check_named(alloc, files, names, joined, output, errors, people)
+    check_named(alloc, files, names, manner, output, errors, people)
 }
 
 /// Checks the files that the words name, the program's name first, each by itself or as one history; `None`, with nothing
@@ -497,14 +535,14 @@ pub fn check_by_words<O: Opens, R: Read, W: Write, E: Write>(
         → (input.new ≡ input.old) × (output.new ≡ output.old) × (errors.new ≡ errors.old) }
 {
     match mode(alloc, words) {
-        Ok(Mode::CheckFiles { sources, joined }) => match sources {
+        Ok(Mode::CheckFiles { sources, manner }) => match sources {
             Sources::Words(names) => {
                 let names = names.as_slice();
-                Some(check_named(alloc, files, names, joined, output, errors, people))
+                Some(check_named(alloc, files, names, manner, output, errors, people))
             }
             Sources::List(list) => {
                 let list = list.as_str();
-                Some(check_list(alloc, files, list, joined, input, output, errors, people))
+                Some(check_list(alloc, files, list, manner, input, output, errors, people))
             }
         },
         Err(ModeFault::Short) => Some(run_short(errors)),

@@ -37,19 +37,20 @@ fn topic_end(parts: &[String], from: usize) -> usize
     at
 }
 
-/// Checks the files of each topic as one history, of those that stand in a folder of this name and are named as parts of
+/// Checks the files of each topic as one history, whole or not, of those that stand in a folder of this name and are named as parts of
 /// topics' histories, in the order of their names: a line for each topic. It is a fault of the words where there are none.
 pub(crate) fn check_folder<O: Opens, W: Write, E: Write>(
     alloc: Global,
     files: &O,
     name: &str,
     found: Vec<String>,
+    whole: bool,
     output: &mut Counted<W>,
     errors: &mut Counted<E>,
     people: bool,
 ) -> End
     ensures { result ≢ End.Write →
-        EndsFolder (O.holds files.now)
+        EndsFolder (O.holds files.now) whole
         (W.contents output.old.device) (W.contents output.new.device) result
         ⊎ EndsUnread result
         (W.contents output.old.device) (W.contents output.new.device) }
@@ -68,7 +69,7 @@ pub(crate) fn check_folder<O: Opens, W: Write, E: Write>(
     let mut at = 0;
     while at < parts.len() {
         let to = topic_end(parts, at);
-        let one = check_joined(alloc, files, &parts[at..to], output, errors, people);
+        let one = check_joined(alloc, files, &parts[at..to], whole, output, errors, people);
         if one == End::Write {
             return End::Write;
         }

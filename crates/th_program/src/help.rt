@@ -165,6 +165,10 @@ pub const CHECK_FILES: &str = "Files with a trace each; without any, one from st
 /// Its option.
 pub const CHECK_JOINED: &str = "The files, in this order, are to be one history";
 
+/// Its option beside that.
+pub const CHECK_WHOLE: &str =
+    "That history is to be whole: from the opening of its topic to its last handle";
+
 /// Its word for files that are named elsewhere.
 pub const CHECK_LIST: &str =
     "The files that LIST names, each ended by NUL or by LF; - is standard input";
@@ -212,6 +216,15 @@ is
 or the line of the first file that is not legal. Of a folder that is given alone,
 the files that are named so are checked, with a line for each topic. It finds
 what went wrong, and is no seal against who can write to the files.
+
+With --whole too nothing is to be missing at either end. In the place of the line
+`joined n` stands then
+
+  begun f               if the history does not begin with a topic that was just
+                        opened, or, by its files' names, with event 1; f is the
+                        first file
+  open f                else, if a sender or a receiver is live at its end; f is
+                        the last file
 
 Lines are counted from 1. The first line that is bad or illegal is named, and
 nothing below it is read. At a terminal it also says, on standard error, what is
@@ -262,6 +275,20 @@ pub const SERVE_TRACES: &str = "Keep each part that was cut, as a trace in a fol
 pub const SERVE_SOCKET_FD: &str =
     "The descriptor, 3 to 1023, of a socket that is bound at PATH already";
 
+/// The word by which a client beyond the number does not wait.
+pub const SERVE_BUSY: &str = "Tell a client beyond N that it is one too many, and close it";
+
+/// The word for how many bytes it may take.
+pub const SERVE_MEMORY_BYTES: &str =
+    "How many bytes topics, histories and sessions take together, 67108864 to 1099511627776";
+
+/// The word by which traces outlive a power cut.
+pub const SERVE_SYNC: &str = "Have each trace on the disk before its file gets its name";
+
+/// The word by which traces can be held against what was told of them.
+pub const SERVE_ANCHORS: &str =
+    "Tell at each cut, on standard error, a sum that binds the topic's files so far";
+
 /// What stands below the options of the mode `serve`.
 pub const SERVE_AFTER: &str = "\
 It makes the socket, prints `listening` on standard output, and serves the first
@@ -269,9 +296,10 @@ N connections, one session each, numbered from 1 in the order in which they were
 accepted. Once all have ended it removes the socket and prints `done N`.
 
 With `--at-once N` it serves any number of connections, N at a time; those beyond
-wait until another one ends. A session has no bound on its lines there, and one
-that waits ends within seconds where its client has gone. `--replace` removes a
-socket at PATH whose server is gone, by a lock on the file PATH.lock, which stays.
+wait until another one ends, or, with `--busy`, are told so and closed. A session
+has no bound on its lines there, and one that waits ends within seconds where its
+client has gone. `--replace` removes a socket at PATH whose server is gone, by a
+lock on the file PATH.lock, which stays.
 With `--until-eof` the server ends at the end of standard input: each session
 answers what it has read, one that waits ends unanswered, all that they hold is
 spent, the socket is removed, and `done N` says how many sessions there were.
@@ -279,7 +307,15 @@ spent, the socket is removed, and `done N` says how many sessions there were.
 Such a server cuts histories by itself, so no TRACE is needed: that of a topic at
 `--history K` entries, or at `--memory M` divided by the number of topics where
 that is less. What was cut is let go; with `--traces DIR` each part is written to
-a file in a folder below DIR, a trace that `topichub check` reads.
+a file in a folder below DIR, a trace that `topichub check` reads. `--sync` has it
+on the disk before it gets its name, so that a power cut leaves none that is empty.
+`--anchors` tells a sum on standard error once a file is complete, a SHA-256 that
+binds this file and those of the topic before it. Keep these lines where nobody can
+write who can write to DIR.
+
+With `--memory-bytes B` topics, histories and sessions take at most so many bytes
+together. A line that needs more is answered `ERR 21 no-memory`, and changes
+nothing; what receives or lets go goes on.
 
 With `--socket-fd FD` the socket is bound already and is this descriptor, as
 systemd's socket activation hands it over. PATH is then where it is bound, and

@@ -11,8 +11,8 @@ pub enum Mode {
     CheckFiles {
         /// Which files.
         sources: Sources,
-        /// Whether they are one history.
-        joined: bool,
+        /// As what.
+        manner: Manner,
     },
     /// Serve sessions on a Unix socket.
     Serve {
@@ -30,6 +30,17 @@ pub enum Sources {
     Words(Vec<String>),
     /// Those whose names are listed in the file of this name; `-` is standard input.
     List(String),
+}
+
+/// As what files are checked.
+#[derive(Clone, Copy, Debug, Drop, PartialEq, Eq)]
+pub enum Manner {
+    /// Each by itself.
+    Each,
+    /// All as one history.
+    Joined,
+    /// All as one history that is whole: from the opening of its channel to its last handle.
+    Whole,
 }
 
 /// How many sessions are served.
@@ -60,6 +71,17 @@ pub struct Standing {
     pub traces: Option<String>,
     /// The descriptor of a socket that is bound already, 3 to 1,023; without one a socket is made.
     pub socket_fd: Option<u64>,
+    /// Whether a client beyond those is told so and closed, and does not wait.
+    pub is_busy_told: bool,
+    /// How many bytes topics, histories and sessions may take together, 67,108,864 to
+    /// 1,099,511,627,776; without it as many as the system gives.
+    pub memory_bytes: Option<u64>,
+    /// Whether a trace's file is on the disk before it gets its name. Nobody asks so without a
+    /// folder of traces.
+    pub syncs: bool,
+    /// Whether a line on standard error tells, at each cut, a sum that binds all files of that topic
+    /// so far. Nobody asks so without a folder of traces.
+    pub anchors: bool,
 }
 
 /// Which mode a command's name is of.

@@ -1,17 +1,18 @@
 //! The words of the command line.
 
-ghost use Rattle.std.specs.Prelude.{◌≡◌, ◌≢◌, ◌⊎◌, ◌≤◌, IfErr, IfOk, IfSome, IsOk, IsSome, Ok, OnOk, ℕ, [], codes, false, is_some, map, option_map, string_bytes};
+ghost use Rattle.std.specs.Prelude.{◌≡◌, ◌≢◌, ◌⊎◌, ◌≤◌, ◌||◌, IfErr, IfOk, IfSome, IsOk, IsSome, MatchResult, Ok, OnOk, ℕ, [], codes, false, is_some, map, option_map, string_bytes};
 ghost use Rattle.clap.specs.declared.builder.command.Command.TheViews.{out-Command};
 ghost use Rattle.clap.specs.Words.{app_of, fault_of, first_of, found_of, kind_of, new_app, rows_of, rule_of, subcommand_name_of, subcommand_rows_of, with_rule, with_subcommand};
-ghost use Rattle.th_program.specs.Words.{AreCheck, AreReplay, AreHelp, AreRight, AreServe, AreVersion, AreNone, AsksAtOnce, AsksFor, AsksHistory, AsksMemory, AsksRightly, AsksSocket, CountsIf, IsCount, IsCountIf, IsHelp, IsMode, IsUsage, GivesCheck, GivesMode, GivesReplay, GivesFault, HasFiles, HasSessions, IsList, IsWithin, ServesBy, StandsBy, arguments_by, arguments_of, asked_by, asked_of, check_line, command_line, flag_of, has, has_flags, has_others, is_given, option_of, replaces_bound, serve_line, text_of, with_keeping, with_required, with_standing};
+ghost use Rattle.th_program.specs.Words.{AreCheck, AreReplay, AreHelp, AreRight, AreServe, AreVersion, AreNone, AsksAtOnce, AsksBytes, AsksFor, AsksHistory, AsksMemory, AsksRightly, AsksSocket, CountsIf, IsCount, IsCountIf, IsHelp, IsMode, IsUsage, GivesCheck, GivesMode, GivesReplay, GivesFault, HasFiles, HasSessions, IsList, IsWithin, ServesBy, StandsBy, arguments_by, arguments_of, asked_by, asked_of, check_line, command_line, flag_of, has, has_flags, has_guarding, has_keeping, has_others, is_given, lacks_traces, manner_of, option_of, replaces_bound, serve_line, text_of, with_guarding, with_history, with_keeping, with_required, with_standing};
 
 use crate::help::{
     ABOUT, AFTER, CHECK_ABOUT, CHECK_AFTER, CHECK_DASHED, CHECK_FILES, CHECK_INPUT, CHECK_JOINED,
-    CHECK_LIST, NO_FILES, REPLAY_ABOUT, REPLAY_AFTER, REPLAY_INPUT, SERVE_ABOUT, SERVE_AFTER,
-    SERVE_AT_ONCE, SERVE_HISTORY, SERVE_INPUT, SERVE_MEMORY, SERVE_PATH, SERVE_REPLACE,
-    SERVE_SESSIONS, SERVE_SOCKET_FD, SERVE_TRACES, SERVE_UNTIL_EOF, SERVE_VERBOSE, VERSION,
+    CHECK_LIST, CHECK_WHOLE, NO_FILES, REPLAY_ABOUT, REPLAY_AFTER, REPLAY_INPUT, SERVE_ABOUT,
+    SERVE_AFTER, SERVE_ANCHORS, SERVE_AT_ONCE, SERVE_BUSY, SERVE_HISTORY, SERVE_INPUT,
+    SERVE_MEMORY, SERVE_MEMORY_BYTES, SERVE_PATH, SERVE_REPLACE, SERVE_SESSIONS, SERVE_SOCKET_FD,
+    SERVE_SYNC, SERVE_TRACES, SERVE_UNTIL_EOF, SERVE_VERBOSE, VERSION,
 };
-use crate::modes::{Asked, Mode, ModeFault, Serving, Sources, Standing};
+use crate::modes::{Asked, Manner, Mode, ModeFault, Serving, Sources, Standing};
 use clap::error::ErrorKind;
 use clap::{Arg, ArgAction, ArgMatches, Command, Error};
 use std::alloc::{AllocError, Global};
@@ -36,6 +37,11 @@ const MOST_MEMORY: u64 = 1_000_000_000;
 /// And where that is not said.
 const MEMORY: u64 = 2_000_000;
 
+/// How many bytes topics, histories and sessions take together: the least, 64 MiB, and the most, 1 TiB.
+const LEAST_BYTES: u64 = 67_108_864;
+
+const MOST_BYTES: u64 = 1_099_511_627_776;
+
 /// The descriptors that are none of the standard streams.
 const LEAST_FD: u64 = 3;
 
@@ -46,11 +52,18 @@ const SESSIONS_OR_AT_ONCE: &str = "one of '--sessions <N>' and '--at-once <N>' i
 
 /// What is said where other words are given with sessions.
 const OTHERS_WITH_AT_ONCE: &str =
-    "'--replace', '--until-eof', '--verbose', '--history', '--memory', '--traces' and '--socket-fd' go with '--at-once <N>' alone";
+    "'--replace', '--until-eof', '--verbose', '--history', '--memory', '--traces', '--socket-fd', '--busy', '--memory-bytes', '--sync' and '--anchors' go with '--at-once <N>' alone";
 
 /// What is said where a socket that is bound already is to be replaced.
 const REPLACE_OR_SOCKET_FD: &str =
     "'--replace' does not go with '--socket-fd <FD>': that socket is bound already";
+
+/// What is said where it is said how traces are written, and none are.
+const NO_TRACES: &str =
+    "'--sync' and '--anchors' want '--traces <DIR>': no trace is written without it";
+
+/// What is said where files that are no history are to be a whole one.
+const WHOLE_OF_NONE: &str = "'--whole' wants '--joined': it is a history that is whole";
 
 /// What is said where files are named by words and by a list.
 const FILES_OR_LIST: &str = "'--files-from <LIST>' goes without other files";
@@ -90,8 +103,18 @@ fn check_command<'a>(alloc: Global) -> Result<Command<'a>, AllocError>
         .about(CHECK_ABOUT)
         .after_help(CHECK_AFTER);
     let check = with_arg(check, files)?;
-    let check = with_arg(check, flag(alloc, "joined", CHECK_JOINED))?;
+    let check = with_history(alloc, check)?;
     with_arg(check, option(alloc, "files-from", "LIST", CHECK_LIST))
+}
+
+// The same with the words of a history.
+fn with_history<'a>(alloc: Global, check: Command<'a>) -> Result<Command<'a>, AllocError>
+    ensures app { IfOk result (λ c. app_of c ≡ with_history (app_of check.entry)) }
+    ensures local { (out-Command check.entry).has_globals ≡ false →
+        IfOk result (λ c. (out-Command c).has_globals ≡ false) }
+{
+    let check = with_arg(check, flag(alloc, "joined", CHECK_JOINED))?;
+    with_arg(check, flag(alloc, "whole", CHECK_WHOLE))
 }
 
 // The program with that mode more.
@@ -117,7 +140,7 @@ fn serve_command<'a>(alloc: Global) -> Result<Command<'a>, AllocError>
     let serve = with_arg(serve, path)?;
     let serve = with_arg(serve, option(alloc, "sessions", "N", SERVE_SESSIONS))?;
     let serve = with_standing(alloc, serve)?;
-    with_keeping(alloc, serve)
+    with_further(alloc, serve)
 }
 
 // The same with the first words of a server that stands.
@@ -132,6 +155,16 @@ fn with_standing<'a>(alloc: Global, serve: Command<'a>) -> Result<Command<'a>, A
     with_arg(serve, flag(alloc, "verbose", SERVE_VERBOSE))
 }
 
+// The same with all others.
+fn with_further<'a>(alloc: Global, serve: Command<'a>) -> Result<Command<'a>, AllocError>
+    ensures app { IfOk result (λ c. app_of c ≡ with_guarding (with_keeping (app_of serve.entry))) }
+    ensures local { (out-Command serve.entry).has_globals ≡ false →
+        IfOk result (λ c. (out-Command c).has_globals ≡ false) }
+{
+    let serve = with_keeping(alloc, serve)?;
+    with_guarding(alloc, serve)
+}
+
 // The same with its further ones.
 fn with_keeping<'a>(alloc: Global, serve: Command<'a>) -> Result<Command<'a>, AllocError>
     ensures app { IfOk result (λ c. app_of c ≡ with_keeping (app_of serve.entry)) }
@@ -142,6 +175,21 @@ fn with_keeping<'a>(alloc: Global, serve: Command<'a>) -> Result<Command<'a>, Al
     let serve = with_arg(serve, option(alloc, "memory", "M", SERVE_MEMORY))?;
     let serve = with_arg(serve, option(alloc, "traces", "DIR", SERVE_TRACES))?;
     with_arg(serve, option(alloc, "socket-fd", "FD", SERVE_SOCKET_FD))
+}
+
+// The same with those that guard it.
+fn with_guarding<'a>(alloc: Global, serve: Command<'a>) -> Result<Command<'a>, AllocError>
+    ensures app { IfOk result (λ c. app_of c ≡ with_guarding (app_of serve.entry)) }
+    ensures local { (out-Command serve.entry).has_globals ≡ false →
+        IfOk result (λ c. (out-Command c).has_globals ≡ false) }
+{
+    let serve = with_arg(serve, flag(alloc, "busy", SERVE_BUSY))?;
+    let serve = with_arg(
+        serve,
+        option(alloc, "memory-bytes", "B", SERVE_MEMORY_BYTES),
+    )?;
+    let serve = with_arg(serve, flag(alloc, "sync", SERVE_SYNC))?;
+    with_arg(serve, flag(alloc, "anchors", SERVE_ANCHORS))
 }
 
 // One argument more, which is the command's own.
@@ -317,15 +365,28 @@ fn has_flags(words: &ArgMatches<'_>) -> bool
     is_given(words, "replace") || is_given(words, "until-eof") || is_given(words, "verbose")
 }
 
+// Whether one was given that says what it keeps and where, or which socket is its own.
+fn has_keeping(words: &ArgMatches<'_>) -> bool
+    ensures { result ≡ has_keeping (rows_of (found_of words.now)) }
+{
+    has(words, "history") || has(words, "memory") || has(words, "traces") || has(words, "socket-fd")
+}
+
+// Whether one was given that guards it.
+fn has_guarding(words: &ArgMatches<'_>) -> bool
+    ensures { result ≡ has_guarding (rows_of (found_of words.now)) }
+{
+    is_given(words, "busy")
+        || has(words, "memory-bytes")
+        || is_given(words, "sync")
+        || is_given(words, "anchors")
+}
+
 // Whether any word was given that goes with a server that stands, beside how many sessions at a time.
 fn has_others(words: &ArgMatches<'_>) -> bool
     ensures { result ≡ has_others (rows_of (found_of words.now)) }
 {
-    has_flags(words)
-        || has(words, "history")
-        || has(words, "memory")
-        || has(words, "traces")
-        || has(words, "socket-fd")
+    has_flags(words) || has_keeping(words) || has_guarding(words)
 }
 
 // Whether a socket that is bound already is to be replaced.
@@ -333,6 +394,27 @@ fn replaces_bound(words: &ArgMatches<'_>) -> bool
     ensures { result ≡ replaces_bound (rows_of (found_of words.now)) }
 {
     is_given(words, "replace") && has(words, "socket-fd")
+}
+
+// Whether it is said how traces are written, and none are.
+fn lacks_traces(words: &ArgMatches<'_>) -> bool
+    ensures { result ≡ lacks_traces (rows_of (found_of words.now)) }
+{
+    (is_given(words, "sync") || is_given(words, "anchors")) && !has(words, "traces")
+}
+
+// Why words of a server that stands do not go together, where they do not.
+fn unfit(words: &ArgMatches<'_>) -> Option<&'static str>
+    ensures { let rows = rows_of (found_of words.now) in
+        is_some result ≡ (replaces_bound rows || lacks_traces rows) }
+{
+    if replaces_bound(words) {
+        Some(REPLACE_OR_SOCKET_FD)
+    } else if lacks_traces(words) {
+        Some(NO_TRACES)
+    } else {
+        None
+    }
 }
 
 // The number in the text behind this word, which help calls by that name.
@@ -430,6 +512,16 @@ fn memory(alloc: Global, words: &ArgMatches<'_>) -> Result<u64, ModeFault>
     }
 }
 
+// How many bytes it may take.
+fn memory_bytes(alloc: Global, words: &ArgMatches<'_>) -> Result<Option<u64>, ModeFault>
+    ensures number { IfOk result (AsksBytes (rows_of (found_of words.now))) }
+    ensures rightly { let given = first_of (codes "memory-bytes") (rows_of (found_of words.now)) in
+        CountsIf 67108864 1099511627776 given → IsOk result }
+    ensures wrong { IfErr result (λ fault. IsUsage fault ⊎ (fault ≡ ModeFault.Short)) }
+{
+    count_if(alloc, words, "memory-bytes", "B", LEAST_BYTES, MOST_BYTES)
+}
+
 // The folder that is named for what was cut.
 fn traces(alloc: Global, words: &ArgMatches<'_>) -> Result<Option<String>, AllocError>
     ensures { let given = first_of (codes "traces") (rows_of (found_of words.now)) in
@@ -453,8 +545,8 @@ fn standing(alloc: Global, words: &ArgMatches<'_>) -> Result<Standing, ModeFault
         → IfErr result (λ fault. fault ≡ ModeFault.Short) }
     ensures wrong { IfErr result (λ fault. IsUsage fault ⊎ (fault ≡ ModeFault.Short)) }
 {
-    if replaces_bound(words) {
-        return Err(wrong_words(alloc, REPLACE_OR_SOCKET_FD));
+    if let Some(why) = unfit(words) {
+        return Err(wrong_words(alloc, why));
     }
     let at_once = match at_once(alloc, words) {
         Ok(at_once) => at_once,
@@ -472,6 +564,10 @@ fn standing(alloc: Global, words: &ArgMatches<'_>) -> Result<Standing, ModeFault
         Ok(socket_fd) => socket_fd,
         Err(fault) => return Err(fault),
     };
+    let memory_bytes = match memory_bytes(alloc, words) {
+        Ok(memory_bytes) => memory_bytes,
+        Err(fault) => return Err(fault),
+    };
     let Ok(traces) = traces(alloc, words) else {
         return Err(ModeFault::Short);
     };
@@ -484,6 +580,10 @@ fn standing(alloc: Global, words: &ArgMatches<'_>) -> Result<Standing, ModeFault
         memory,
         traces,
         socket_fd,
+        is_busy_told: is_given(words, "busy"),
+        memory_bytes,
+        syncs: is_given(words, "sync"),
+        anchors: is_given(words, "anchors"),
     })
 }
 
@@ -552,17 +652,42 @@ fn no_files(alloc: Global) -> ModeFault
     }
 }
 
+// The mode that checks where no files are named: one trace by itself, from standard input.
+fn unnamed(alloc: Global, manner: Manner) -> Result<Mode, ModeFault>
+    ensures { MatchResult result (λ m. (m ≡ Mode.Check) × (manner ≡ Manner.Each))
+        (λ fault. (manner ≢ Manner.Each) × (IsUsage fault ⊎ (fault ≡ ModeFault.Short))) }
+{
+    match manner {
+        Manner::Each => Ok(Mode::Check),
+        Manner::Joined | Manner::Whole => Err(no_files(alloc)),
+    }
+}
+
 // The files that are listed under this name.
-fn listed(alloc: Global, list: &str, joined: bool) -> Result<Mode, ModeFault>
-    ensures mode { IfOk result (λ m. IsList m list.now joined) }
+fn listed(alloc: Global, list: &str, manner: Manner) -> Result<Mode, ModeFault>
+    ensures mode { IfOk result (λ m. IsList m list.now manner) }
     ensures short { IfErr result (λ fault. fault ≡ ModeFault.Short) }
 {
     match String::from_str(alloc, list) {
         Ok(list) => Ok(Mode::CheckFiles {
             sources: Sources::List(list),
-            joined,
+            manner,
         }),
         Err(_) => Err(ModeFault::Short),
+    }
+}
+
+// As what the files are checked; none where files that are no history are to be a whole one.
+fn manner(words: &ArgMatches<'_>) -> Option<Manner>
+    ensures { result ≡ manner_of (rows_of (found_of words.now)) }
+{
+    let whole = is_given(words, "whole");
+    if is_given(words, "joined") {
+        Some(if whole { Manner::Whole } else { Manner::Joined })
+    } else if whole {
+        None
+    } else {
+        Some(Manner::Each)
     }
 }
 
@@ -572,13 +697,14 @@ fn check_mode(alloc: Global, words: &ArgMatches<'_>) -> Result<Mode, ModeFault>
     ensures given { HasFiles (rows_of (found_of words.now)) → GivesMode result }
     ensures wrong { IfErr result (λ fault. IsUsage fault ⊎ (fault ≡ ModeFault.Short)) }
 {
-    let joined = is_given(words, "joined");
+    let Some(manner) = manner(words) else {
+        return Err(wrong_words(alloc, WHOLE_OF_NONE));
+    };
     let list = given(words, "files-from");
     let Some(files) = words.get_strs("FILE") else {
         return match list {
-            Some(list) => listed(alloc, list, joined),
-            None if joined => Err(no_files(alloc)),
-            None => Ok(Mode::Check),
+            Some(list) => listed(alloc, list, manner),
+            None => unnamed(alloc, manner),
         };
     };
     if list.is_some() {
@@ -587,7 +713,7 @@ fn check_mode(alloc: Global, words: &ArgMatches<'_>) -> Result<Mode, ModeFault>
     match named(alloc, files) {
         Ok(files) => Ok(Mode::CheckFiles {
             sources: Sources::Words(files),
-            joined,
+            manner,
         }),
         Err(_) => Err(ModeFault::Short),
     }

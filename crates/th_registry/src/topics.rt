@@ -7,6 +7,7 @@ use crate::channel::{Channel, HubBroadcast, LocalChannel};
 use crate::opening::Refusal;
 use crate::recorded::Recorded;
 use indexmap::IndexMap;
+use std::hash::BuildHasher;
 use th_model::{Capacity, Listed, Listing, Making, Name, Short, Value};
 use th_watch::Watch;
 
@@ -16,8 +17,10 @@ pub const MOST_TOPICS: usize = 1024;
 /// At most 1,024 channels by the names of their topics, in order of opening.
 pub type Channels = IndexMap<Name, LocalChannel>;
 
-/// The topics with their kinds. It takes memory for all of them at once.
-pub fn list<B: Drop, W: Drop>(topics: &IndexMap<Name, Channel<B, W>>) -> Result<Listing, Short<()>>
+/// The topics with their kinds, however their names are hashed. It takes memory for all of them at once.
+pub fn list<B: Drop, W: Drop, S: BuildHasher>(
+    topics: &IndexMap<Name, Channel<B, W>, S>,
+) -> Result<Listing, Short<()>>
     ensures { IfOk result (λ rows. rows ≡ list topics.now.entries) }
 {
     let alloc = *topics.allocator();

@@ -11,6 +11,7 @@
 //! ```
 #![tactic(auto)]
 
+mod readers;
 pub mod ring;
 pub mod slot;
 

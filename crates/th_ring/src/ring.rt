@@ -1,10 +1,12 @@
 //! The ring.
 ghost use Rattle.std.specs.Prelude.{◌≡◌, ◌+◌, ◌%◌, ◌^◌, ◌<◌, ◌≤◌, ℕ, length, replicate, IfOk, IfErr, true};
 ghost use Rattle.th_model.specs.Limits.{IsCapacity};
-ghost use Rattle.th_model.specs.Places.{low_of, to_come};
+ghost use Rattle.th_model.specs.Places.{low_of};
+ghost use Rattle.th_ring.specs.Readers.{AreToCome};
 ghost use Rattle.th_ring.specs.Slot.{vacant, less_one, more_one};
 ghost use Rattle.th_ring.specs.Ring.{IsRing, ring_window, slot_at, filled_slot, AreOthersSame};
 
+use crate::readers::count_readers;
 use crate::slot::{Slot, pass, read, wait};
 use std::alloc::{AllocError, Global};
 use std::collections::{BTreeMap, VecDeque};
@@ -21,9 +23,9 @@ use th_shelf::{Received, Shelf, WindowParts};
 /// number is missing and by halving else, and none of them looks at the window. So does `join`, which
 /// costs no more where the number is the highest, but for a list that grows; else it moves the places
 /// behind. `leave` and `join_oldest` are linear in the kept values that the receiver has still to read.
-/// `reader_at(k)` is linear in `k` and the gaps on the way. `from_window` counts the places for each kept
-/// value, and copies them. All slots are made with the shelf: afterwards only `join` and `join_oldest`
-/// take memory, and a read for its clones: the last one of a value needs none.
+/// `reader_at(k)` is linear in `k` and the gaps on the way. `from_window` is linear in the capacity and
+/// the receivers. All slots are made with the shelf: afterwards only `join` and `join_oldest` take memory,
+/// and a read for its clones: the last one of a value needs none.
 #[derive(Drop)]
 pub struct RingShelf<T> {
     // The most values that are kept: a power of two, and the number of slots. It never changes.
@@ -91,21 +93,6 @@ fn vacant_slots<T: Drop>(alloc: Global, capacity: u64) -> Result<Vec<Slot<T>>, A
     Ok(slots)
 }
 
-// How many receivers have still to read a position.
-fn count_to_come(places: &BTreeMap<u64, u64>, position: u64) -> u64
-    ensures { result ≡ to_come places.now.entries position }
-{
-    // A map has fewer entries than numbers, so that the count fits.
-    let _ = places.len();
-    let mut count: u64 = 0;
-    for (_, place) in places {
-        if *place <= position {
-            count += 1;
-        }
-    }
-    count
-}
-
 // Puts the values from `low` to the tail into their slots.
 fn fill<T: Drop>(
     slots: &mut Vec<Slot<T>>,
@@ -114,11 +101,13 @@ fn fill<T: Drop>(
     mut kept: VecDeque<T>,
     tail: u64,
     places: &BTreeMap<u64, u64>,
+    counts: &Vec<u64>,
 )
     requires capacity { IsCapacity capacity }
     requires size { length slots.old.items ≡ capacity }
     requires values { low + length kept.items ≡ tail }
     requires window { tail ≤ low + capacity }
+    requires counts { AreToCome low tail places.now.entries counts.now.items }
     ensures size { length slots.new.items ≡ capacity }
     ensures filled { (i : ℕ) → low ≤ i → i < tail
         → slot_at slots.new.items capacity i ≡ filled_slot low kept.items places.now.entries i }
@@ -129,7 +118,7 @@ fn fill<T: Drop>(
         let at = low_bits(i, capacity);
         slots[at] = Slot {
             value,
-            to_come: count_to_come(places, i),
+            to_come: counts[(i - low) as usize],
         };
     }
 }
@@ -202,9 +191,12 @@ impl<T: Clone> Shelf<T> for RingShelf<T> {
         let Ok(own) = ByNumber::copied_from(alloc, parts.places()) else {
             return Err(Short { call: parts });
         };
+        let low = tail - parts.kept().len() as u64;
+        let Ok(counts) = count_readers(alloc, parts.places(), low, tail) else {
+            return Err(Short { call: parts });
+        };
         let (kept, places) = parts.into_parts();
-        let low = tail - kept.len() as u64;
-        fill(&mut slots, capacity, low, kept, tail, &places);
+        fill(&mut slots, capacity, low, kept, tail, &places, &counts);
         Ok(RingShelf {
             capacity,
             tail,

@@ -4,22 +4,28 @@ use std::fs::File;
 use std::io::{Eprint, Input, Print};
 use std::net::Net;
 use std::process::ExitCode;
+use std::random::RandomSource;
 use std::rt::Files;
 use std::sync::Wait;
 use std::thread::Threads;
 use std::time::Clock;
 use th_model::Name;
 use th_registry::channel::TopicSegment;
-use th_server::{Outcome, Store, serve_by_words};
+use th_server::{Chain, Folder, Outcome, Store, Stored, serve_by_words};
 
-pub fn store<R: Store>(rt: &R, alloc: Global, topic: &Name, part: &TopicSegment) -> bool {
-    rt.store(alloc, "traces", topic, part)
+pub fn store<R: Store>(rt: &R, alloc: Global, topic: &Name, part: &TopicSegment) -> Stored {
+    let folder = Folder {
+        path: "traces",
+        syncs: true,
+    };
+    rt.store(alloc, &folder, topic, part, Chain::Begins)
 }
 
 pub fn serve<
     R: Threads
         + Wait
         + Clock
+        + RandomSource
         + Clone
         + Send
         + Sync

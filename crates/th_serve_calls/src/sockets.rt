@@ -1,13 +1,14 @@
 //! Calls of th_sockets.
 use std::alloc::Global;
 use std::os::unix::net::UnixListener;
+use std::random::RandomSource;
 use std::sync::Wait;
 use std::thread::Threads;
 use std::time::Clock;
 use th_session::{Bounds, Keeping, OpenGate};
 use th_sockets::{Observer, ServeFault, Served, Unheard, serve_on};
 
-pub fn serve<R: Threads + Wait + Clock + Clone + Send + Sync>(
+pub fn serve<R: Threads + Wait + Clock + RandomSource + Clone + Send + Sync>(
     rt: &R,
     alloc: Global,
     listener: &UnixListener,

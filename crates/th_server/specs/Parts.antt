@@ -1,5 +1,5 @@
--- A part of a topic's history: which topic's, how many entries it has, and which of the topic's events is its first.
-use Rattle.std.specs.Prelude.{ℕ, ◌+◌, ◌-◌, length}
+-- A part of a topic's history: which topic's it is, and which of the topic's events is its first.
+use Rattle.std.specs.Prelude.{ℕ, ◌+◌, ◌-◌}
 use Rattle.th_registry.specs.declared.channel.Channel.TheVariants.{Broadcast, Watch}
 use Rattle.th_registry.specs.declared.opening.TopicId.{TopicId}
 use Rattle.th_registry.specs.History.{ChannelSegment}
@@ -16,7 +16,3 @@ topic_of part = record { 0 = key_of part - 1 }
 abbrev pub first_of : ChannelSegment → ℕ
 first_of (Broadcast part) = part.first + 1
 first_of (Watch part) = part.first + 1
-
-abbrev pub entries_of : ChannelSegment → ℕ
-entries_of (Broadcast part) = length part.entries
-entries_of (Watch part) = length part.entries

@@ -1,4 +1,5 @@
 //! The connections of the sessions that are there.
+use crate::faults::Faults;
 use std::alloc::{AllocError, Global};
 use std::net::Shutdown;
 use std::os::unix::net::UnixStream;
@@ -10,7 +11,12 @@ use std::sync::{Arc, Mutex, Wait};
 pub(crate) struct Connections {
     // Who has it waits for the next connection. The system takes a descriptor for each that waits, before anybody comes.
     pub(crate) turn: Mutex<()>,
+    // What people were told of sessions that were stopped.
+    pub(crate) faults: Faults,
     streams: Mutex<Vec<Option<Arc<UnixStream>>>>,
+    // How many sessions are served at a time, and how many are now.
+    most: u64,
+    served: AtomicU64,
     // Sessions that have begun.
     begun: AtomicU64,
     // No further session begins, and who waits does so no longer.
@@ -18,18 +24,36 @@ pub(crate) struct Connections {
 }
 
 impl Connections {
-    /// Places for so many, and nobody there.
-    pub(crate) fn new(alloc: Global, places: u64) -> Result<Connections, AllocError> {
+    /// Places for so many workers, of whom so many serve at a time, and nobody there.
+    pub(crate) fn new(alloc: Global, places: u64, most: u64) -> Result<Connections, AllocError> {
         let mut streams = Vec::with_capacity(alloc, places as usize)?;
         for _ in 0..places {
             streams.push(None)?;
         }
         Ok(Connections {
             turn: Mutex::new(()),
+            faults: Faults::new(),
             streams: Mutex::new(streams),
+            most,
+            served: AtomicU64::new(0),
             begun: AtomicU64::new(0),
             ending: AtomicBool::new(false),
         })
+    }
+
+    /// Has one session more served, if there may be one more; and whether there may. Whoever asks has the turn, so nobody else asks
+    /// meanwhile.
+    pub(crate) fn enter(&self) -> bool {
+        if self.served.load(Ordering::SeqCst) >= self.most {
+            return false;
+        }
+        self.served.fetch_add(1, Ordering::SeqCst);
+        true
+    }
+
+    /// One of those has ended.
+    pub(crate) fn leave(&self) {
+        self.served.fetch_sub(1, Ordering::SeqCst);
     }
 
     /// The number of a session that begins now: they are counted from 1.

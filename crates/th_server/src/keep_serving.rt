@@ -1,12 +1,15 @@
 //! Serves any number of connections, so many at a time.
-ghost use Rattle.std.specs.Prelude.{◌≡◌, ◌≢◌, ◌≤◌, IfErr, IsSome, IsTrue, vec_capacity, vec_len};
+ghost use Rattle.std.specs.Prelude.{◌≡◌, ◌≢◌, ◌≤◌, ◌+◌, true, false, IfErr, IsSome, IsTrue, vec_capacity, vec_len};
 ghost use Rattle.th_program.specs.declared.end.End.TheVariants.{Done};
 
+use crate::busy::refuse;
+use crate::bytes::{Division, divide};
 use crate::client::Client;
 use crate::connections::Connections;
+use crate::elapsed::has_passed;
+use crate::folders::{Folder, fault_of, make_folder};
 use crate::limits::tell_if_few;
-use crate::parts::{FolderFault, Keeper, Store, folder, is_unnamed};
-use crate::serve::Teller;
+use crate::parts::{Keeper, Store};
 use crate::socket;
 use crate::socket::{Socket, SocketFault};
 use crate::unfinished::tell_of_others;
@@ -15,6 +18,7 @@ use std::fs::File;
 use std::io::{Eprint, ErrorKind, Input, Print, Read};
 use std::net::{Net, Shutdown};
 use std::os::unix::net::{UnixListener, UnixStream};
+use std::random::RandomSource;
 use std::rt::Files;
 use std::sync::{Arc, Wait};
 use std::thread;
@@ -25,7 +29,6 @@ use th_model::Kind;
 use th_program::{End, Standing};
 use th_session::{Bounds, Keeping, SessionFault, run_session};
 use th_shared::{Histories, SharedDesk};
-use th_sockets::Observer;
 
 // How long no connection is waited for after one that could not be accepted, in milliseconds: descriptors may come back.
 const PAUSE: u64 = 100;
@@ -42,8 +45,9 @@ fn attend<R: Wait + Clock + Clone + Eprint>(
     stream: &UnixStream,
 ) {
     let number = connections.begin();
+    let faults = &connections.faults;
     let Ok(mut desk) = shared.another() else {
-        Teller { rt }.ended(number, Some(SessionFault::Short));
+        faults.ended(rt, number, Some(SessionFault::Short));
         return;
     };
     let client = Client {
@@ -64,12 +68,21 @@ fn attend<R: Wait + Clock + Clone + Eprint>(
         Bounds::none(),
     );
     if !connections.is_ending() {
-        Teller { rt }.ended(number, fault);
+        faults.ended(rt, number, fault);
     }
 }
 
+// A connection that was accepted.
+#[derive(Drop)]
+enum Came {
+    // It is to be served.
+    Within(Arc<UnixStream>),
+    // As many are served already as may be.
+    Beyond(Arc<UnixStream>),
+}
+
 // The next connection, or why there is none. One for which there is no memory is a session that had none.
-fn accept<R: Eprint>(
+fn accept<R: Wait + Clock + Eprint>(
     rt: &R,
     alloc: Global,
     listener: &UnixListener,
@@ -80,7 +93,10 @@ fn accept<R: Eprint>(
         Err(e) => return Err(e.kind()),
     };
     let Ok(kept) = Arc::new(alloc, stream) else {
-        Teller { rt }.ended(connections.begin(), Some(SessionFault::Short));
+        let number = connections.begin();
+        connections
+            .faults
+            .ended(rt, number, Some(SessionFault::Short));
         return Err(ErrorKind::OutOfMemory);
     };
     Ok(kept)
@@ -93,19 +109,41 @@ fn next<R: Wait + Clock + Eprint>(
     alloc: Global,
     listener: &UnixListener,
     connections: &Connections,
-) -> Option<Arc<UnixStream>> {
+) -> Option<Came> {
     let _turn = connections.turn.lock(rt);
     if connections.is_ending() {
         return None;
     }
     match accept(rt, alloc, listener, connections) {
-        Ok(stream) => Some(stream),
+        Ok(stream) if connections.enter() => Some(Came::Within(stream)),
+        Ok(stream) => Some(Came::Beyond(stream)),
         Err(ErrorKind::WouldBlock) => None,
         Err(_) => {
             sleep(rt, Duration::from_millis(PAUSE));
             None
         }
     }
+}
+
+// Serves a connection at this place.
+fn attend_at<R: Wait + Clock + Clone + Eprint>(
+    rt: &R,
+    alloc: Global,
+    shared: &SharedDesk<R>,
+    connections: &Connections,
+    stream: Arc<UnixStream>,
+    place: u64,
+) {
+    if let Ok(theirs) = Arc::try_clone(&stream) {
+        connections.put(rt, place, Some(theirs));
+        // Whoever ends the server may have been through the places before.
+        if !connections.is_ending() {
+            attend(rt, alloc, shared, connections, &*stream);
+        }
+        connections.put(rt, place, None);
+    }
+    // The connection is closed behind this: a client that sees that may come again at once.
+    connections.leave();
 }
 
 // Serves one connection after another at this place, until the server ends.
@@ -121,18 +159,26 @@ fn work<R: Wait + Clock + Clone + Eprint>(
         if connections.is_ending() {
             return;
         }
-        let Some(stream) = next(rt, alloc, listener, connections) else {
-            continue;
-        };
-        let Ok(theirs) = Arc::try_clone(&stream) else {
-            continue;
-        };
-        connections.put(rt, place, Some(theirs));
-        // Whoever ends the server may have been through the places before.
-        if !connections.is_ending() {
-            attend(rt, alloc, shared, connections, &*stream);
+        match next(rt, alloc, listener, connections) {
+            Some(Came::Within(stream)) => {
+                attend_at(rt, alloc, shared, connections, stream, place);
+            }
+            Some(Came::Beyond(stream)) => refuse(rt, &*stream),
+            None => {}
         }
-        connections.put(rt, place, None);
+    }
+}
+
+// How many workers serve so many sessions at a time: where a client beyond them is to be told so, one more than those, who tells it.
+fn workers_for(how: &Standing) -> u64
+    ensures busy { how.now.is_busy_told ≡ true → how.now.at_once ≤ 1024
+        → result ≡ how.now.at_once + 1 }
+    ensures waits { how.now.is_busy_told ≡ false → result ≡ how.now.at_once }
+{
+    if how.is_busy_told {
+        how.at_once.saturating_add(1)
+    } else {
+        how.at_once
     }
 }
 
@@ -145,14 +191,14 @@ fn start_workers<'s, E, R: Threads + Wait + Clock + Clone + Send + Sync + Eprint
     shared: &'s SharedDesk<R>,
     connections: &'s Connections,
     workers: Vec<JoinHandle<()>>,
-    at_once: u64,
+    places: u64,
 ) -> (Vec<JoinHandle<()>>, bool)
-    requires room { at_once ≤ vec_capacity workers }
+    requires room { places ≤ vec_capacity workers }
     requires none { vec_len workers ≡ 0 }
-    ensures all { IsTrue result.1 → vec_len result.0 ≡ at_once }
+    ensures all { IsTrue result.1 → vec_len result.0 ≡ places }
 {
     let mut workers = workers;
-    for place in 0..at_once {
+    for place in 0..places {
         match scope.spawn(move || work(rt, alloc, shared, listener, connections, place)) {
             Ok(worker) => workers.push_reserved(worker),
             Err(_) => return (workers, false),
@@ -174,20 +220,12 @@ fn read_to_end<R: Input + Wait>(rt: &R) {
     }
 }
 
-// Whether so many milliseconds have gone by since then, as far as there is a clock.
-fn has_passed<R: Clock>(rt: &R, since: Option<Instant>, millis: u64) -> bool {
-    match since.map(|since| since.elapsed(rt)) {
-        Some(Ok(time)) => time >= Duration::from_millis(millis),
-        _ => false,
-    }
-}
-
 // Waits until nobody is served any more, and no longer than `LAST`.
 fn wait_for_all<R: Wait + Clock>(rt: &R, connections: &Connections) {
     let begun = Instant::now(rt).ok();
     // A sleep takes longer than it is asked to, and so would all of them together.
     for _ in 0..LAST {
-        if !connections.is_any(rt) || has_passed(rt, begun, LAST) {
+        if !connections.is_any(rt) || has_passed(rt, begun, LAST).unwrap_or(false) {
             return;
         }
         sleep(rt, Duration::from_millis(1));
@@ -219,7 +257,8 @@ fn serve_all<
     how: &Standing,
 ) -> End {
     let listener = &made.listener;
-    let Ok(workers) = Vec::with_capacity(alloc, how.at_once as usize) else {
+    let places = workers_for(how);
+    let Ok(workers) = Vec::with_capacity(alloc, places as usize) else {
         return End::Short;
     };
     let Some(histories) = shared.histories() else {
@@ -228,7 +267,7 @@ fn serve_all<
     let one = scope.spawn(move || keeper.keep_all(rt, alloc, shared, histories, Kind::Broadcast));
     let other = scope.spawn(move || keeper.keep_all(rt, alloc, shared, histories, Kind::Watch));
     let are_kept = one.is_ok() && other.is_ok();
-    let at_once = if are_kept { how.at_once } else { 0 };
+    let places = if are_kept { places } else { 0 };
     let (workers, all) = start_workers(
         scope,
         rt,
@@ -237,7 +276,7 @@ fn serve_all<
         shared,
         connections,
         workers,
-        at_once,
+        places,
     );
     let mut end = if are_kept && all {
         End::Done
@@ -282,29 +321,40 @@ fn serve_at<R: Threads + Wait + Clock + Clone + Send + Sync + Print + Eprint + S
 }
 
 // Serves at this socket: how many sessions began, once the server was ended; or what else ended it.
-fn serve_on<R: Threads + Wait + Clock + Clone + Send + Sync + Print + Eprint + Store + Input>(
+fn serve_on<
+    R: Threads + Wait + Clock + RandomSource + Clone + Send + Sync + Print + Eprint + Store + Input,
+>(
     rt: &R,
     alloc: Global,
     made: &Socket,
-    folder: Option<&str>,
+    folder: Option<Folder<'_>>,
     how: &Standing,
+    division: Division,
 ) -> Result<u64, End>
     ensures { IfErr result (λ end. end ≢ Done) }
 {
     let Ok(own) = rt.clone() else {
         return Err(End::Short);
     };
-    let Ok(histories) = Histories::new(alloc, how.history, how.memory) else {
+    let Division {
+        history,
+        memory,
+        room,
+    } = division;
+    let Ok(histories) = Histories::new(alloc, history, memory) else {
         return Err(End::Short);
     };
-    let Ok(desk) = SharedDesk::rolling(own, alloc, histories) else {
+    let Ok(desk) = SharedDesk::rolling(own, alloc, histories, room) else {
         return Err(End::Short);
     };
-    let Ok(connections) = Connections::new(alloc, how.at_once) else {
+    let Ok(connections) = Connections::new(alloc, workers_for(how), how.at_once) else {
         return Err(End::Short);
     };
-    let keeper = Keeper::new(folder);
+    let Ok(keeper) = Keeper::new(alloc, folder, how.anchors) else {
+        return Err(End::Short);
+    };
     let end = serve_at(rt, alloc, made, &desk, &connections, &keeper, how);
+    connections.faults.end(rt);
     keeper.keep_last(rt, alloc, desk);
     match end {
         End::Done => Ok(connections.begun()),
@@ -318,6 +368,7 @@ pub(crate) fn keep_serving<
     R: Threads
         + Wait
         + Clock
+        + RandomSource
         + Clone
         + Send
         + Sync
@@ -331,21 +382,28 @@ pub(crate) fn keep_serving<
     ensures fault { IsSome result.1 → result.0 ≢ Done }
 {
     let traces = how.traces.as_ref().map(|dir| dir.as_str());
-    if is_unnamed(traces) {
-        return (End::Write, Some(SocketFault::Traces(FolderFault::Unnamed)));
+    let division = match divide(how) {
+        Ok(division) => division,
+        Err(least) => return (End::Short, Some(SocketFault::Bytes(least))),
+    };
+    if let Some(fault) = fault_of(traces, division.history) {
+        return (End::Write, Some(SocketFault::Traces(fault)));
     }
     let made = match socket::find(rt, alloc, path, how) {
         Ok(made) => made,
         Err(fault) => return (End::Socket, Some(fault)),
     };
-    tell_if_few(rt, path, how.at_once);
-    let (end, fault) = match folder(rt, alloc, traces) {
+    tell_if_few(rt, path, how.at_once, workers_for(how));
+    let (end, fault) = match make_folder(rt, alloc, traces, how.syncs) {
         Ok(folder) => {
             if let Some(dir) = traces {
                 tell_of_others(rt, alloc, dir);
             }
-            let folder = folder.as_ref().map(|name| name.as_str());
-            (serve_on(rt, alloc, &made, folder, how), None)
+            let folder = folder.as_ref().map(|name| Folder {
+                path: name.as_str(),
+                syncs: how.syncs,
+            });
+            (serve_on(rt, alloc, &made, folder, how, division), None)
         }
         Err(fault) => (Err(End::Write), Some(SocketFault::Traces(fault))),
     };

@@ -8,8 +8,14 @@
 //! ```
 #![tactic(auto)]
 
+mod anchors;
+mod busy;
+mod bytes;
 mod client;
 mod connections;
+mod elapsed;
+mod faults;
+mod folders;
 mod keep_serving;
 mod limits;
 mod lock;
@@ -20,9 +26,12 @@ mod parts;
 mod serve;
 mod socket;
 mod streams;
+mod sums;
 mod unfinished;
 mod words;
 
+pub use folders::Folder;
 pub use outcome::Outcome;
-pub use parts::Store;
+pub use parts::{Store, Stored};
+pub use sums::{Chain, Sum};
 pub use words::serve_by_words;

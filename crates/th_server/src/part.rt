@@ -2,13 +2,14 @@
 ghost use Rattle.std.specs.Prelude.{◌≡◌, IfOk, IsSome, IsTrue, None, string_bytes};
 ghost use Rattle.std.specs.Io.KnownBytes.{Appends};
 ghost use Rattle.th_program.specs.PartNames.{part_name};
-ghost use Rattle.th_server.specs.Parts.{entries_of, first_of, topic_of};
+ghost use Rattle.th_server.specs.Parts.{first_of, topic_of};
 ghost use Rattle.th_session.specs.Answer.{trace_lines};
 ghost use Rattle.th_traces.specs.Spelled.{text};
 
-use crate::parts::{Keeper, Store};
+use crate::parts::{Keeper, Store, Stored};
 use std::alloc::{AllocError, Global};
 use std::io::{Eprint, Write};
+use std::sync::Wait;
 use th_lines::{Counted, WriteBuffer};
 use th_model::Name;
 use th_program::part_name;
@@ -34,16 +35,6 @@ fn first_of(part: &TopicSegment) -> u64
     match part {
         Channel::Broadcast(part) => part.first() + 1,
         Channel::Watch(part) => part.first() + 1,
-    }
-}
-
-/// How many entries a part has.
-pub(crate) fn entries_of(part: &TopicSegment) -> u64
-    ensures { result ≡ entries_of part.now }
-{
-    match part {
-        Channel::Broadcast(part) => part.len(),
-        Channel::Watch(part) => part.len(),
     }
 }
 
@@ -85,7 +76,7 @@ pub(crate) struct Part {
     segment: TopicSegment,
 }
 
-/// A part that should be in a file and is in none. It has no `Drop` either: it goes once people are told.
+/// A part that should be in a file and is in none, or in one that may not stay. It has no `Drop` either: it goes once people are told.
 pub(crate) struct Missing {
     segment: TopicSegment,
 }
@@ -104,28 +95,44 @@ impl Part {
         topic_of(&self.segment)
     }
 
-    /// Stores it in this folder; without one it is let go. It is missing where its file is not there, or its topic's name is unknown.
-    pub(crate) fn store<R: Store>(
+    /// Stores it where the keeper keeps such parts; without a folder it is let go. It is missing where its file is not there, or may not
+    /// stay, or its topic's name is unknown.
+    pub(crate) fn store<R: Wait + Eprint + Store>(
         self,
         rt: &R,
         alloc: Global,
-        folder: Option<&str>,
+        keeper: &Keeper<'_>,
         topic: Option<&Name>,
     ) -> Option<Missing>
-        ensures unwanted { folder.entry ≡ None → result ≡ None }
-        ensures unnamed { IsSome folder.entry → topic.entry ≡ None → IsSome result }
+        ensures unwanted { keeper.now.folder ≡ None → result ≡ None }
+        ensures unnamed { IsSome keeper.now.folder → topic.entry ≡ None → IsSome result }
     {
         let Part { segment } = self;
-        let Some(folder) = folder else {
+        let Some(folder) = keeper.folder else {
             return None;
         };
-        let Some(topic) = topic else {
+        let Some(name) = topic else {
             return Some(Missing { segment });
         };
-        if rt.store(alloc, folder, topic, &segment) {
-            None
-        } else {
-            Some(Missing { segment })
+        let topic = topic_of(&segment);
+        let chain = keeper.anchors.next(rt, topic);
+        match rt.store(alloc, &folder, name, &segment, chain) {
+            Stored::Needless => None,
+            Stored::There {
+                name,
+                next,
+                is_synced,
+            } => {
+                keeper
+                    .anchors
+                    .tell(rt, topic, folder.start(), name.as_str(), next);
+                if is_synced {
+                    None
+                } else {
+                    Some(Missing { segment })
+                }
+            }
+            Stored::Missing => Some(Missing { segment }),
         }
     }
 }

@@ -1,137 +1,80 @@
 //! The parts of histories that a hub has cut: they go to files of a folder, or are let go.
-ghost use Rattle.std.specs.Prelude.{◌≡◌, None, false};
-
-use crate::node::is_own;
-use crate::part::{Part, entries_of, file_of, put_trace};
-use std::alloc::Global;
+use crate::anchors::Anchors;
+use crate::folders::{Folder, sync};
+use crate::part::{Part, file_of, put_trace};
+use crate::sums::Chain;
+use std::alloc::{AllocError, Global};
 use std::fs;
-use std::fs::{DirBuilder, OpenOptions};
-use std::io::{Eprint, ErrorKind};
-use std::os::unix::fs::{DirBuilderExt, OpenOptionsExt};
+use std::fs::{OpenFile, OpenOptions};
+use std::io::{Eprint, Read, Seek, SeekFrom, Write};
+use std::os::unix::fs::OpenOptionsExt;
 use std::rt::Files;
 use std::sync::Wait;
 use std::sync::atomic::{AtomicBool, Ordering};
-use std::time::{Clock, Duration, SystemTime, UNIX_EPOCH};
+use std::time::Clock;
 use th_lines::Counted;
 use th_model::{Kind, Name};
 use th_registry::Channel;
 use th_registry::channel::TopicSegment;
-use th_shared::{Ended, Histories, SharedDesk};
-use thiserror::Error;
+use th_shared::{Ended, Histories, SharedDesk, entries_of};
 
-// How many folders are tried, where the first names are taken.
-const TRIES: u64 = 1000;
+// Nobody but the user who serves may read a trace.
+const MODE: u32 = 0o600;
 
-// Nobody but the user who serves may read a trace, or find it.
-const FOLDER_MODE: u32 = 0o700;
-
-const FILE_MODE: u32 = 0o600;
-
-/// Why there is no folder for traces.
-#[derive(Clone, Copy, Debug, Drop, Error, PartialEq, Eq)]
-pub(crate) enum FolderFault {
-    /// It has no name.
-    #[error("the folder for the traces has no name")]
-    Unnamed,
-    /// It is not there, or none can be made in it.
-    #[error("no folder for the traces can be made")]
-    Unmade,
-    /// Who owns it could have traces written elsewhere.
-    #[error("the folder for the traces belongs to another user")]
-    Foreign,
+/// What came of a part that was to be written.
+#[derive(Debug, Drop)]
+pub enum Stored {
+    /// It has no entries, so it needs no file.
+    Needless,
+    /// Its file is there.
+    There {
+        /// The file's name.
+        name: String,
+        /// What the sum of the topic's next file is to bind.
+        next: Chain,
+        /// Whether its name is synced too, where that is wanted.
+        is_synced: bool,
+    },
+    /// There is no file of it.
+    Missing,
 }
 
 /// Where the traces of parts are written: a runtime with files. Threads have it by this bound, since one on files has types of its
 /// own and cannot be taken to another thread.
 pub trait Store {
-    /// Writes the trace of a part of this topic to a file of this folder, under the name of such a part, and says whether it is there.
-    /// A part without entries needs no file.
-    fn store(&self, alloc: Global, folder: &str, topic: &Name, part: &TopicSegment) -> bool;
+    /// Writes the trace of a part of this topic to a file of this folder, under the name of such a part, and says what came of it. Its
+    /// sum binds what the chain says, and is that of the file as it can be read again.
+    fn store(
+        &self,
+        alloc: Global,
+        folder: &Folder<'_>,
+        topic: &Name,
+        part: &TopicSegment,
+        chain: Chain,
+    ) -> Stored;
 }
 
 impl Store for HostRuntime {
-    fn store(&self, alloc: Global, folder: &str, topic: &Name, part: &TopicSegment) -> bool {
-        write_part(self, alloc, folder, topic, part)
+    fn store(
+        &self,
+        alloc: Global,
+        folder: &Folder<'_>,
+        topic: &Name,
+        part: &TopicSegment,
+        chain: Chain,
+    ) -> Stored {
+        write_part(self, alloc, folder, topic, part, chain)
     }
 }
 
-/// Where parts go, and what people were told of those that are missing.
+/// Where parts go, and what people were told of them.
 #[derive(Drop)]
 pub(crate) struct Keeper<'a> {
     // The folder of this start; without one they are let go.
-    folder: Option<&'a str>,
+    pub(crate) folder: Option<Folder<'a>>,
+    pub(crate) anchors: Anchors,
     has_failed: AtomicBool,
     has_lost: AtomicBool,
-}
-
-// A folder that nobody but the user who serves may enter. It is made with those that it is below, where they are not there.
-fn private_folders() -> DirBuilder {
-    let mut how = DirBuilder::new();
-    how.recursive(true).mode(FOLDER_MODE);
-    how
-}
-
-// Whether it belongs to the user who serves: nobody else can put something else in the place of what is in it.
-fn is_own_folder<R: Files>(rt: &R, dir: &str) -> Result<(), FolderFault> {
-    match fs::metadata(rt, dir) {
-        Ok(found) if is_own(&found) => Ok(()),
-        Ok(_) => Err(FolderFault::Foreign),
-        Err(_) => Err(FolderFault::Unmade),
-    }
-}
-
-// A folder of its own for this start, below the one that is named: its name is the time, in seconds since 1970.
-fn folder_of_start<R: Files + Clock>(rt: &R, alloc: Global, dir: &str) -> Option<String> {
-    let since = SystemTime::now(rt).ok()?.duration_since(UNIX_EPOCH).ok()?;
-    let mut how = DirBuilder::new();
-    how.mode(FOLDER_MODE);
-    for later in 0..TRIES {
-        let seconds = since.as_secs().saturating_add(later);
-        let name = format!(in alloc; "{dir}/{seconds}").ok()?;
-        match how.create(rt, name.as_str()) {
-            Ok(()) => return Some(name),
-            Err(e) if e.kind() == ErrorKind::AlreadyExists => {}
-            Err(_) => return None,
-        }
-    }
-    None
-}
-
-// The same, where the one that is named may be used.
-fn folder_at<R: Files + Clock>(rt: &R, alloc: Global, dir: &str) -> Result<String, FolderFault> {
-    if private_folders().create(rt, dir).is_err() {
-        return Err(FolderFault::Unmade);
-    }
-    is_own_folder(rt, dir)?;
-    match folder_of_start(rt, alloc, dir) {
-        Some(name) => Ok(name),
-        None => Err(FolderFault::Unmade),
-    }
-}
-
-/// Whether a folder is wanted and has no name.
-pub(crate) fn is_unnamed(dir: Option<&str>) -> bool
-    ensures unwanted { dir.entry ≡ None → result ≡ false }
-{
-    match dir {
-        None => false,
-        Some(dir) => dir.is_empty(),
-    }
-}
-
-/// The folder of this start below the one that is named, if one is; or why it could not be made.
-pub(crate) fn folder<R: Files + Clock>(
-    rt: &R,
-    alloc: Global,
-    dir: Option<&str>,
-) -> Result<Option<String>, FolderFault> {
-    match dir {
-        None => Ok(None),
-        Some(dir) => match folder_at(rt, alloc, dir) {
-            Ok(folder) => Ok(Some(folder)),
-            Err(fault) => Err(fault),
-        },
-    }
 }
 
 // The next part of a topic of this kind. It waits until there is one, or none is to come.
@@ -146,66 +89,115 @@ fn next_part<R: Wait>(rt: &R, histories: &Histories, kind: Kind) -> Option<Part>
 // Makes a file that nobody but the user who serves may read, where nothing stands yet.
 fn create<R: Files>(rt: &R, path: &str) -> Option<R::File> {
     let mut how = OpenOptions::new();
-    how.write(true).create_new(true).mode(FILE_MODE);
+    how.read(true).write(true).create_new(true).mode(MODE);
     how.open(rt, path).ok()
 }
 
-// Writes a part to a new file of this name, which has the other one until it is whole.
+// Reads a file again from its beginning.
+fn read_again<F: Read + Seek>(file: &mut F, chain: Chain) -> Chain {
+    if chain == Chain::Loose || file.seek(SeekFrom::Start(0)).is_err() {
+        return Chain::Loose;
+    }
+    chain.after(file)
+}
+
+// Writes a part to this file, and has it on the disk where that is wanted; and what the next file's sum is to bind. `None` where it is
+// not all there.
+fn fill<F: Read + Write + Seek + OpenFile + Drop>(
+    alloc: Global,
+    file: F,
+    syncs: bool,
+    part: &TopicSegment,
+    chain: Chain,
+) -> Option<Chain> {
+    let mut writer = Counted::new(file);
+    if !put_trace(alloc, part, &mut writer) {
+        return None;
+    }
+    let mut file = writer.into_device();
+    if syncs && file.sync_all().is_err() {
+        return None;
+    }
+    Some(read_again(&mut file, chain))
+}
+
+// Writes a part to a new file of this name, which has the other one until it is whole; and what the next file's sum is to bind.
 fn write_file<R: Files>(
     rt: &R,
     alloc: Global,
     path: &str,
-    unfinished: &str,
+    syncs: bool,
     part: &TopicSegment,
-) -> bool {
-    let Some(file) = create(rt, unfinished) else {
-        return false;
-    };
-    if put_trace(alloc, part, &mut Counted::new(file)) && fs::rename(rt, unfinished, path).is_ok() {
-        return true;
+    chain: Chain,
+) -> Option<Chain> {
+    let unfinished = format!(in alloc; "{path}.part").ok()?;
+    let unfinished = unfinished.as_str();
+    let file = create(rt, unfinished)?;
+    match fill(alloc, file, syncs, part, chain) {
+        Some(next) if fs::rename(rt, unfinished, path).is_ok() => Some(next),
+        _ => {
+            let _ = fs::remove_file(rt, unfinished);
+            None
+        }
     }
-    let _ = fs::remove_file(rt, unfinished);
-    false
 }
 
 // Writes a part to a file of this folder. It has its name once it is whole, and until then a name that ends otherwise.
 fn write_part<R: Files>(
     rt: &R,
     alloc: Global,
-    folder: &str,
+    folder: &Folder<'_>,
     topic: &Name,
     part: &TopicSegment,
-) -> bool {
+    chain: Chain,
+) -> Stored {
     if entries_of(part) == 0 {
-        return true;
+        return Stored::Needless;
     }
     let Ok(name) = file_of(alloc, topic, part) else {
-        return false;
+        return Stored::Missing;
     };
-    let name = name.as_str();
-    let Ok(path) = format!(in alloc; "{folder}/{name}") else {
-        return false;
+    let Folder { path: at, syncs } = *folder;
+    let Ok(path) = format!(in alloc; "{at}/{name}") else {
+        return Stored::Missing;
     };
-    let Ok(unfinished) = format!(in alloc; "{folder}/{name}.part") else {
-        return false;
-    };
-    write_file(rt, alloc, path.as_str(), unfinished.as_str(), part)
+    match write_file(rt, alloc, path.as_str(), syncs, part, chain) {
+        Some(next) => Stored::There {
+            name,
+            next,
+            is_synced: !syncs || sync(rt, at),
+        },
+        None => Stored::Missing,
+    }
 }
 
 impl<'a> Keeper<'a> {
-    /// Of parts that go to files of this folder, or nowhere.
-    pub(crate) fn new(folder: Option<&'a str>) -> Keeper<'a> {
-        Keeper {
+    /// Of parts that go to files of this folder, or nowhere; and whether people are told of the files.
+    pub(crate) fn new(
+        alloc: Global,
+        folder: Option<Folder<'a>>,
+        anchors: bool,
+    ) -> Result<Keeper<'a>, AllocError> {
+        Ok(Keeper {
             folder,
+            anchors: Anchors::new(alloc, anchors)?,
             has_failed: AtomicBool::new(false),
             has_lost: AtomicBool::new(false),
+        })
+    }
+
+    // The folder's path, for people.
+    fn place(&self) -> &'a str {
+        match self.folder {
+            Some(folder) => folder.path,
+            None => "",
         }
     }
 
     /// Says once that parts are missing.
     pub(crate) fn say_failed<R: Eprint>(&self, rt: &R) {
         if !self.has_failed.swap(true, Ordering::Relaxed) {
-            let folder = self.folder.unwrap_or("");
+            let folder = self.place();
             let _ = eprintln!(rt;
                 "topichub: {folder}: a trace could not be written; the server goes on"
             );
@@ -214,9 +206,10 @@ impl<'a> Keeper<'a> {
 
     // The same, where they came faster than they were written.
     fn say_lost<R: Eprint + Wait>(&self, rt: &R, histories: &Histories) {
-        let Some(folder) = self.folder else {
+        if self.folder.is_none() {
             return;
-        };
+        }
+        let folder = self.place();
         if histories.lost(rt) > 0 && !self.has_lost.swap(true, Ordering::Relaxed) {
             let _ = eprintln!(rt;
                 "topichub: {folder}: traces are left out, since they come faster than they are written"
@@ -225,8 +218,14 @@ impl<'a> Keeper<'a> {
     }
 
     // Keeps a part of a topic whose name may be unknown for want of memory, or tells that it is missing.
-    fn keep<R: Eprint + Store>(&self, rt: &R, alloc: Global, topic: Option<Name>, part: Part) {
-        if let Some(missing) = part.store(rt, alloc, self.folder, topic.as_ref()) {
+    fn keep<R: Wait + Eprint + Store>(
+        &self,
+        rt: &R,
+        alloc: Global,
+        topic: Option<Name>,
+        part: Part,
+    ) {
+        if let Some(missing) = part.store(rt, alloc, self, topic.as_ref()) {
             missing.tell(rt, self);
         }
     }

@@ -10,6 +10,7 @@ use std::fs::File;
 use std::io::{Eprint, Print};
 use std::net::Net;
 use std::os::unix::net::UnixListener;
+use std::random::RandomSource;
 use std::rt::Files;
 use std::sync::Wait;
 use std::thread::Threads;
@@ -50,7 +51,7 @@ fn sessions_of<R: Wait + Clone>(
 }
 
 // Serves so many connections of the listener, and says when clients can connect.
-fn attend<R: Threads + Wait + Clock + Clone + Send + Sync + Print + Eprint>(
+fn attend<R: Threads + Wait + Clock + RandomSource + Clone + Send + Sync + Print + Eprint>(
     rt: &R,
     alloc: Global,
     listener: &UnixListener,
@@ -93,7 +94,17 @@ fn say_done<R: Print>(rt: &R, ended: Vec<Attended>) -> Result<Vec<Attended>, End
 /// Makes a socket at the path, serves so many connections, and removes the socket. The sessions, once all of them have ended; or what
 /// ended the server. Where something stands at the path already it stays, and nobody is served. Where it could not be made, why.
 pub fn serve<
-    R: Threads + Wait + Clock + Clone + Send + Sync + Print + Eprint + Files<File = File> + Net,
+    R: Threads
+        + Wait
+        + Clock
+        + RandomSource
+        + Clone
+        + Send
+        + Sync
+        + Print
+        + Eprint
+        + Files<File = File>
+        + Net,
 >(
     rt: &R,
     alloc: Global,

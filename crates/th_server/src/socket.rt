@@ -1,8 +1,8 @@
 //! The socket of a server.
+use crate::folders::FolderFault;
 use crate::lock;
 use crate::lock::{Lock, LockFault};
 use crate::node::Node;
-use crate::parts::FolderFault;
 use crate::streams::open_closed;
 use os::FromRawFd;
 use std::alloc::Global;
@@ -74,6 +74,9 @@ pub(crate) enum SocketFault {
     /// There is a socket, and no folder for traces.
     #[error("{0}")]
     Traces(FolderFault),
+    /// The bytes that it may take are too few for its sessions.
+    #[error("so many sessions at once need --memory-bytes {0} at least")]
+    Bytes(u64),
     /// There was no memory.
     #[error("no memory")]
     Short,

@@ -14,6 +14,7 @@ use std::alloc::{AllocError, Global};
 use std::fs::File;
 use std::io::{Eprint, Input, Print};
 use std::net::Net;
+use std::random::RandomSource;
 use std::rt::Files;
 use std::sync::Wait;
 use std::thread::Threads;
@@ -80,6 +81,7 @@ fn serve_asked<
     R: Threads
         + Wait
         + Clock
+        + RandomSource
         + Clone
         + Send
         + Sync
@@ -126,6 +128,7 @@ pub fn serve_by_words<
     R: Threads
         + Wait
         + Clock
+        + RandomSource
         + Clone
         + Send
         + Sync

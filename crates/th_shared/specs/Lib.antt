@@ -7,6 +7,8 @@ pub mod Limits
 pub mod Numbers
 pub mod OwnSender
 pub mod Reasons
+pub mod Room
 pub mod Rows
 pub mod Saying
+pub mod Segments
 pub mod InRow

@@ -9,15 +9,19 @@ use crate::ended::{Ended, ends, take_topics};
 use crate::handles::{TopicReceiver, TopicSender};
 use crate::histories::{Histories, divide};
 use crate::registry::{ask, bind, end, find, name_of, open, subscribe};
+use crate::room::Room;
 use crate::rows::Rooms;
+use crate::segments::entries_of;
 use crate::shared_topics::SharedTopics;
 use crate::shares::Shares;
 use crate::topic_cache::TopicCache;
 use crate::{rows, sending, told};
 use std::alloc::Global;
 use std::collections::VecDeque;
+use std::hash::RandomState;
 use std::marker::Model;
 use std::mem::replace;
+use std::random::RandomSource;
 use std::sync::{Arc, Wait};
 use std::time::{Clock, Duration};
 use th_model::{
@@ -68,16 +72,18 @@ impl<R: Wait + Clone> Model for SharedDesk<R> {
 }
 
 impl<R: Wait + Clone> SharedDesk<R> {
-    /// The first owner of topics, of which there are none yet, that waits by `rt`.
+    /// The first owner of topics, of which there are none yet, that waits by `rt`. There is as much room for them as memory gives.
     ///
     /// # Errors
     ///
-    /// There was no memory.
+    /// There was no memory, or `rt` gave no random keys to hash the topics' names with.
     pub fn new(rt: R, alloc: Global) -> Result<SharedDesk<R>, Short<()>>
+    where
+        R: RandomSource,
         ensures rolls { IfOk result (λ desk. desk.rolls ≡ false) }
         ensures keeps { IfOk result (λ desk. (desk.keeps ≡ true) × (desk.spent ≡ [])) }
     {
-        SharedDesk::opening(rt, alloc, None)
+        SharedDesk::opening(rt, alloc, None, Room::unbounded())
     }
 
     /// The same of topics that cut their histories by themselves, so that none of them is full before 2^63 - 131,071 events, from
@@ -85,14 +91,24 @@ impl<R: Wait + Clone> SharedDesk<R> {
     /// session was answered as a trace. The desks keep no shares: that of a handle that is spent goes back to its topic, which
     /// keeps all of them as one.
     ///
+    /// A topic for which there is no room is refused as for want of memory, and so is a `TRACE`: one needs the room of a history as
+    /// long as any may be, and keeps that of its entries until they are told.
+    ///
     /// # Errors
     ///
-    /// There was no memory.
-    pub fn rolling(rt: R, alloc: Global, histories: Histories) -> Result<SharedDesk<R>, Short<()>>
+    /// There was no memory, or `rt` gave no random keys to hash the topics' names with.
+    pub fn rolling(
+        rt: R,
+        alloc: Global,
+        histories: Histories,
+        room: Room,
+    ) -> Result<SharedDesk<R>, Short<()>>
+    where
+        R: RandomSource,
         ensures rolls { IfOk result (λ desk. desk.rolls ≡ true) }
         ensures keeps { IfOk result (λ desk. (desk.keeps ≡ false) × (desk.spent ≡ [])) }
     {
-        SharedDesk::opening(rt, alloc, Some(histories))
+        SharedDesk::opening(rt, alloc, Some(histories), room)
     }
 
     // The first owner of topics with such histories.
@@ -100,13 +116,19 @@ impl<R: Wait + Clone> SharedDesk<R> {
         rt: R,
         alloc: Global,
         histories: Option<Histories>,
+        room: Room,
     ) -> Result<SharedDesk<R>, Short<()>>
+    where
+        R: RandomSource,
         ensures rolls { IfOk result (λ desk. desk.rolls ≡ is_some histories) }
         ensures keeps { IfOk result (λ desk.
             (desk.keeps ≡ not (is_some histories)) × (desk.spent ≡ [])) }
     {
         let keeps = histories.is_none();
-        match Arc::new(alloc, SharedTopics::new(alloc, histories)?) {
+        let Ok(keys) = RandomState::new(&rt) else {
+            return Err(Short { call: () });
+        };
+        match Arc::new(alloc, SharedTopics::new(alloc, histories, keys, room)?) {
             Ok(hub) => Ok(SharedDesk::owning(rt, alloc, hub, keeps)),
             Err(_) => Err(Short { call: () }),
         }
@@ -487,6 +509,7 @@ impl<R: Wait + Clock + Clone> Desk for SharedDesk<R> {
     }
 
     fn give_back(&mut self, _topic: TopicId, segment: TopicSegment) {
+        self.hub.end_telling(&self.rt, entries_of(&segment));
         if let Some(histories) = &self.hub.histories {
             histories.put(&self.rt, segment);
         }

@@ -130,7 +130,7 @@ pub(crate) fn take_topics(
     let Ok(list) = Vec::with_capacity(alloc, topics.len()) else {
         return None;
     };
-    Some((replace(topics, Topics::new(alloc, topics.rolls())), list))
+    Some((topics.take(alloc), list))
 }
 
 /// What is left of each topic, in order of opening, in this list, which has room for it.

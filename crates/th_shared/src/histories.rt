@@ -6,8 +6,12 @@ use crate::registry::Topics;
 use std::alloc::{AllocError, Global};
 use std::sync::{Arc, Wait};
 use th_block::Cuts;
-use th_registry::Channel;
 use th_registry::channel::{HubBroadcast, HubWatch, TopicSegment};
+use th_registry::{Channel, MOST_IN_ROW};
+
+/// By so many entries a history may be longer than from where on it is cut: at most 64 events are carried out together, and these are
+/// not parted.
+pub const TOGETHER: u64 = MOST_IN_ROW as u64 - 1;
 
 /// Histories that go on: each topic's is cut by the call that finds it long, and the parts go to a queue for each kind of channel.
 #[derive(Drop)]
@@ -34,6 +38,11 @@ impl Histories {
             broadcast: Arc::new(alloc, Cuts::new(alloc, memory / 2))?,
             watch: Arc::new(alloc, Cuts::new(alloc, memory / 2))?,
         })
+    }
+
+    /// How many entries a topic's segment has at most.
+    pub(crate) fn longest(&self) -> u64 {
+        self.most.min(self.memory).saturating_add(TOGETHER)
     }
 
     /// Keeps a part that somebody else has cut.

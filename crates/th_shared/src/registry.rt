@@ -16,13 +16,16 @@ ghost use Rattle.th_shared.specs.Saying.{MaySay};
 
 use crate::handles::{TopicOwner, TopicReceiver, TopicSender};
 use crate::histories::Histories;
+use crate::room::Room;
 use crate::said::{broadcast_receivers, broadcast_senders, watch_receivers, watch_senders};
 use crate::shares::Shares;
 use crate::told::{broadcast_told, watch_told};
 use crate::topic::{AnyTopic, Topic};
 use indexmap::IndexMap;
 use std::alloc::Global;
+use std::hash::RandomState;
 use std::marker::Model;
+use std::mem::replace;
 use std::sync::{Arc, Wait};
 use th_block::{broadcast_at, rolling_broadcast_at, rolling_watch, watch};
 use th_log::MOST_ENTRIES;
@@ -30,8 +33,8 @@ use th_model::{Capacity, Listing, Making, Name, NameRef, Question, Short, Start,
 use th_registry::channel::{HubBroadcast, HubWatch, TopicReceipt};
 use th_registry::{Channel, Found, MOST_TOPICS, Made, NoEvent, Refusal, TopicId, topics};
 
-/// Topics by their names.
-pub(crate) type TopicRows = IndexMap<Name, AnyTopic>;
+/// Topics by their names, which clients choose: no client can find names that meet in the map, since its keys are random.
+pub(crate) type TopicRows = IndexMap<Name, AnyTopic, RandomState>;
 
 /// At most 1,024 topics by their names, in order of opening. The share of each topic's own sender has the topic's key, which is its
 /// number, counted from 1.
@@ -40,6 +43,8 @@ pub(crate) struct Topics {
     rows: TopicRows,
     // Whether their channels cut their logs by themselves. It never changes.
     rolls: bool,
+    // What there is room for beside what they hold.
+    room: Room,
 }
 
 impl Model for Topics {
@@ -53,14 +58,26 @@ impl Model for Topics {
 }
 
 impl Topics {
-    /// None, of channels that are to cut their logs by themselves, or not to.
-    pub(crate) fn new(alloc: Global, rolls: bool) -> Topics
+    /// None, of channels that are to cut their logs by themselves, or not to. Their names are hashed with these keys, and they may
+    /// hold what there is room for.
+    pub(crate) fn new(alloc: Global, rolls: bool, keys: RandomState, room: Room) -> Topics
         ensures { result ≡ record { entries = []; rolls = rolls } }
     {
         Topics {
-            rows: IndexMap::new(alloc),
+            rows: IndexMap::with_hasher(alloc, keys),
             rolls,
+            room,
         }
+    }
+
+    /// All of them. None are left, and no more can be opened.
+    pub(crate) fn take(&mut self, alloc: Global) -> Topics
+        ensures taken { result ≡ self.old }
+        ensures left { self.new ≡ record self.old { entries = [] } }
+    {
+        let keys = *self.rows.hasher();
+        let none = Topics::new(alloc, self.rolls, keys, Room::none());
+        replace(self, none)
     }
 
     /// Whether their channels cut their logs by themselves.
@@ -105,8 +122,23 @@ impl Topics {
         self.rows
     }
 
-    // One more at the end, under a name that is not there; memory may be refused for it, and then nothing has changed.
-    fn add(&mut self, name: Name, topic: AnyTopic) -> Result<(), Refusal>
+    /// Whether there is room to tell a trace of so many entries. The room is taken then.
+    pub(crate) fn begin_telling(&mut self, entries: u64) -> bool
+        ensures { self.new ≡ self.old }
+    {
+        self.room.take_entries(entries)
+    }
+
+    /// So many of these entries are told no longer.
+    pub(crate) fn end_telling(&mut self, entries: u64)
+        ensures { self.new ≡ self.old }
+    {
+        self.room.give_entries(entries);
+    }
+
+    // One more at the end that holds so many values at most, under a name that is not there; memory may be refused for it, and then
+    // nothing has changed.
+    fn add(&mut self, name: Name, topic: AnyTopic, values: u64) -> Result<(), Refusal>
         requires absent { is_some (find self.old.entries name) ≡ false }
         requires key { own_key topic ≡ Some (length self.old.entries + 1) }
         requires rolls { own_rolls topic ≡ self.old.rolls }
@@ -115,7 +147,10 @@ impl Topics {
         ensures err { IfErr result (λ why. (why ≡ Refusal.Short) × (self.new ≡ self.old)) }
     {
         match self.rows.insert(name, topic) {
-            Ok(_) => Ok(()),
+            Ok(_) => {
+                self.room.take_topic(values);
+                Ok(())
+            }
             Err(_) => Err(Refusal::Short),
         }
     }
@@ -134,9 +169,9 @@ pub(crate) fn find(topics: &Topics, name: &NameRef<'_>) -> Option<Found>
     }
 }
 
-// A topic with a new broadcast channel, if there is memory for it. Where there are histories, it cuts its own by itself.
+// A topic with a new broadcast channel, if there is room and memory for it. Where there are histories, it cuts its own by itself.
 fn broadcast_topic(
-    alloc: Global,
+    topics: &Topics,
     histories: Option<&Histories>,
     capacity: Capacity,
     base: u64,
@@ -145,6 +180,10 @@ fn broadcast_topic(
     ensures share { IfSome result (λ topic. own_share topic ≡ Some (unused key)) }
     ensures rolls { IfSome result (λ topic. topic.rolls ≡ is_some histories.entry) }
 {
+    if !topics.room.has_topic(capacity.in_force()) {
+        return None;
+    }
+    let alloc = topics.allocator();
     match histories {
         None => match broadcast_at::<Value>(alloc, capacity, base, MOST_ENTRIES, key) {
             Ok(sender) => Topic::new(sender),
@@ -162,7 +201,7 @@ fn broadcast_topic(
 
 // The same with a watch channel.
 fn watch_topic(
-    alloc: Global,
+    topics: &Topics,
     histories: Option<&Histories>,
     value: Value,
     key: u64,
@@ -170,6 +209,10 @@ fn watch_topic(
     ensures share { IfSome result (λ topic. own_share topic ≡ Some (unused key)) }
     ensures rolls { IfSome result (λ topic. topic.rolls ≡ is_some histories.entry) }
 {
+    if !topics.room.has_topic(1) {
+        return None;
+    }
+    let alloc = topics.allocator();
     match histories {
         None => match watch::<Value>(alloc, value, MOST_ENTRIES, key) {
             Ok(sender) => Topic::new(sender),
@@ -205,14 +248,14 @@ fn open_broadcast(
         return Err(Refusal::TooManyTopics);
     }
     let key = topics.len() as u64 + 1;
-    let alloc = topics.allocator();
-    let Some(topic) = broadcast_topic(alloc, histories, capacity, base, key) else {
+    let Some(topic) = broadcast_topic(&*topics, histories, capacity, base, key) else {
         return Err(Refusal::Short);
     };
-    let Ok(()) = topics.add(name, Channel::Broadcast(topic)) else {
+    let in_force = capacity.in_force();
+    let Ok(()) = topics.add(name, Channel::Broadcast(topic), in_force) else {
         return Err(Refusal::Short);
     };
-    Ok(capacity.in_force())
+    Ok(in_force)
 }
 
 // The same of a watch topic, for which 1 is told.
@@ -230,11 +273,10 @@ fn open_watch(
         return Err(Refusal::TooManyTopics);
     }
     let key = topics.len() as u64 + 1;
-    let alloc = topics.allocator();
-    let Some(topic) = watch_topic(alloc, histories, value, key) else {
+    let Some(topic) = watch_topic(&*topics, histories, value, key) else {
         return Err(Refusal::Short);
     };
-    let Ok(()) = topics.add(name, Channel::Watch(topic)) else {
+    let Ok(()) = topics.add(name, Channel::Watch(topic), 1) else {
         return Err(Refusal::Short);
     };
     Ok(1)

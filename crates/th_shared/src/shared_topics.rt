@@ -7,8 +7,12 @@ ghost use Rattle.th_shared.specs.Saying.{MaySay};
 use crate::cut::cut;
 use crate::histories::Histories;
 use crate::registry::{Topics, another_owner};
+use crate::room::Room;
+use crate::segments::entries_of;
 use std::alloc::Global;
+use std::hash::RandomState;
 use std::sync::{Mutex, MutexGuard, Wait};
+use th_log::MOST_ENTRIES;
 use th_model::Short;
 use th_registry::channel::TopicSegment;
 use th_registry::{NoEvent, TopicId};
@@ -23,17 +27,19 @@ pub(crate) struct SharedTopics {
 }
 
 impl SharedTopics {
-    /// No topics yet.
+    /// No topics yet. Their names are hashed with these keys, and there is this room for them.
     pub(crate) fn new(
         alloc: Global,
         histories: Option<Histories>,
+        keys: RandomState,
+        room: Room,
     ) -> Result<SharedTopics, Short<()>>
         ensures { IfOk result (λ hub. hub.histories ≡ histories) }
     {
         let rolls = histories.is_some();
         match Box::new(alloc, 0) {
             Ok(seal) => Ok(SharedTopics {
-                topics: Mutex::new(Topics::new(alloc, rolls)),
+                topics: Mutex::new(Topics::new(alloc, rolls, keys, room)),
                 histories,
                 seal,
             }),
@@ -55,17 +61,44 @@ impl SharedTopics {
         }
     }
 
-    /// The topic's segment so far. The topics' lock is let go before the channel's is taken.
+    // How many entries a topic's segment has at most.
+    fn longest(&self) -> u64 {
+        match &self.histories {
+            Some(histories) => histories.longest(),
+            None => MOST_ENTRIES,
+        }
+    }
+
+    /// The topic's segment so far, which has its room until it is told. The topics' lock is let go before the channel's is taken.
     pub(crate) fn cut<R: Wait>(&self, rt: &R, topic: TopicId) -> Result<TopicSegment, NoEvent>
         ensures { MaySay (Cut topic.0) result }
     {
+        let longest = self.longest();
         let owner = {
-            let topics = self.topics.lock(rt);
-            another_owner(&*topics, topic)
+            let mut topics = self.topics.lock(rt);
+            let owner = another_owner(&*topics, topic);
+            if owner.is_ok() && !topics.begin_telling(longest) {
+                return Err(NoEvent::Short);
+            }
+            owner
         };
         match owner {
-            Ok(owner) => cut(rt, &owner, topic),
+            Ok(owner) => {
+                let segment = cut(rt, &owner, topic);
+                let entries = match &segment {
+                    Ok(segment) => entries_of(segment),
+                    Err(_) => 0,
+                };
+                self.end_telling(rt, longest.saturating_sub(entries));
+                segment
+            }
             Err(why) => Err(why),
         }
+    }
+
+    /// So many entries of segments that were cut are told.
+    pub(crate) fn end_telling<R: Wait>(&self, rt: &R, entries: u64) {
+        let mut topics = self.topics.lock(rt);
+        topics.end_telling(entries);
     }
 }

@@ -10,6 +10,7 @@ use crate::observer::Observer;
 use crate::terms::Terms;
 use std::alloc::Global;
 use std::os::unix::net::{UnixListener, UnixStream};
+use std::random::RandomSource;
 use std::sync::Wait;
 use std::thread;
 use std::thread::{Promise, PromisedHandle, Scope, Threads};
@@ -200,10 +201,10 @@ fn serve_all<
 ///
 /// # Errors
 ///
-/// A connection could not be accepted, a thread could not be started, or there was no memory. No further connection is
-/// accepted then, and those that began are served to their ends.
+/// A connection could not be accepted, a thread could not be started, there was no memory, or the system gave no random keys. No
+/// further connection is accepted then, and those that began are served to their ends.
 pub fn serve_on<
-    R: Threads + Wait + Clock + Clone + Send + Sync,
+    R: Threads + Wait + Clock + RandomSource + Clone + Send + Sync,
     G: Gate + Sync,
     O: Observer + Sync,
 >(

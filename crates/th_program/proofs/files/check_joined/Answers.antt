@@ -2,15 +2,14 @@ use Rattle.std.proofs.Common.{Global, String, None, arith, ℕ, ◌+◌, List, [
 use Rattle.std.specs.Prelude.{IfOk, Ok, Err, Result}
 use Rattle.th_lines.specs.Tally.{Tally}
 use Rattle.th_check.specs.declared.fault.CheckFault.{CheckFault}
-use Rattle.th_traces.specs.declared.picture.Picture.{Picture}
+use Rattle.th_check.specs.Joined.{Reach}
 use Rattle.th_check.specs.declared.parts.Joined.{Joined}
 use Rattle.th_check.specs.declared.parts.Joined.TheVariants.{Apart}
 use Rattle.th_program.specs.PartNames.{GoesOn}
-use Rattle.std.specs.Io.KnownBytes.{Appends}
 use Rattle.std.proofs.lemmas.List.{take_all}
-use Rattle.th_program.specs.Files.{IsNext, TellsBroken, joined_line, place_of}
+use Rattle.th_program.specs.Files.{IsNext, TellsBroken, TellsHistory, place_of}
 use Rattle.th_program.proofs.Placing.{place_low, place_room}
-use Rattle.th_program.proofs.Telling.{UpTo, ends_broken, ends_misplaced, goes_on, history_more, never_on, no_history, one_more, split_at}
+use Rattle.th_program.proofs.Telling.{UpTo, ends_broken, ends_misplaced, ends_told, goes_on, history_more, never_on, no_history, one_more, split_at}
 use Rattle.th_program.proofs.files.check_joined.Goals as goal
 
 pub returns-in_default : goal.returns-in_default
@@ -29,7 +28,7 @@ returns-in_default g c =
     let same = ap (λ (o : Tally g.row.W.Denot). g.W.Write.contents o.device) c.loop-name.invariant.same in
     let tells = subst (λ (o : Option (List ℕ)). TellsBroken name said o after ends) same
     (subst (λ (n : List ℕ). TellsBroken n said mid after ends) c.as_str-in_default.ensures.value c.tell_broken.ensures) in
-    ends_broken holds (map string_bytes names) (map string_bytes (take i names)) (map string_bytes (drop (i + 1) names)) name
+    ends_broken holds c.args.whole (map string_bytes names) (map string_bytes (take i names)) (map string_bytes (drop (i + 1) names)) name
     (split_at string_bytes names i c.name-item.result c.loop-name-test.true c.name-item.is) c.loop-name.count c.loop-name.history
     there c.loop-name.place c.loop-name.invariant.up _ after said next (never_on said (sym c.in_default.ensures)) ends tells
 
@@ -64,7 +63,7 @@ loop-name-preserved g c =
 
 pub loop-name-init : goal.loop-name-init
 loop-name-init g c = record {
-  up = subst (λ (o : Option Picture). UpTo (g.O.Opens.holds c.args.files.now) [] 0 o None) (sym c.new-history.ensures)
+  up = subst (λ (o : Option Reach). UpTo (g.O.Opens.holds c.args.files.now) [] 0 o None) (sym c.new-history.ensures)
       (no_history (g.O.Opens.holds c.args.files.now));
   same = refl;
 }
@@ -97,12 +96,12 @@ returns-in_default-placed g c =
     let tells = subst (λ (o : Option (List ℕ)). TellsBroken name apart o after ends) same
     (subst (λ (n : List ℕ). TellsBroken n apart mid after ends) c.as_str-in_default-placed.ensures.value
     c.tell_broken-in_default-placed.ensures) in
-    ends_misplaced holds (map string_bytes names) (map string_bytes (take i names)) (map string_bytes (drop (i + 1) names)) name
+    ends_misplaced holds c.args.whole (map string_bytes names) (map string_bytes (take i names)) (map string_bytes (drop (i + 1) names)) name
     (split_at string_bytes names i c.name-item.result c.loop-name-test.true c.name-item.is) count c.loop-name.history there place up
     _ after more e legal goes ends tells
 
-pub returns-then-write_joined : goal.returns-then-write_joined
-returns-then-write_joined g c =
+pub returns : goal.returns
+returns g c =
     let holds = g.O.Opens.holds c.args.files.now in
     let names = c.args.names.now in
     let place = c.loop-name.place in
@@ -111,11 +110,9 @@ returns-then-write_joined g c =
     let whole = take_all c.loop-name.name-index names (omega (arith, c.loop-name-test.false)) in
     let up = subst (λ (l : List (String Global)). UpTo holds (map string_bytes l) count there place) whole c.loop-name.invariant.up in
     let same = ap (λ (o : Tally g.row.W.Denot). g.W.Write.contents o.device) c.loop-name.invariant.same in
-    let told = c.if-write_joined.ensures refl (place_room up.history.files count place up.history.placed up.counted) in (
-      count,
-      there,
-      place_of place,
-      up.history,
-      subst (λ (o : Option (List ℕ)). Appends o (g.W.Write.contents c.write_joined.new.output.device) (joined_line count (place_of place)))
-          same told,
-    )
+    let after = g.W.Write.contents c.tell_history.new.output.device in
+    let tells = subst (λ (o : Option (List ℕ)).
+    TellsHistory (map string_bytes names) count (place_of place) c.lack_if-lack.result o after c.tell_history.result) same
+    (c.tell_history.ensures (place_room up.history.files count place up.history.placed up.counted)) in
+    ends_told holds c.args.whole (map string_bytes names) count there (place_of place) up.history _ after c.lack_if-lack.result
+    c.lack_if-lack.ensures c.tell_history.result tells

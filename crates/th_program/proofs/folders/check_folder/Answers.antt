@@ -10,5 +10,5 @@ loop-at-preserved g c =
     let before = g.W.Write.contents c.args.output.now.device in
     let mid = g.W.Write.contents c.loop-at.output.device in
     let after = g.W.Write.contents c.check_joined-one.new.output.device in
-    subst (λ (e : End). EndsFolder holds before after e) (sym c.worse-end.ensures)
-    (folder_more holds _ c.loop-at.end c.check_joined-one.result before mid after c.loop-at.invariant c.check_joined-one.ensures)
+    subst (λ (e : End). EndsFolder holds c.args.whole before after e) (sym c.worse-end.ensures)
+    (folder_more holds c.args.whole _ c.loop-at.end c.check_joined-one.result before mid after c.loop-at.invariant c.check_joined-one.ensures)

@@ -1,5 +1,6 @@
 use Rattle.std.proofs.Common.{◌≡◌, ◌+◌, ◌-◌, ◌<◌, length, drop, slice_get, ap, ◌∙◌, arith}
-use Rattle.std.proofs.lemmas.List.{length-set, length-drop, drop-drop}
+use Rattle.std.proofs.lemmas.List.{length-set, length-drop, drop-drop, get_or_default}
+use Rattle.th_model.specs.Places.{to_come}
 use Rattle.th_model.proofs.WindowLemmas.{slice_get-drop}
 use Rattle.th_ring.specs.Ring.{filled_slot}
 use Rattle.th_ring.proofs.Values.{first-popped}
@@ -17,7 +18,11 @@ loop-i-preserved g c =
     first-popped c.pop_front-value.result c.loop-i.kept.items c.pop_front-value.new.self.items some
     (λ h. c.pop_front-value.ensures.variant.1 (omega (arith, h, c.loop-i.kept.ok))) c.pop_front-value.ensures.items
     ∙ ap (λ l. slice_get l 0) i.values ∙ slice_get-drop k c.args.kept.items 0 ∙ ap (slice_get c.args.kept.items) here in
-    let is = filled-is c.args.low c.args.kept.items c.args.places.now.entries c.loop-i.i _ _ value c.count_to_come.ensures in
+    let at : c.args.low + k ≡ c.loop-i.i = omega arith in
+    let count =
+    c.index.ensures ∙ get_or_default c.args.counts.now.items k c.index.result.now 0 (omega (arith, c.requires.counts.size))
+    ∙ c.requires.counts.each k (omega arith) ∙ ap (to_come c.args.places.now.entries) at in
+    let is = filled-is c.args.low c.args.kept.items c.args.places.now.entries c.loop-i.i _ _ value count in
     record {
       size = length-set c.loop-i.slots.items c.low_bits-at.result _ ∙ i.size;
       values =

@@ -39,5 +39,5 @@ returns c =
     let room : length ts < 1024 = omega (arith, c.len.ensures.len, c.if-len-ge-MOST_TOPICS.false) in
     opens-last ts c.args.name c.requires.absent (Makings.BroadcastAt c.args.asked c.args.base) c.in-Ok.capacity (Broadcast tt)
     (λ m key. made-some m key c.args.asked c.args.base c.in-Ok.capacity (omega arith) c.in-Ok.ensures.in_force) room
-    (Broadcast c.in-Some.topic) refl _ c.in_force.ensures.value _
+    (Broadcast c.in-Some.topic) refl _ c.in_force-in_force.ensures.value _
     (ap (λ (t : HubTopics). t.entries) c.in-Ok-add.ensures.ok)

@@ -14,6 +14,7 @@ fill-requires-clause-window g c =
       c.tail-tail.ensures.tail,
       c.capacity-capacity.ensures,
       c.len.ensures,
+      ap length c.kept.ensures,
       ap length c.into_parts-kept.ensures.kept,
     )
 
@@ -22,7 +23,7 @@ invariant_of-result g c =
     let w = c.tail-tail.ensures.sound in
     let kept = c.into_parts-kept.ensures.kept in
     let low : c.tail-tail.result - c.len.result ≡ c.args.parts.low =
-    omega (arith, w.kept, c.tail-tail.ensures.tail, c.len.ensures, ap length kept) in
+    omega (arith, w.kept, c.tail-tail.ensures.tail, c.len.ensures, ap length c.kept.ensures) in
     let same : c.into_parts-kept.result.1.entries ≡ c.in-Ok-copied_from.own.entries =
     c.into_parts-kept.ensures.places ∙ sym (c.in-Ok-copied_from.ensures ∙ c.places.ensures) in
     rw (← same)
@@ -34,7 +35,7 @@ returns-clause-ok g c =
     let w = c.tail-tail.ensures.sound in
     let kept = c.into_parts-kept.ensures.kept in
     let low : c.tail-tail.result - c.len.result ≡ c.args.parts.low =
-    omega (arith, w.kept, c.tail-tail.ensures.tail, c.len.ensures, ap length kept) in
+    omega (arith, w.kept, c.tail-tail.ensures.tail, c.len.ensures, ap length c.kept.ensures) in
     let same : c.into_parts-kept.result.1.entries ≡ c.in-Ok-copied_from.own.entries =
     c.into_parts-kept.ensures.places ∙ sym (c.in-Ok-copied_from.ensures ∙ c.places.ensures) in
     rw (← same)
