@@ -1,8 +1,8 @@
 /* Sends and receives by turns through topichub.h, in one thread, for bench/threads.
  *
- *     c_turns 0 BATCHES bare|locked
+ *     c_turns 0 BATCHES bare|locked|blocking
  *
- * locked: with a pthread mutex round each call, as a program with threads has it. */
+ * locked: with a pthread mutex round each call, as a program with threads has it. blocking: through topichub_threads.h. */
 #include <inttypes.h>
 #include <pthread.h>
 #include <stdio.h>
@@ -10,7 +10,7 @@
 #include <string.h>
 #include <time.h>
 
-#include "topichub.h"
+#include "topichub_threads.h"
 
 enum { BATCH = 1024, CAPACITY = 4 * BATCH };
 
@@ -30,9 +30,39 @@ static void unlock(int is_locked) {
     if (is_locked) pthread_mutex_unlock(&mutex);
 }
 
+static int tell(uint64_t received, uint64_t spent) {
+    printf("received %" PRIu64 " missed 0\nnanoseconds %" PRIu64 "\n", received, spent);
+    return 0;
+}
+
+/* Each value points to its number, which nobody frees. */
+static int blocking(uint64_t values) {
+    static uint64_t numbers[BATCH];
+    uint64_t received = 0;
+    topichub_broadcast_sender *tx;
+    topichub_broadcast_receiver *rx;
+    if (topichub_broadcast_open(&tx, &rx, CAPACITY) != TOPICHUB_DONE) return 1;
+    uint64_t start = nanoseconds();
+    for (uint64_t value = 0; value < values; value++) {
+        uint64_t *number = &numbers[value % BATCH];
+        *number = value;
+        topichub_broadcast_sender_send(tx, number, sizeof *number, NULL);
+        topichub_value *seen;
+        if (topichub_broadcast_receiver_recv(rx, &seen).status == TOPICHUB_VALUE) {
+            received += *(uint64_t *)topichub_value_data(seen) == value;
+            topichub_value_release(seen);
+        }
+    }
+    uint64_t spent = nanoseconds() - start;
+    topichub_broadcast_sender_close(tx);
+    topichub_broadcast_receiver_close(rx);
+    return tell(received, spent);
+}
+
 int main(int count, char **words) {
     if (count != 4) return 2;
     uint64_t values = strtoull(words[2], NULL, 10) * BATCH, received = 0;
+    if (strcmp(words[3], "blocking") == 0) return blocking(values);
     int is_locked = strcmp(words[3], "locked") == 0;
     topichub_broadcast channel = TOPICHUB_BROADCAST_NONE;
     if (topichub_broadcast_new(&channel, CAPACITY, 0) != TOPICHUB_DONE) return 1;
@@ -49,6 +79,5 @@ int main(int count, char **words) {
     }
     uint64_t spent = nanoseconds() - start;
     topichub_broadcast_free(&channel);
-    printf("received %" PRIu64 " missed 0\nnanoseconds %" PRIu64 "\n", received, spent);
-    return 0;
+    return tell(received, spent);
 }

@@ -2,9 +2,9 @@
  * topichub.h: broadcast and watch channels whose every reply is proved.
  *
  * A broadcast channel gives every value that is sent to every receiver, and keeps only the newest ones: a receiver
- * that is too slow is told how many values it missed. A watch channel keeps the newest value alone, and tells each
+ * that is too slow is told how many values it missed. A watch channel keeps only the newest value, and tells each
  * reader once that there is a new one. Both follow the documentation of Tokio's channels of these names.
- * docs/CHANNELS.md has every rule, and what each call answers.
+ * docs/CHANNELS.md has every rule, and the answers to each call.
  *
  *     topichub_broadcast news = TOPICHUB_BROADCAST_NONE;
  *     if (topichub_broadcast_new(&news, 2, 0) != TOPICHUB_DONE) return 1;   keeps 2 values; sender 1 is made with it
@@ -14,19 +14,20 @@
  *     told = topichub_broadcast_try_recv(&news, rx);                        TOPICHUB_VALUE, told.number == 11
  *     topichub_broadcast_free(&news);
  *
- * Link with -ltopichub, or with the archive libtopichub.a. Neither needs anything but the C library.
+ * Link with -ltopichub, or with the archive libtopichub.a. Both need only the C library.
  *
  *
  * WHAT A CHANNEL IS HERE
  *
- * A channel is a state and the calls that change it. It has no thread and no lock, it never waits, and it calls
- * nobody back. Who uses it from several threads brings a mutex, and a way to wait and to wake:
+ * A channel is a state and the calls that change it. It has no thread and no lock, it never waits, and it makes no
+ * callbacks. topichub_threads.h has channels that block, for programs with threads. To share one of these channels
+ * between threads, guard it with a mutex and supply your own waiting, such as a condition variable:
  *
- *   - A receive is answered TOPICHUB_EMPTY, or TOPICHUB_WOULD_WAIT, where there is nothing to tell yet. Wait then,
- *     and ask again after a send (in a watch channel: a publication) and after the last sender is dropped. No other
- *     call can end a wait.
- *   - Give each topichub_broadcast, topichub_watch or topichub_trace to one call at a time. This holds for all calls,
- *     also for those that change nothing. A mutex around each call does it.
+ *   - A receive returns TOPICHUB_EMPTY, or TOPICHUB_WOULD_WAIT, if there is nothing yet. Wait then, and call again
+ *     after a send (in a watch channel: a publication) and after the last sender is dropped. No other call can end a
+ *     wait.
+ *   - Give each topichub_broadcast, topichub_watch or topichub_trace to one call at a time, even if the call changes
+ *     nothing. A mutex around each call is enough.
  *   - Calls on different ones may run at the same time. A channel or a trace belongs to no thread: it may be made in
  *     one thread, used in others, and freed in yet another.
  *   - Call nothing from a signal handler, or in the child of a fork() of a program that has other threads.
@@ -34,30 +35,39 @@
  *
  * VALUES
  *
- * A value is a number of 64 bits. It may be the value itself, or stand for whatever the caller keeps: an index, or a
- * pointer. The channel copies it, compares it where it says so, and does nothing else with it. Channels whose values
- * are bytes have calls of their own (below).
+ * A value is a 64-bit number. It may be the value itself, or stand for something that the caller keeps: an index, or a
+ * pointer. The channel copies it, compares it where the call says so, and does nothing else with it. Channels whose
+ * values are bytes have calls of their own (below).
  *
- * Who keeps something for each value learns from each reply how many of them the channel lets go of (let_go, below),
- * oldest first: what is kept after a call is what was kept and then what was sent, in the order sent, without the first
- * let_go of them. So a queue is enough: append what is sent when the answer is TOPICHUB_SENT, and take let_go entries
- * from its front after each call. A value that is refused was never kept.
+ * If you keep something for each value, each reply says how many of them the channel drops (let_go, below), oldest
+ * first: what is kept after a call is what was kept, then what was sent, in the order sent, without the first let_go of
+ * them. So a queue is enough: append what is sent when the answer is TOPICHUB_SENT, and take let_go entries from its
+ * front after each call. A value that is refused was never kept.
  *
  *
  * SENDERS AND RECEIVERS
  *
- * They are numbers, from 1 on in each channel, senders and receivers together, and no number is given twice. A
- * channel is made with the sender 1 and no receiver. Calls name the one that makes them: tx is a sender's number, rx
- * is a receiver's. Where no live sender (receiver) has that number, the reply is TOPICHUB_NO_HANDLE. At most 65,535
- * of each are live at a time.
+ * They are numbers, from 1 on in each channel, senders and receivers together, and no number is used twice. A channel
+ * is made with sender 1 and no receiver. Each call names the handle that makes it: tx is a sender's number, rx is a
+ * receiver's. If no live sender (receiver) has that number, the reply is TOPICHUB_NO_HANDLE. At most 65,535 of each are
+ * live at a time.
+ *
+ *
+ * WHAT STAYS COMPATIBLE
+ *
+ * From the first release on, a program that was linked with one release runs with each later one of the same minor
+ * version, such as 0.1; from 1.0 on, with each later one of the same soname. Until then, functions and statuses are
+ * only added: no status is renumbered, and none gets another meaning. A status that a program does not know is a
+ * refusal. The structs below keep their size and layout. What is behind the pointer of a channel or a trace is not part
+ * of the interface.
  *
  *
  * WHAT IS PROVED
  *
- * That each call through a handle answers and leaves behind what the rules of the channel say, that a trace is the
- * spelling of what was called and answered, and that topichub_check says `legal` of exactly the legal traces. It is
- * proved of the code behind these declarations. Not proved is what the caller owes: that handles are as described
- * here and used by one call at a time, and that pointers point to what they should.
+ * The code behind these declarations is proved: each call through a handle returns, and leaves behind, what the rules
+ * of the channel prescribe; a trace is the spelling of what was called and answered; and topichub_check says `legal`
+ * for exactly the legal traces. The caller's obligations are not proved: that handles are as described here and used by one
+ * call at a time, and that pointers point to what they should.
  */
 #ifndef TOPICHUB_H
 #define TOPICHUB_H
@@ -88,28 +98,28 @@ uint32_t topichub_build(void);
 /*
  * STATUSES
  *
- * What a call comes to. Each call below names those that it may have. Behind some of them stands a number.
+ * Each call below names the statuses that it may return. Some are accompanied by a number.
  *
  * From TOPICHUB_NO_RECEIVERS on, the channel has not changed, and a value that was given was not taken.
  */
 enum topichub_status {
     /* Answers. */
-    TOPICHUB_DONE = 0,           /* It is done. Of a maker: the channel is made. Of a drop: the number is spent. */
+    TOPICHUB_DONE = 0,           /* Success: the channel is made, or the handle is dropped. */
     TOPICHUB_SENT = 1,           /* The value was sent. number: to how many receivers, at least 1. */
     TOPICHUB_VALUE = 2,          /* The next value. number: that value. */
     TOPICHUB_LAGGED = 3,         /* The receiver was too slow. number: how many values it missed. It
                                     goes on at the oldest that is left: receive again. */
     TOPICHUB_EMPTY = 4,          /* There is no value yet. */
-    TOPICHUB_CLOSED = 5,         /* No sender is left, and there is nothing more to tell. */
+    TOPICHUB_CLOSED = 5,         /* No sender is left, and there is nothing more to receive. */
     TOPICHUB_NEW_RX = 6,         /* A receiver was made. number: its own. */
     TOPICHUB_NEW_TX = 7,         /* A sender was made. number: its own. */
     TOPICHUB_COUNT = 8,          /* number: the count that was asked for. */
-    TOPICHUB_WAS = 9,            /* The value is published. number: the value before it, which is let go. */
+    TOPICHUB_WAS = 9,            /* The value is published. number: the value before it, which is dropped. */
     TOPICHUB_NEW = 10,           /* number: the newest value, which was unseen by this reader. */
     TOPICHUB_SAME = 11,          /* number: the newest value, which this reader had seen. */
     TOPICHUB_YES = 12,           /* The answer to the question is yes. */
     TOPICHUB_NO = 13,            /* The answer to the question is no. */
-    TOPICHUB_MARKED = 14,        /* There was something new, and it is marked seen. */
+    TOPICHUB_MARKED = 14,        /* There was a new value, and it is marked as seen. */
     TOPICHUB_NOT_YET = 15,       /* There is nothing new yet. */
 
     /* The channel's own refusals, by its rules. They are part of a recorded history, as the answers above are. */
@@ -123,7 +133,7 @@ enum topichub_status {
     /* Why a call was not made. No history tells of it. */
     TOPICHUB_WOULD_WAIT = 20,    /* The call would wait (topichub_broadcast_recv, topichub_watch_changed). */
     TOPICHUB_LOG_FULL = 21,      /* The recorded history has no room for the call: cut it, and call again. */
-    TOPICHUB_NO_MEMORY = 22,     /* malloc() or realloc() gave none. The call may be made again. */
+    TOPICHUB_NO_MEMORY = 22,     /* malloc() or realloc() failed. The call may be made again. */
     TOPICHUB_NOT_OPEN = 23,      /* There is no channel (no trace) behind the pointer: none was made, or
                                     it was freed. */
     TOPICHUB_IS_OPEN = 24,       /* There is one already: free it first. */
@@ -134,8 +144,8 @@ enum topichub_status {
 
     /* What topichub_check says of a text. */
     TOPICHUB_LEGAL = 29,         /* It is a trace, and each reply in it is the one that the channel gives. */
-    TOPICHUB_ILLEGAL = 30,       /* A line tells of a reply that the channel would not have given. */
-    TOPICHUB_BAD_TRACE = 31,     /* A line is none that may stand there, or one is missing. */
+    TOPICHUB_ILLEGAL = 30,       /* A line has a reply that the channel would not have given. */
+    TOPICHUB_BAD_TRACE = 31,     /* A line may not stand there, or one is missing. */
 
     /* Of calls with bytes. Nothing has changed. */
     TOPICHUB_OTHER_VALUES = 32,  /* The values of the channel are bytes, and the call is one with a number; or the
@@ -144,13 +154,17 @@ enum topichub_status {
     TOPICHUB_SMALL_BUFFER = 34,  /* The buffer has fewer than TOPICHUB_MOST_BYTES bytes. */
 };
 
+/* A short English text for a status of this header or of topichub_threads.h, and another one for any other number. It
+   is never NULL, and lasts as long as the program. The wording may change. Since 0.1.0. */
+const char *topichub_status_text(uint32_t status);
+
 /* The reply to a call of a channel. */
 typedef struct topichub_reply {
     uint32_t status;  /* One of enum topichub_status. */
-    uint32_t let_go;  /* How many of the values that the channel kept it lets go of by this call, the oldest ones.
-                         Most calls let go of none; each says below when it does. With TOPICHUB_VALUE, 1 says that
+    uint32_t let_go;  /* How many of the values that the channel kept are dropped by this call, the oldest ones.
+                         Most calls drop none; each says below when it does. With TOPICHUB_VALUE, 1 says that
                          this was the last read of the value, which was the oldest one. */
-    uint64_t number;  /* What the status says; 0 where it says nothing of a number. */
+    uint64_t number;  /* What the status says; otherwise 0. */
 } topichub_reply;
 
 
@@ -158,9 +172,9 @@ typedef struct topichub_reply {
  * CHANNELS AND TRACES
  *
  * Each is a struct of one pointer that belongs to the library; NULL stands for none. Begin with TOPICHUB_.._NONE (all
- * zero), let a maker fill it, and free it once. Pass its address, which is never NULL. Do not read or change the
- * pointer, and do not copy the struct while a copy may still be used: it is the one owner of what is behind it. To
- * hand it on, copy it and forget the old one.
+ * zero), let a function make one in it, and free it once. Pass its address, which is never NULL. Do not read or
+ * change the pointer, and do not copy the struct while a copy may still be used: it is the one owner of what is behind
+ * it. To hand it on, copy it and forget the old one.
  */
 typedef struct topichub_broadcast {
     void *at;
@@ -183,15 +197,15 @@ typedef struct topichub_trace {
 /*
  * BROADCAST CHANNELS
  *
- * Every call below may also come to TOPICHUB_NOT_OPEN, and in a recorded channel to TOPICHUB_LOG_FULL or
- * TOPICHUB_NO_MEMORY. A drop of a live sender or receiver comes to neither of the last two. A call takes time at most
+ * Every call below may also return TOPICHUB_NOT_OPEN, and in a recorded channel TOPICHUB_LOG_FULL or
+ * TOPICHUB_NO_MEMORY. A drop of a live sender or receiver returns neither of the last two. A call takes time at most
  * logarithmic in the number of senders and receivers, and now and then the growth of the history. Only
  * topichub_broadcast_subscribe_oldest and topichub_broadcast_drop_rx also go through the kept values that the
  * receiver has still to read.
  */
 
 /*
- * Makes a channel with sender 1 and no receiver, in *channel, which is none yet.
+ * Makes a channel with sender 1 and no receiver, in *channel, which must be TOPICHUB_BROADCAST_NONE.
  *
  * It keeps as many values as the least power of two that is at least `capacity`, and all memory for them is taken
  * here: 8 bytes for each value, or somewhat more. The first value that is sent stands at the position `base`, which
@@ -206,36 +220,36 @@ uint32_t topichub_broadcast_new(topichub_broadcast *channel, uint64_t capacity, 
  * them. `limit` is the most entries that there are between two cuts. Room is kept within it for the drop of each live
  * sender and receiver, so the limit should be well above their number.
  *
- * Further TOPICHUB_BAD_LIMIT.
+ * Also TOPICHUB_BAD_LIMIT.
  */
 uint32_t topichub_broadcast_new_recorded(topichub_broadcast *channel, uint64_t capacity, uint64_t base,
                                          uint64_t limit);
 
 /*
- * Frees the channel with all that it keeps, its history too; *channel is none then. Where it was none, nothing
- * happens. All values that were kept are let go. Traces that were cut stay as they are.
+ * Frees the channel with all that it keeps, its history too, and sets *channel to TOPICHUB_BROADCAST_NONE. If it was
+ * that already, nothing happens. All values that were kept are dropped. Traces that were cut stay as they are.
  */
 void topichub_broadcast_free(topichub_broadcast *channel);
 
 /*
  * Sends a value to every live receiver.
  *
- * TOPICHUB_SENT; TOPICHUB_NO_RECEIVERS, TOPICHUB_EXHAUSTED, TOPICHUB_NO_HANDLE, each with the value. let_go: 1 where
- * the oldest value made room for it, else 0.
+ * TOPICHUB_SENT; TOPICHUB_NO_RECEIVERS, TOPICHUB_EXHAUSTED, TOPICHUB_NO_HANDLE, each with the value. let_go: 1 if
+ * the oldest value was dropped to make room, otherwise 0.
  */
 topichub_reply topichub_broadcast_send(topichub_broadcast *channel, uint64_t tx, uint64_t value);
 
 /*
  * Receives the next value, in the order sent.
  *
- * TOPICHUB_VALUE, TOPICHUB_LAGGED, TOPICHUB_EMPTY, TOPICHUB_CLOSED, TOPICHUB_NO_HANDLE; and TOPICHUB_NO_MEMORY where
- * another receiver has still to read the value too. let_go: 1 where no other receiver has, else 0.
+ * TOPICHUB_VALUE, TOPICHUB_LAGGED, TOPICHUB_EMPTY, TOPICHUB_CLOSED, TOPICHUB_NO_HANDLE; and TOPICHUB_NO_MEMORY if
+ * another receiver has still to read the value too. let_go: 1 if no other receiver has, otherwise 0.
  */
 topichub_reply topichub_broadcast_try_recv(topichub_broadcast *channel, uint64_t rx);
 
 /*
- * The same for a caller that waits: TOPICHUB_WOULD_WAIT in place of TOPICHUB_EMPTY. Then no call was made, and a
- * history tells of none. A trace tells the two apart, as `try-recv` and `recv`.
+ * The same for a caller that waits: TOPICHUB_WOULD_WAIT instead of TOPICHUB_EMPTY. Then no call was made, and a
+ * history has no entry. A trace distinguishes the two, as `try-recv` and `recv`.
  */
 topichub_reply topichub_broadcast_recv(topichub_broadcast *channel, uint64_t rx);
 
@@ -256,12 +270,12 @@ topichub_reply topichub_broadcast_resubscribe(topichub_broadcast *channel, uint6
 /* A new sender. TOPICHUB_NEW_TX, TOPICHUB_TOO_MANY, TOPICHUB_NO_HANDLE, TOPICHUB_NO_MEMORY. let_go: 0. */
 topichub_reply topichub_broadcast_clone_tx(topichub_broadcast *channel, uint64_t tx);
 
-/* Drops a sender: its number is spent. Without senders the channel is closed. TOPICHUB_DONE, TOPICHUB_NO_HANDLE.
+/* Drops a sender. Without senders the channel is closed. TOPICHUB_DONE, TOPICHUB_NO_HANDLE.
    let_go: 0. */
 topichub_reply topichub_broadcast_drop_tx(topichub_broadcast *channel, uint64_t tx);
 
 /*
- * Drops a receiver: its number is spent. TOPICHUB_DONE, TOPICHUB_NO_HANDLE.
+ * Drops a receiver. TOPICHUB_DONE, TOPICHUB_NO_HANDLE.
  * let_go: the number of values that only it had still to read.
  */
 topichub_reply topichub_broadcast_drop_rx(topichub_broadcast *channel, uint64_t rx);
@@ -269,20 +283,20 @@ topichub_reply topichub_broadcast_drop_rx(topichub_broadcast *channel, uint64_t 
 /* How many values are kept (Tokio: Sender::len). TOPICHUB_COUNT, TOPICHUB_NO_HANDLE. let_go: 0. */
 topichub_reply topichub_broadcast_queued(topichub_broadcast *channel, uint64_t tx);
 
-/* How many values this receiver has still to come, those it missed among them (Tokio: Receiver::len). TOPICHUB_COUNT,
-   TOPICHUB_NO_HANDLE. let_go: 0. */
+/* How many values this receiver has still to read, including those that it missed (Tokio: Receiver::len).
+   TOPICHUB_COUNT, TOPICHUB_NO_HANDLE. let_go: 0. */
 topichub_reply topichub_broadcast_left(topichub_broadcast *channel, uint64_t rx);
 
 /* How many receivers are live (Tokio: Sender::receiver_count). TOPICHUB_COUNT, TOPICHUB_NO_HANDLE. let_go: 0. */
 topichub_reply topichub_broadcast_readers(topichub_broadcast *channel, uint64_t tx);
 
 /*
- * Takes the history so far, as a trace in *trace, which is none yet. The next trace begins where this one ends. No
- * entry tells of it. It takes time and memory with what the channel keeps and with its senders and receivers, and not
- * with the entries.
+ * Takes the history so far, as a trace in *trace, which must be TOPICHUB_TRACE_NONE. The next trace begins where this
+ * one ends. A cut is not an entry. It takes time and memory in proportion to what the channel keeps and to its senders
+ * and receivers, and not to the entries.
  *
- * TOPICHUB_DONE, TOPICHUB_NOT_RECORDED, TOPICHUB_NO_MEMORY, TOPICHUB_NOT_OPEN, and TOPICHUB_IS_OPEN where *trace is
- * not none.
+ * TOPICHUB_DONE, TOPICHUB_NOT_RECORDED, TOPICHUB_NO_MEMORY, TOPICHUB_NOT_OPEN, and TOPICHUB_IS_OPEN if there is
+ * a trace in *trace.
  */
 uint32_t topichub_broadcast_cut(topichub_broadcast *channel, topichub_trace *trace);
 
@@ -290,32 +304,32 @@ uint32_t topichub_broadcast_cut(topichub_broadcast *channel, topichub_trace *tra
 /*
  * BROADCAST CHANNELS OF BYTES
  *
- * The values of such a channel are bytes, 1 to 1,024 of them and none LF or CR, which it keeps itself: they are copied
- * in by a send, and out by a receive. Where a reply speaks of a value, its number is how many bytes the value has.
- * All calls above that neither take nor give a value are for it too. topichub_broadcast_send, _try_recv and _recv come
- * to TOPICHUB_OTHER_VALUES, as the calls below do of a channel of numbers.
+ * The values of such a channel are 1 to 1,024 bytes without LF or CR. The channel keeps them itself: a send copies them
+ * in, a receive copies them out. Where a status is accompanied by a value, the number is the value's length in bytes.
+ * All calls above that neither take nor give a value work here too. topichub_broadcast_send, _try_recv and _recv return
+ * TOPICHUB_OTHER_VALUES, and so do the calls below for a channel of numbers.
  */
 #define TOPICHUB_MOST_BYTES 1024
 
 /* Makes one without a history, as topichub_broadcast_new does. */
 uint32_t topichub_broadcast_new_of_bytes(topichub_broadcast *channel, uint64_t capacity, uint64_t base);
 
-/* Makes one with a history, as topichub_broadcast_new_recorded does. In its trace each value stands as it is. */
+/* Makes one with a history, as topichub_broadcast_new_recorded does. Its trace has the values as they are. */
 uint32_t topichub_broadcast_new_of_bytes_recorded(topichub_broadcast *channel, uint64_t capacity, uint64_t base,
                                                   uint64_t limit);
 
 /* Sends `length` bytes to every live receiver. `bytes` is not NULL. Statuses as of topichub_broadcast_send, and
-   TOPICHUB_BAD_VALUE, TOPICHUB_OTHER_VALUES. The bytes are looked at and copied first: so TOPICHUB_BAD_VALUE comes
-   before what the channel says, and TOPICHUB_NO_MEMORY may come in place of it. */
+   TOPICHUB_BAD_VALUE, TOPICHUB_OTHER_VALUES. The bytes are checked and copied first, so TOPICHUB_BAD_VALUE
+   comes before the channel's answer, and TOPICHUB_NO_MEMORY may take its place. */
 topichub_reply topichub_broadcast_send_bytes(topichub_broadcast *channel, uint64_t tx, const uint8_t *bytes,
                                              size_t length);
 
 /*
  * Receives the next value into `buffer`, which has room for `length` bytes, at least TOPICHUB_MOST_BYTES, and is not
- * NULL. With TOPICHUB_VALUE the number is how many bytes were put there; the rest of the buffer stays as it is.
+ * NULL. With TOPICHUB_VALUE the number is how many bytes were written; the rest of the buffer is unchanged.
  *
  * Statuses as of topichub_broadcast_try_recv and topichub_broadcast_recv, and TOPICHUB_SMALL_BUFFER,
- * TOPICHUB_OTHER_VALUES. Where it is not TOPICHUB_VALUE, the buffer stays as it is.
+ * TOPICHUB_OTHER_VALUES. With any status but TOPICHUB_VALUE, the buffer is unchanged.
  */
 topichub_reply topichub_broadcast_try_recv_bytes(topichub_broadcast *channel, uint64_t rx, uint8_t *buffer,
                                                  size_t length);
@@ -325,33 +339,33 @@ topichub_reply topichub_broadcast_recv_bytes(topichub_broadcast *channel, uint64
 /*
  * WATCH CHANNELS
  *
- * To publish a value is to make it the newest one, at the next version. The value before it is let go; there is
+ * To publish a value is to make it the newest one, at the next version. The value before it is dropped; there is
  * always exactly one.
  *
- * Every call below may also come to TOPICHUB_NOT_OPEN, and in a recorded channel to TOPICHUB_LOG_FULL or
- * TOPICHUB_NO_MEMORY. A drop of a live sender or reader comes to neither of the last two. A call takes time at most
+ * Every call below may also return TOPICHUB_NOT_OPEN, and in a recorded channel TOPICHUB_LOG_FULL or
+ * TOPICHUB_NO_MEMORY. A drop of a live sender or reader returns neither of the last two. A call takes time at most
  * logarithmic in the number of senders and readers.
  */
 
 /*
- * Makes a channel with sender 1 and no reader, in *channel, which is none yet. `value` is the newest value, and
- * `version` its version, which is 1 for all but tests of the last version.
+ * Makes a channel with sender 1 and no reader, in *channel, which must be TOPICHUB_WATCH_NONE. `value` is the newest
+ * value, and `version` its version, which is 1 except in tests of the last version.
  *
- * TOPICHUB_DONE, TOPICHUB_BAD_VERSION, TOPICHUB_NO_MEMORY, TOPICHUB_IS_OPEN. Where it is not TOPICHUB_DONE, the value
- * was not taken.
+ * TOPICHUB_DONE, TOPICHUB_BAD_VERSION, TOPICHUB_NO_MEMORY, TOPICHUB_IS_OPEN. With any status but
+ * TOPICHUB_DONE, the value was not taken.
  */
 uint32_t topichub_watch_new(topichub_watch *channel, uint64_t value, uint64_t version);
 
 /* The same, with a history of at most `limit` entries between two cuts, as topichub_broadcast_new_recorded has it.
-   Further TOPICHUB_BAD_LIMIT. */
+   Also TOPICHUB_BAD_LIMIT. */
 uint32_t topichub_watch_new_recorded(topichub_watch *channel, uint64_t value, uint64_t version, uint64_t limit);
 
-/* Frees the channel with all that it keeps; *channel is none then. Where it was none, nothing happens. The newest
-   value is let go. */
+/* Frees the channel with all that it keeps, and sets *channel to TOPICHUB_WATCH_NONE. If it was that already, nothing
+   happens. The newest value is dropped. */
 void topichub_watch_free(topichub_watch *channel);
 
 /*
- * Publishes a value, where there is a reader.
+ * Publishes a value, if there is a reader.
  *
  * TOPICHUB_DONE; TOPICHUB_NO_RECEIVERS, TOPICHUB_EXHAUSTED, TOPICHUB_NO_HANDLE, each with the value. let_go: 1 with
  * TOPICHUB_DONE.
@@ -363,18 +377,18 @@ topichub_reply topichub_watch_send(topichub_watch *channel, uint64_t tx, uint64_
 topichub_reply topichub_watch_replace(topichub_watch *channel, uint64_t tx, uint64_t value);
 
 /*
- * Publishes a value, readers or not. With the next two it stands for send_modify and send_if_modified of Tokio, whose
- * closures cannot be given here: change what you keep for the value, and say what came of it.
+ * Publishes a value, readers or not. With the next two it takes the place of Tokio's send_modify and send_if_modified,
+ * since no closure can be passed here: change what you keep for the value, and report the result.
  *
  * TOPICHUB_YES: it is published, let_go 1. TOPICHUB_EXHAUSTED, TOPICHUB_NO_HANDLE.
  */
 topichub_reply topichub_watch_set(topichub_watch *channel, uint64_t tx, uint64_t value);
 
 /* Publishes the number, if it differs from the newest one: TOPICHUB_YES with let_go 1, or TOPICHUB_NO with let_go 0,
-   and then the value was not taken. TOPICHUB_EXHAUSTED (only where it differs), TOPICHUB_NO_HANDLE. */
+   and then the value was not taken. TOPICHUB_EXHAUSTED (only if it differs), TOPICHUB_NO_HANDLE. */
 topichub_reply topichub_watch_differ(topichub_watch *channel, uint64_t tx, uint64_t value);
 
-/* Puts the value in the place of the newest one, in the same version, and tells nobody: TOPICHUB_NO, with let_go 1.
+/* Replaces the newest value, in the same version, and tells nobody: TOPICHUB_NO, with let_go 1.
    TOPICHUB_NO_HANDLE. */
 topichub_reply topichub_watch_quiet(topichub_watch *channel, uint64_t tx, uint64_t value);
 
@@ -382,36 +396,36 @@ topichub_reply topichub_watch_quiet(topichub_watch *channel, uint64_t tx, uint64
    TOPICHUB_NO_MEMORY. let_go: 0. */
 topichub_reply topichub_watch_borrow(topichub_watch *channel, uint64_t rx);
 
-/* The same, and marks it seen (Tokio: borrow_and_update). */
+/* The same, and marks it as seen (Tokio: borrow_and_update). */
 topichub_reply topichub_watch_take(topichub_watch *channel, uint64_t rx);
 
-/* Whether the newest value is unseen by the reader. TOPICHUB_YES, TOPICHUB_NO; TOPICHUB_CLOSED, where no sender is
+/* Whether the newest value is unseen by the reader. TOPICHUB_YES, TOPICHUB_NO; TOPICHUB_CLOSED if no sender is
    left; TOPICHUB_NO_HANDLE. let_go: 0. */
 topichub_reply topichub_watch_has_changed(topichub_watch *channel, uint64_t rx);
 
 /*
- * Marks the newest value seen, where it is unseen.
+ * Marks the newest value as seen, if it is unseen.
  *
- * TOPICHUB_MARKED: it was. Else TOPICHUB_CLOSED where no sender is left, or TOPICHUB_NOT_YET. TOPICHUB_NO_HANDLE.
+ * TOPICHUB_MARKED: it was. Otherwise TOPICHUB_CLOSED if no sender is left, or TOPICHUB_NOT_YET. TOPICHUB_NO_HANDLE.
  * let_go: 0.
  */
 topichub_reply topichub_watch_try_changed(topichub_watch *channel, uint64_t rx);
 
-/* The same for a caller that waits: TOPICHUB_WOULD_WAIT in place of TOPICHUB_NOT_YET, as topichub_broadcast_recv
-   has it. */
+/* The same for a caller that waits: TOPICHUB_WOULD_WAIT instead of TOPICHUB_NOT_YET, like
+   topichub_broadcast_recv. */
 topichub_reply topichub_watch_changed(topichub_watch *channel, uint64_t rx);
 
 /* Makes the newest value unseen by this reader. TOPICHUB_DONE, TOPICHUB_NO_HANDLE. let_go: 0. */
 topichub_reply topichub_watch_mark_changed(topichub_watch *channel, uint64_t rx);
 
-/* Marks the newest value seen by this reader. TOPICHUB_DONE, TOPICHUB_NO_HANDLE. let_go: 0. */
+/* Marks the newest value as seen by this reader. TOPICHUB_DONE, TOPICHUB_NO_HANDLE. let_go: 0. */
 topichub_reply topichub_watch_mark_unchanged(topichub_watch *channel, uint64_t rx);
 
-/* A new reader, to whom the newest value is seen. TOPICHUB_NEW_RX, TOPICHUB_TOO_MANY, TOPICHUB_NO_HANDLE,
+/* A new reader, for which the newest value counts as seen. TOPICHUB_NEW_RX, TOPICHUB_TOO_MANY, TOPICHUB_NO_HANDLE,
    TOPICHUB_NO_MEMORY. let_go: 0. */
 topichub_reply topichub_watch_subscribe(topichub_watch *channel, uint64_t tx);
 
-/* A new reader, to whom the newest value is seen or unseen as to this one. Statuses as of
+/* A new reader, for which the newest value is seen or unseen as for this one. Statuses as of
    topichub_watch_subscribe. */
 topichub_reply topichub_watch_clone_rx(topichub_watch *channel, uint64_t rx);
 
@@ -430,32 +444,31 @@ topichub_reply topichub_watch_is_closed(topichub_watch *channel, uint64_t tx);
 /* How many readers are live (Tokio: receiver_count). TOPICHUB_COUNT, TOPICHUB_NO_HANDLE. let_go: 0. */
 topichub_reply topichub_watch_readers(topichub_watch *channel, uint64_t tx);
 
-/* Takes the history so far, as a trace in *trace, which is none yet; as topichub_broadcast_cut does, with the same
-   statuses. */
+/* Takes the history so far, as topichub_broadcast_cut does, with the same statuses. */
 uint32_t topichub_watch_cut(topichub_watch *channel, topichub_trace *trace);
 
 
 /*
  * WATCH CHANNELS OF BYTES
  *
- * Their values are as those of broadcast channels of bytes, and so are numbers that speak of a value. All calls above
- * that neither take nor give a value are for them too. topichub_watch_send, _replace, _set, _differ, _quiet, _borrow
- * and _take come to TOPICHUB_OTHER_VALUES, as the calls below do of a channel of numbers.
+ * Their values, and numbers that accompany a value, are as in broadcast channels of bytes. All calls above that neither
+ * take nor give a value work here too. topichub_watch_send, _replace, _set, _differ, _quiet, _borrow
+ * and _take return TOPICHUB_OTHER_VALUES, and so do the calls below for a channel of numbers.
  *
- * The bytes that are given are looked at and copied first, then the buffer is looked at, then the channel: so
- * TOPICHUB_BAD_VALUE comes before TOPICHUB_SMALL_BUFFER, and both before what the channel says, and
- * TOPICHUB_NO_MEMORY may come in place of it. `bytes` and `buffer` are not NULL.
+ * The bytes are checked and copied first, then the buffer is checked, then the channel is asked: so TOPICHUB_BAD_VALUE
+ * comes before TOPICHUB_SMALL_BUFFER, both before the channel's answer, and TOPICHUB_NO_MEMORY may take its place. `bytes`
+ * and `buffer` are not NULL.
  */
 
-/* Makes one without a history, as topichub_watch_new does. Further TOPICHUB_BAD_VALUE. */
+/* Makes one without a history, as topichub_watch_new does. Also TOPICHUB_BAD_VALUE. */
 uint32_t topichub_watch_new_of_bytes(topichub_watch *channel, const uint8_t *bytes, size_t length, uint64_t version);
 
-/* Makes one with a history, as topichub_watch_new_recorded does. Further TOPICHUB_BAD_VALUE. In its trace each value
-   stands as it is. */
+/* Makes one with a history, as topichub_watch_new_recorded does. Also TOPICHUB_BAD_VALUE. Its trace has the values
+   as they are. */
 uint32_t topichub_watch_new_of_bytes_recorded(topichub_watch *channel, const uint8_t *bytes, size_t length,
                                               uint64_t version, uint64_t limit);
 
-/* As topichub_watch_send, _set, _differ and _quiet, with `length` bytes as the value. Further TOPICHUB_BAD_VALUE,
+/* As topichub_watch_send, _set, _differ and _quiet, with `length` bytes as the value. Also TOPICHUB_BAD_VALUE,
    TOPICHUB_OTHER_VALUES. */
 topichub_reply topichub_watch_send_bytes(topichub_watch *channel, uint64_t tx, const uint8_t *bytes, size_t length);
 topichub_reply topichub_watch_set_bytes(topichub_watch *channel, uint64_t tx, const uint8_t *bytes, size_t length);
@@ -464,16 +477,16 @@ topichub_reply topichub_watch_quiet_bytes(topichub_watch *channel, uint64_t tx, 
 
 /*
  * As topichub_watch_borrow and topichub_watch_take. With TOPICHUB_NEW and TOPICHUB_SAME the value is put into
- * `buffer`, which has room for `length` bytes, at least TOPICHUB_MOST_BYTES, and the number is how many it has. The
- * rest of the buffer stays as it is, and all of it with any other status.
+ * `buffer`, which has room for `length` bytes, at least TOPICHUB_MOST_BYTES, and the number is its length. The rest
+ * of the buffer is unchanged, and so is all of it with any other status.
  *
- * Further TOPICHUB_SMALL_BUFFER, TOPICHUB_OTHER_VALUES.
+ * Also TOPICHUB_SMALL_BUFFER, TOPICHUB_OTHER_VALUES.
  */
 topichub_reply topichub_watch_borrow_bytes(topichub_watch *channel, uint64_t rx, uint8_t *buffer, size_t length);
 topichub_reply topichub_watch_take_bytes(topichub_watch *channel, uint64_t rx, uint8_t *buffer, size_t length);
 
 /* As topichub_watch_replace, with `length` bytes as the value. With TOPICHUB_WAS the value before is put into
-   `buffer`, which has room for `room` bytes, as topichub_watch_borrow_bytes does it. Further TOPICHUB_BAD_VALUE,
+   `buffer`, which has room for `room` bytes, as by topichub_watch_borrow_bytes. Also TOPICHUB_BAD_VALUE,
    TOPICHUB_SMALL_BUFFER, TOPICHUB_OTHER_VALUES. `bytes` and `buffer` do not overlap. */
 topichub_reply topichub_watch_replace_bytes(topichub_watch *channel, uint64_t tx, const uint8_t *bytes, size_t length,
                                             uint8_t *buffer, size_t room);
@@ -483,23 +496,24 @@ topichub_reply topichub_watch_replace_bytes(topichub_watch *channel, uint64_t tx
  * TRACES
  *
  * A trace is a text: the state that a channel was in, then each call with its reply (docs/FORMATS.md, "Traces").
- * Anyone can check it by topichub_check, or by the program `topichub check`. A number stands in it by its decimal
- * digits: that is how the number 10 becomes the value `10` of a trace. Bytes stand in it as they are.
+ * Anyone can check it by topichub_check, or by the program `topichub check`. A number appears in decimal
+ * digits, so the number 10 becomes the value `10`. Bytes appear as they are.
  */
 
 /*
  * Puts the next bytes of the trace into `buffer`, which has room for `length` bytes, and their number into *written:
- * as many as there is room for, and fewer only at the end of the trace. The text goes on at the next call where this
- * one ended; at its end *written is 0.
+ * as many as there is room for, fewer only at the end of the trace. The next call continues where this one ended; at
+ * the end *written is 0.
  *
- * The first call makes the text, which takes time and memory with the entries. `buffer` is not NULL, also where
- * `length` is 0.
+ * The first call makes the text, which takes time and memory in proportion to the entries. `buffer` is not NULL, even
+ * if `length` is 0.
  *
  * TOPICHUB_DONE; TOPICHUB_NO_MEMORY and TOPICHUB_NOT_OPEN, with 0 in *written.
  */
 uint32_t topichub_trace_read(topichub_trace *trace, uint8_t *buffer, size_t length, uint64_t *written);
 
-/* Frees the trace, read to its end or not; *trace is none then. Where it was none, nothing happens. */
+/* Frees the trace, read to its end or not, and sets *trace to TOPICHUB_TRACE_NONE. If it was that already, nothing
+   happens. */
 void topichub_trace_free(topichub_trace *trace);
 
 /*
@@ -508,8 +522,8 @@ void topichub_trace_free(topichub_trace *trace);
  * TOPICHUB_LEGAL: the number of its entries. TOPICHUB_ILLEGAL and TOPICHUB_BAD_TRACE: the number of the first line
  * that is wrong or missing, from 1 on. TOPICHUB_NO_MEMORY: 0.
  *
- * `text` is not NULL, also where `length` is 0. It takes time with the text, and memory with what the channel of the
- * trace keeps. Calls of topichub_check and topichub_version may run at the same time as any others.
+ * `text` is not NULL, even if `length` is 0. It takes time in proportion to the text, and memory in proportion to what
+ * the channel of the trace keeps. Calls of topichub_check and topichub_version may run at the same time as any others.
  */
 uint32_t topichub_check(const uint8_t *text, size_t length, uint64_t *line);
 
