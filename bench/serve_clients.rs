@@ -2,17 +2,20 @@
 //!
 //!     serve_clients PROTOCOL PATH trips CLIENTS TOPICS MILLISECONDS
 //!     serve_clients PROTOCOL PATH fan SUBSCRIBERS PUBLICATIONS
+//!     serve_clients PROTOCOL PATH wakes SUBSCRIBERS PUBLICATIONS
 //!
 //! PROTOCOL is `lines` (docs/FORMATS.md) or `redis`. Of *trips* each client publishes a value and reads the reply, again and
 //! again; the clients have so many topics among them, and each topic's window is full of what nobody reads. Of *fan* one client
-//! publishes, with 64 publications under way, and each subscriber receives all of them; by lines it asks for up to 256 ahead.
+//! publishes, with 64 publications under way, and each subscriber receives all of them; by lines it asks for up to 256 ahead. Of
+//! *wakes* one client publishes once all subscribers wait, and told are the nanoseconds from each publication to each receipt.
 //!
-//! There are at most 4 threads, so that the machine is the server's: a thread writes to each of its clients, and then reads from
-//! each in turn. All of them are due something, so it waits where it has to.
+//! Of trips and fan there are at most 4 threads, so that the machine is the server's: a thread writes to each of its clients, and then
+//! reads from each in turn. All of them are due something, so it waits where it has to. Of wakes each subscriber has a thread.
 
 use std::env;
 use std::io::{Read, Write};
 use std::os::unix::net::UnixStream;
+use std::sync::atomic::{AtomicU64, Ordering};
 use std::sync::Barrier;
 use std::thread;
 use std::time::{Duration, Instant};
@@ -321,6 +324,66 @@ fn fan(protocol: Protocol, path: &str, subscribers: usize, publications: u64) {
     );
 }
 
+// ---- wakes
+
+/// Long enough that whoever waits sleeps.
+const PAUSE: Duration = Duration::from_micros(300);
+
+fn wakes(protocol: Protocol, path: &str, subscribers: usize, publications: u64) {
+    let mut publisher = Client::connect(path);
+    if protocol == Protocol::Lines {
+        publisher.ask("OPEN topic B 64\n", "OK");
+        publisher.ask("BIND topic\n", "OK");
+    }
+    let mut all: Vec<Subscriber> = (0..subscribers)
+        .map(|_| Subscriber::join(protocol, path, publications))
+        .collect();
+    let (start, sent, received) = (Instant::now(), AtomicU64::new(0), AtomicU64::new(0));
+    let now = || start.elapsed().as_nanos() as u64;
+    let times: Vec<u64> = thread::scope(|scope| {
+        let threads: Vec<_> = all
+            .iter_mut()
+            .map(|subscriber| {
+                let (sent, received) = (&sent, &received);
+                scope.spawn(move || {
+                    let mut times = Vec::new();
+                    while !subscriber.is_done() {
+                        if protocol == Protocol::Lines && subscriber.asked == subscriber.answered {
+                            subscriber.client.say("NEXT topic\n");
+                            subscriber.asked += 1;
+                        }
+                        let before = subscriber.received;
+                        subscriber.take();
+                        if subscriber.received > before {
+                            times.push(now() - sent.load(Ordering::Acquire));
+                            received.fetch_add(1, Ordering::Release);
+                        }
+                    }
+                    times
+                })
+            })
+            .collect();
+        for value in 0..publications {
+            thread::sleep(PAUSE);
+            sent.store(now(), Ordering::Release);
+            publisher.ask(&protocol.publish("topic", value), protocol.published());
+            while received.load(Ordering::Acquire) < (value + 1) * subscribers as u64 {
+                thread::sleep(PAUSE);
+            }
+        }
+        threads
+            .into_iter()
+            .flat_map(|thread| thread.join().unwrap())
+            .collect()
+    });
+    if protocol == Protocol::Lines {
+        publisher.ask("QUIT\n", "BYE");
+    }
+    for time in times {
+        println!("{time}");
+    }
+}
+
 fn main() {
     let words: Vec<String> = env::args().skip(1).collect();
     let protocol = match words[0].as_str() {
@@ -345,6 +408,7 @@ fn main() {
             );
         }
         "fan" => fan(protocol, path, numbers[0] as usize, numbers[1]),
+        "wakes" => wakes(protocol, path, numbers[0] as usize, numbers[1]),
         other => panic!("{other} is no load"),
     }
 }

@@ -1,4 +1,5 @@
 """What the measurements have in common. A script that has imported this module can import those of checks/ too."""
+import contextlib
 import os
 import re
 import shutil
@@ -11,6 +12,8 @@ sys.path.insert(0, os.path.join(os.path.dirname(os.path.dirname(os.path.abspath(
 from built import need_tool
 from program import is_sanitized, program
 
+# Processes on each core that are always busy.
+BUSY = (0, 1, 2)
 STATUS = "0 where all was measured, 1 where something could not be or was answered wrongly"
 
 
@@ -58,6 +61,18 @@ def instructions(command, source=os.devnull):
     """Those of the whole process."""
     counted = re.search(rb"Collected : (\d+)", callgrind(command, source))
     return int(counted[1]) if counted else sys.exit(f"valgrind counted nothing of {command[0]}")
+
+
+@contextlib.contextmanager
+def busy(processes):
+    """So many processes that do nothing but take time."""
+    running = [subprocess.Popen([sys.executable, "-c", "while True: pass"]) for _ in range(processes)]
+    try:
+        yield
+    finally:
+        for process in running:
+            process.kill()
+            process.wait()
 
 
 def in_turns(turn):

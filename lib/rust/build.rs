@@ -1,25 +1,25 @@
-//! Finds `libtopichub` and has it linked: from the folder that `TOPICHUB_LIB_DIR` names, if it names
-//! one, else from the first of these that has it:
+//! Finds `libtopichub` and links it. If `TOPICHUB_LIB_DIR` is set, it names the folder. Otherwise
+//! the library is taken from the first of these folders that has it:
 //!
-//! - `native` beside this file, where the released crate carries it;
+//! - `native` next to this file, where the released crate has it;
 //! - the folder that `pkg-config` reports;
-//! - `../c/build`, where `make -C lib/c` of the repository puts the proved one;
+//! - `../c/build`, where `make -C lib/c` in the repository puts the proved one;
 //! - `../c/build/fast`, where `make -C lib/c fast` puts one that is not proved.
 //!
-//! If there is none, this script succeeds too, since `cargo check`, `clippy` and `doc` need none. It
-//! then asks for a library whose name says what to do, and rustc prints the name when it links and finds
-//! no such library. A warning would be shown only to those who use this crate as a folder.
+//! If none is found, this script still succeeds, since `cargo check`, `clippy` and `doc` need no
+//! library. It then asks for a library whose name is the error message, which rustc prints when it
+//! cannot link it. A warning would be shown only to users with a path dependency.
 //!
-//! Cargo runs this script again when what it watches has changed. A path that is not there counts as
-//! changed each time, and all that depends on this crate is compiled again. So for a library that is
-//! not there yet, a folder above it is watched.
+//! Cargo reruns this script when a watched path has changed. A missing path counts as changed every
+//! time, which would recompile everything that depends on this crate. So if a library does not
+//! exist yet, an existing folder above it is watched instead.
 use std::env;
 use std::path::{Path, PathBuf};
 use std::process::Command;
 
 const NAME: &str = "topichub";
 const HOW: &str =
-    ", which make -C lib/c fast makes in a clone (docs/INSTALL.md has the other ways)";
+    ", which make -C lib/c fast builds in a clone (docs/INSTALL.md lists the other ways)";
 const VARIABLES: [&str; 4] = [
     "TOPICHUB_LIB_DIR",
     "PKG_CONFIG",
@@ -34,7 +34,8 @@ fn watch(path: &Path) {
     println!("cargo:rerun-if-changed={}", path.display());
 }
 
-/// Watches the folder, or the lowest one above it that is there, but none above `top`.
+/// Watches the folder or, if it is missing, the nearest existing one above it, but none above
+/// `top`.
 fn watch_folder(folder: &Path, top: &Path) {
     let mut above = folder.ancestors().take_while(|it| it.starts_with(top));
     if let Some(there) = above.find(|it| it.is_dir()) {
@@ -42,7 +43,7 @@ fn watch_folder(folder: &Path, top: &Path) {
     }
 }
 
-/// The library in this folder: the archive, else the shared one.
+/// The library in this folder: the static one if there is one, else the shared one.
 fn library_in(folder: &Path) -> Option<Library> {
     [("static", "a"), ("dylib", "so")]
         .into_iter()
@@ -50,7 +51,7 @@ fn library_in(folder: &Path) -> Option<Library> {
         .find(|(_, file)| file.is_file())
 }
 
-/// The library in this folder, which is watched; if there is none yet, the folder is.
+/// The library in this folder. It is watched; if there is none yet, the folder is.
 fn look(folder: &Path, top: &Path) -> Option<Library> {
     let found = library_in(folder);
     match &found {
@@ -60,9 +61,9 @@ fn look(folder: &Path, top: &Path) -> Option<Library> {
     found
 }
 
-/// The library in the named folder: relative to where Cargo was called, else to this crate's own
-/// folder. While there is none, this script is run each time. A folder that is made later where Cargo
-/// was called is not noticed while the other has a library.
+/// The library in the named folder. A relative name is looked up in the folder in which Cargo was
+/// started, and then in this crate's own. While neither has a library, this script runs every time.
+/// While only the second has one, a folder that is created later in the first is not noticed.
 fn named(folder: &Path, here: &Path) -> Option<Library> {
     if folder.is_relative() {
         println!("cargo:rerun-if-env-changed=PWD");
@@ -88,8 +89,8 @@ fn told(variable: &str, package: &str) -> Option<String> {
     (asked.status.success() && !text.trim().is_empty()).then(|| text.trim().to_string())
 }
 
-/// The library that `pkg-config` knows. Where it looks is watched: the first `make install` of a
-/// machine may make such a folder in `/usr/local`.
+/// The library that `pkg-config` finds. Its search path is watched too: the first `make install` on
+/// a machine may create such a folder in `/usr/local`.
 fn installed() -> Option<Library> {
     let own = || told("pc_path", "pkg-config").map(Into::into);
     let paths = [

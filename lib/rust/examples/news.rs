@@ -1,8 +1,8 @@
-//! A sender, and a receiver in its own thread that counts the values that it missed.
+//! A sender, and a receiver in another thread that counts the values, including those it missed.
 use std::thread;
 use topichub::broadcast::{self, error::RecvError, Receiver};
 
-/// How many values came or were missed until no sender is left. A task uses `rx.recv().await`.
+/// Counts the values until no sender is left. In a task, use `rx.recv().await`.
 fn count(mut rx: Receiver<u64>) -> u64 {
     let (mut came, mut missed) = (0, 0);
     loop {

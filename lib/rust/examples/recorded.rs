@@ -1,11 +1,11 @@
-//! A sender and three receivers in threads on a recorded channel. The trace of the run is printed,
-//! for `topichub check`.
+//! A sender and three receivers in threads on a recorded channel. Prints the trace of the run, for
+//! `topichub check`.
 use std::thread;
 use topichub::broadcast::{error::RecvError, Builder, Receiver};
 
 const VALUES: u64 = 2_000;
 
-/// Receives to the end, and checks that each value or gap is the next one.
+/// Receives to the end, and checks that values and gaps follow one another.
 fn receive_all(mut rx: Receiver<u64>) {
     let mut next = 0;
     loop {

@@ -1,4 +1,4 @@
-//! How a thread waits.
+//! How threads wait.
 use std::future::Future;
 use std::hint;
 use std::pin::Pin;
@@ -8,14 +8,14 @@ use std::task::{Context, Poll, Wake, Waker};
 use std::thread::{self, Thread};
 use std::time::{Duration, Instant};
 
-/// A short wait on the processor, in steps of which each is twice as long as the one before. It
-/// never yields the thread: beside a busy process that would take a whole time slice.
+/// A short busy wait, in steps that are each twice as long as the one before. It never yields the
+/// thread, since next to a busy process a yield can take a whole time slice.
 pub(crate) struct Patience {
     pub(crate) spins: u32,
 }
 
 impl Patience {
-    /// Looks until there is an answer, or until its patience has run out.
+    /// Looks until there is an answer or its patience has run out.
     pub(crate) fn until<A>(&self, mut look: impl FnMut() -> Option<A>) -> Option<A> {
         for turn in 0..self.spins {
             if let Some(answer) = look() {
@@ -45,7 +45,7 @@ impl Wake for Sleeper {
     }
 }
 
-/// How a thread sleeps, and is woken.
+/// How a thread sleeps and is woken.
 struct Sleep {
     sleeper: Arc<Sleeper>,
     waker: Waker,
@@ -86,29 +86,29 @@ impl Sleep {
 }
 
 thread_local! {
-    /// Made once for each thread, so that a future that is ready costs a poll and no more.
+    /// Made once per thread, so that a future that is ready costs a poll and nothing else.
     static SLEEP: Sleep = Sleep::new();
 }
 
-/// The future's answer. The thread waits until there is one.
+/// Blocks the thread until the future is ready, and returns its output.
 #[inline]
 pub(crate) fn block_on<F: Future + Unpin>(future: F) -> F::Output {
     block_until(future, None).expect("without a deadline there is an answer")
 }
 
-/// The future's answer, if it comes before the deadline.
+/// Blocks the thread until the future is ready or the deadline has passed.
 #[inline]
 pub(crate) fn block_until<F: Future + Unpin>(
     mut future: F,
     deadline: Option<Instant>,
 ) -> Option<F::Output> {
-    // A thread that is ending has none any more.
+    // A thread that is ending may no longer have one.
     SLEEP
         .try_with(|sleep| sleep.until_ready(&mut future, deadline))
         .unwrap_or_else(|_| Sleep::new().until_ready(&mut future, deadline))
 }
 
-/// When a wait of this length ends. One that is too long for the clock has no end.
+/// When a wait of this length ends: never, if that is beyond the clock's range.
 pub(crate) fn deadline_after(timeout: Duration) -> Option<Instant> {
     Instant::now().checked_add(timeout)
 }

@@ -1,20 +1,21 @@
 //! Broadcast and watch channels with the names of Tokio's, over a library whose every reply is
 //! proved.
 //!
-//! - A [`broadcast`] channel gives every value to every receiver, and keeps the newest ones. A
-//!   receiver that is too slow gets the number of values that it missed.
-//! - A [`watch`] channel keeps only the newest value, and reports to each receiver once that there
-//!   is a new one.
+//! - A [`broadcast`] channel sends every value to every receiver, and keeps the newest ones. A
+//!   receiver that falls behind learns how many values it missed.
+//! - A [`watch`] channel keeps only the newest value, and notifies each receiver once when there is
+//!   a new one.
 //!
-//! A program that uses `tokio::sync::broadcast` or `tokio::sync::watch` changes its `use` line. The
-//! names are those of Tokio 1.47; "Differences from Tokio" in each module lists what differs. Of
-//! Tokio 1.24.2, which Debian 12 packages, the examples are run on these channels; what came later
-//! follows the documentation. The channels need no runtime: their futures run on any executor, and
-//! each wait for a value also exists as a call that blocks the thread.
+//! To switch from `tokio::sync::broadcast` or `tokio::sync::watch`, change the `use` line. The
+//! names are those of Tokio 1.47, and each module has a section "Differences from Tokio". The
+//! examples in the documentation of Tokio 1.24.2, which Debian 12 packages, are tested on these
+//! channels; later additions follow Tokio's documentation. The channels need no runtime: their
+//! futures run on any executor, and every wait for a value also exists as a call that blocks the
+//! thread.
 //!
 //! The blocking calls are for threads outside a runtime. Inside a task they block the executor's
-//! thread, and so perhaps the very task that would send; they cannot notice it, so they do not
-//! panic there, as Tokio's do.
+//! thread, perhaps the one on which the sender would run. Tokio's calls panic there; these cannot
+//! tell that they are inside a task.
 //!
 //! ```
 //! use topichub::broadcast::{self, error::RecvError};
@@ -33,15 +34,18 @@
 //! The library `libtopichub` keeps the channel's state. Its code is proved: each call returns, and
 //! leaves behind, what the rules prescribe. [`library_build`] says whether the linked library was
 //! proved. What this crate adds is only tested: the lock around each call, the payloads (the
-//! library keeps numbers in their place), the wakers, the declarations of the C functions, and the
-//! replies that take no call, which are the counts of senders, [`broadcast::Receiver::is_closed`],
-//! and, for a channel that is not recorded, [`watch::Receiver::has_changed`] and
-//! [`watch::Sender::is_closed`].
+//! library stores numbers in their place), the wakers, the declarations of the C functions, and the
+//! replies that take no call.
+//!
+//! Those are the counts of senders, [`broadcast::Receiver::is_closed`] and, for a watch channel
+//! that is not recorded, `has_changed`, `borrow`, `borrow_and_update` and `is_closed`. They return
+//! what the library said last, from atomics that are stored under the lock. If `borrow_and_update`
+//! marks a value seen, the library is told so before the next call for which it matters.
 //!
 //! # Recording
 //!
-//! A channel can record each call with its reply. The record is a text that anyone can check: with
-//! [`check`], or with the program `topichub check`.
+//! A channel can record each call with its reply. The record is a text that anyone can check, with
+//! [`check`] or with the program `topichub check`.
 //!
 //! ```
 //! use topichub::{broadcast, check, Verdict};
@@ -58,7 +62,7 @@
 #![deny(unsafe_code)]
 #![warn(missing_docs, unreachable_pub, rust_2018_idioms)]
 
-// The example of the README is compiled too.
+// The examples in the README are compiled too.
 #[cfg(doctest)]
 #[doc = include_str!("../README.md")]
 struct Readme;
@@ -77,20 +81,20 @@ use std::fmt;
 #[derive(Clone, Copy, Debug, PartialEq, Eq)]
 #[non_exhaustive]
 pub enum BuildError {
-    /// A capacity is 1 to 65,536.
+    /// The capacity must be 1 to 65,536.
     Capacity,
-    /// The limit of a history is 3 to 1,000,000.
+    /// The limit of a history must be 3 to 1,000,000.
     Limit,
-    /// Memory was refused.
+    /// An allocation failed.
     Memory,
 }
 
 impl fmt::Display for BuildError {
     fn fmt(&self, to: &mut fmt::Formatter<'_>) -> fmt::Result {
         to.write_str(match self {
-            Self::Capacity => "a capacity is 1 to 65,536",
-            Self::Limit => "the limit of a history is 3 to 1,000,000",
-            Self::Memory => "memory was refused",
+            Self::Capacity => "the capacity must be 1 to 65,536",
+            Self::Limit => "the limit of a history must be 3 to 1,000,000",
+            Self::Memory => "an allocation failed",
         })
     }
 }
@@ -101,22 +105,22 @@ impl std::error::Error for BuildError {}
 #[derive(Clone, Copy, Debug, PartialEq, Eq)]
 #[non_exhaustive]
 pub enum HandleError {
-    /// The channel has 65,535 live handles of this kind.
+    /// The channel already has 65,535 live handles of this kind.
     TooMany,
     /// The channel is recorded, and the limit of its history is too low for this many handles.
     Limit,
-    /// Memory was refused.
+    /// An allocation failed.
     Memory,
 }
 
 impl fmt::Display for HandleError {
     fn fmt(&self, to: &mut fmt::Formatter<'_>) -> fmt::Result {
         to.write_str(match self {
-            Self::TooMany => "the channel has 65,535 handles of this kind",
+            Self::TooMany => "the channel already has 65,535 handles of this kind",
             Self::Limit => {
                 "the limit of the history has no room for one entry and the drop of each live handle"
             }
-            Self::Memory => "memory was refused",
+            Self::Memory => "an allocation failed",
         })
     }
 }
@@ -126,7 +130,7 @@ impl std::error::Error for HandleError {}
 /// The verdict on a trace.
 #[derive(Clone, Copy, Debug, PartialEq, Eq)]
 pub enum Verdict {
-    /// It is a trace of this many entries, and each reply is the one that the channel gives.
+    /// A trace of this many entries, in which every reply is the one that the channel gives.
     Legal(u64),
     /// This line, counted from 1, has a reply that the channel would not have given.
     Illegal(u64),
@@ -136,11 +140,11 @@ pub enum Verdict {
 
 /// Checks whether a text is the trace of a channel, as the program `topichub check` does.
 ///
-/// The time grows with the text, and the memory with what the channel of the trace keeps.
+/// The time it takes grows with the text, and the memory with what the traced channel keeps.
 ///
 /// # Panics
 ///
-/// If memory is refused.
+/// If an allocation fails.
 #[track_caller]
 pub fn check(trace: &[u8]) -> Verdict {
     library::check(trace)
@@ -157,13 +161,13 @@ pub fn library_version() -> u32 {
 #[derive(Clone, Copy, Debug, PartialEq, Eq)]
 #[non_exhaustive]
 pub enum Build {
-    /// From an archive that was given by hand: nothing is known about its proof.
+    /// From an archive that was supplied by hand: nothing is known about its proof.
     Given,
-    /// From an archive that the toolchain proved: `make`.
+    /// From an archive that the toolchain proved (`make`).
     Proved,
-    /// From the same sources, with run-time checks and not proved: `make fast`.
+    /// From the same sources, with run-time checks but no proof (`make fast`).
     Checked,
-    /// From the same sources with neither, for measurements: `make unchecked`.
+    /// From the same sources with neither, for measurements (`make unchecked`).
     Unchecked,
 }
 

@@ -1,4 +1,4 @@
-//! A channel of the library, whose history may be full.
+//! A channel of the library whose history may fill up.
 use crate::library::{self, status, Channel, Reply, Trace};
 use crate::HandleError;
 use std::collections::VecDeque;
@@ -6,23 +6,23 @@ use std::collections::VecDeque;
 /// The number of the sender that a channel is made with.
 pub(crate) const FIRST_SENDER: u64 = 1;
 
-/// The least limit of a history: an entry for the first receiver, and the drops of that one and of
+/// The least limit of a history: entries for the first receiver, for its drop and for the drop of
 /// the first sender.
 pub(crate) const LEAST_LIMIT: u64 = 3;
 
-/// A channel of the library, and the segments of its history that were cut but not handed out.
+/// A channel of the library, with the segments of its history that were cut but not yet handed out.
 pub(crate) struct Core<C> {
     channel: C,
     /// The segments that were cut because they were full, oldest first. Without a history there are
     /// none.
-    full: VecDeque<Trace>,
+    full: Option<VecDeque<Trace>>,
 }
 
 impl<C: Channel> Core<C> {
     pub(crate) fn new(channel: C) -> Self {
         Self {
             channel,
-            full: VecDeque::new(),
+            full: None,
         }
     }
 
@@ -37,7 +37,7 @@ impl<C: Channel> Core<C> {
         told
     }
 
-    /// As `call`, but a limit that has no room even in a new segment is an answer.
+    /// Like `call`, but if even a new segment has no room, that is returned as a reply.
     #[track_caller]
     #[inline]
     fn try_call(&mut self, call: impl Fn(&mut C) -> Reply) -> Reply {
@@ -54,7 +54,7 @@ impl<C: Channel> Core<C> {
     #[cold]
     fn begin_segment(&mut self) {
         let full = self.channel.cut();
-        self.full.push_back(full);
+        self.full.get_or_insert_with(VecDeque::new).push_back(full);
     }
 
     /// The number of a new handle.
@@ -70,7 +70,7 @@ impl<C: Channel> Core<C> {
         }
     }
 
-    /// The count that a question returns.
+    /// The count that a call returns.
     #[track_caller]
     pub(crate) fn count(&mut self, call: impl Fn(&mut C) -> Reply) -> usize {
         let told = self.call(call);
@@ -80,22 +80,23 @@ impl<C: Channel> Core<C> {
         }
     }
 
-    /// The oldest segment that was not handed out. Only for a channel that was made with a history.
+    /// The oldest segment not yet handed out. Only for a channel that was made with a history.
     #[track_caller]
     pub(crate) fn cut(&mut self) -> Trace {
-        self.full.pop_front().unwrap_or_else(|| self.channel.cut())
+        let oldest = self.full.as_mut().and_then(VecDeque::pop_front);
+        oldest.unwrap_or_else(|| self.channel.cut())
     }
 
-    /// All segments that were not handed out. Only for a channel that was made with a history.
+    /// All segments not yet handed out. Only for a channel that was made with a history.
     #[track_caller]
     pub(crate) fn cut_all(&mut self) -> VecDeque<Trace> {
-        let mut all = std::mem::take(&mut self.full);
+        let mut all = self.full.take().unwrap_or_default();
         all.push_back(self.channel.cut());
         all
     }
 }
 
-/// What was made. Panics, in the name of the caller, if it was not.
+/// Unwraps the result of a maker. The panic names the caller's line.
 #[track_caller]
 pub(crate) fn made<A, E: std::fmt::Display>(result: Result<A, E>) -> A {
     match result {

@@ -3,16 +3,16 @@ use crate::blocking::Patience;
 use std::sync::atomic::{AtomicUsize, Ordering};
 use std::sync::{Mutex, MutexGuard, PoisonError, TryLockError};
 
-/// How long a thread looks for the lock before it sleeps: a few microseconds, while a call takes a
-/// tenth of one. The mutexes of the standard library and of Tokio do the same.
+/// How long a thread spins for the lock before it sleeps: a few microseconds. A call takes a tenth
+/// of one. The mutexes of the standard library and of Tokio spin too.
 const PATIENCE: Patience = Patience { spins: 6 };
 
-/// A mutex in which senders come first, but nobody waits for long.
+/// A mutex that senders get first, though nobody waits for long.
 ///
-/// If many receivers compete for the lock, they read each value as soon as it is sent, and sleep;
-/// then each value costs a wake-up for each of them. So receivers that find the lock taken queue at
-/// a gate, and only the one inside competes with the senders. It lets waiting senders go first, but
-/// only while its patience lasts.
+/// If many receivers compete for the lock, they read each value as soon as it is sent and go back
+/// to sleep, so that each value costs a wake-up per receiver. Therefore receivers that find the
+/// lock taken queue at a gate, and only the one inside competes with the senders. It lets waiting
+/// senders go first, but only for as long as it spins.
 pub(crate) struct Turns<T> {
     mutex: Mutex<T>,
     /// Held by the one receiver that competes for the lock.
@@ -30,7 +30,7 @@ impl<T> Turns<T> {
         }
     }
 
-    /// The lock, for a caller that lets senders go first.
+    /// Takes the lock for a caller that lets senders go first.
     #[inline]
     pub(crate) fn lock(&self) -> MutexGuard<'_, T> {
         match self.lock_behind_senders() {
@@ -39,7 +39,7 @@ impl<T> Turns<T> {
         }
     }
 
-    /// The lock, for a sender.
+    /// Takes the lock for a sender.
     #[inline]
     pub(crate) fn lock_first(&self) -> MutexGuard<'_, T> {
         match self.try_lock() {
@@ -80,8 +80,8 @@ impl<T> Turns<T> {
         }
     }
 
-    /// The lock, if it is free. If a `clone` of a value has panicked under it, the call was made,
-    /// and nothing is left half done.
+    /// Takes the lock if it is free. Poison is ignored: if a value's `clone` has panicked under the
+    /// lock, the call was complete, and nothing was left half done.
     #[inline]
     fn try_lock(&self) -> Option<MutexGuard<'_, T>> {
         match self.mutex.try_lock() {

@@ -2,21 +2,25 @@
 use std::cell::Cell;
 use std::task::{Poll, Waker};
 
-/// The tasks that wait for the same news. The channel's lock guards it, so that no task is missed.
+/// The tasks that wait for the same news. The channel's lock guards them, so that none is missed.
+/// Nothing is allocated until a task waits: on many channels none ever does.
 #[derive(Default)]
-pub(crate) struct Waiters {
-    /// How often all were called. A seat that was taken in an earlier round is no longer valid.
+pub(crate) struct Waiters(Option<Box<Seats>>);
+
+#[derive(Default)]
+struct Seats {
+    /// How often all of them were called. A seat from an earlier round is no longer valid.
     round: u64,
     wakers: Vec<Option<Waker>>,
-    /// The seats that were left in this round.
+    /// The seats that were given back in this round.
     free: Vec<usize>,
 }
 
-/// The place where a task waits, if it does. [`Waiters::leave`] gives it back.
+/// A task's place among those that wait, if it waits. [`Waiters::leave`] gives it back.
 #[derive(Default)]
 pub(crate) struct Seat {
     place: Option<Place>,
-    /// Whether the wait has had its answer.
+    /// Whether the wait is over.
     is_done: bool,
 }
 
@@ -31,7 +35,7 @@ impl Seat {
         self.place.is_some()
     }
 
-    /// Panics if the wait has had its answer: a future must not take a second one.
+    /// Panics if the wait is over, since a future must not take a second answer.
     #[inline]
     pub(crate) fn expect_waiting(&self, future: &str) {
         assert!(!self.is_done, "`{future}` was polled after it was ready");
@@ -39,10 +43,51 @@ impl Seat {
 }
 
 impl Waiters {
-    /// Registers a waker for the next news. Drop the waker that it replaces only after the lock is
-    /// released, since that may run a task's own code.
+    /// Registers a waker for the next news. Drop the waker that it replaces only after releasing
+    /// the lock, since that may run the task's own code.
     #[must_use]
     pub(crate) fn sit(&mut self, seat: &mut Seat, waker: &Waker) -> Option<Waker> {
+        self.0.get_or_insert_with(Box::default).sit(seat, waker)
+    }
+
+    /// Gives the seat back. Drop the waker only after releasing the lock.
+    #[must_use]
+    #[inline]
+    pub(crate) fn leave(&mut self, seat: &mut Seat) -> Option<Waker> {
+        let place = seat.place.take()?;
+        self.0.as_mut()?.leave(place)
+    }
+
+    /// The result of a poll: with an answer the wait is over, without one it continues. Drop the
+    /// waker only after releasing the lock.
+    #[inline]
+    pub(crate) fn poll<A>(
+        &mut self,
+        seat: &mut Seat,
+        waker: &Waker,
+        answer: Option<A>,
+    ) -> (Poll<A>, Option<Waker>) {
+        match answer {
+            Some(answer) => {
+                seat.is_done = true;
+                (Poll::Ready(answer), self.leave(seat))
+            }
+            None => (Poll::Pending, self.sit(seat, waker)),
+        }
+    }
+
+    /// Takes out all tasks that wait. Wake them after releasing the lock.
+    #[inline]
+    pub(crate) fn call(&mut self) -> Called {
+        match &mut self.0 {
+            Some(seats) if !seats.wakers.is_empty() => seats.call(),
+            _ => Called::nobody(),
+        }
+    }
+}
+
+impl Seats {
+    fn sit(&mut self, seat: &mut Seat, waker: &Waker) -> Option<Waker> {
         let index = match seat.place {
             Some(place) if place.round == self.round => place.index,
             _ => self.free_seat(),
@@ -64,47 +109,16 @@ impl Waiters {
         })
     }
 
-    /// Gives the seat back. Drop the waker only after the lock is released.
-    #[must_use]
-    pub(crate) fn leave(&mut self, seat: &mut Seat) -> Option<Waker> {
-        let place = seat
-            .place
-            .take()
-            .filter(|place| place.round == self.round)?;
+    fn leave(&mut self, place: Place) -> Option<Waker> {
+        if place.round != self.round {
+            return None;
+        }
         self.free.push(place.index);
         self.wakers[place.index].take()
     }
 
-    /// The outcome of a poll: with an answer the wait is over, and without one it continues. Drop
-    /// the waker only after the lock is released.
-    #[inline]
-    pub(crate) fn poll<A>(
-        &mut self,
-        seat: &mut Seat,
-        waker: &Waker,
-        answer: Option<A>,
-    ) -> (Poll<A>, Option<Waker>) {
-        match answer {
-            Some(answer) => {
-                seat.is_done = true;
-                (Poll::Ready(answer), self.leave(seat))
-            }
-            None => (Poll::Pending, self.sit(seat, waker)),
-        }
-    }
-
-    /// All tasks that wait, to be woken once the lock is released.
-    #[inline]
-    pub(crate) fn call(&mut self) -> Called {
-        if self.wakers.is_empty() {
-            Called::nobody()
-        } else {
-            self.call_some()
-        }
-    }
-
     #[inline(never)]
-    fn call_some(&mut self) -> Called {
+    fn call(&mut self) -> Called {
         self.round += 1;
         self.free.clear();
         let emptied = SPARE.try_with(Cell::take).unwrap_or_default();
@@ -113,11 +127,11 @@ impl Waiters {
 }
 
 thread_local! {
-    /// An empty list with room, so that waking takes no memory each time.
+    /// An empty list with spare capacity, so that waking does not allocate every time.
     static SPARE: Cell<Vec<Option<Waker>>> = const { Cell::new(Vec::new()) };
 }
 
-/// Tasks that are to be woken.
+/// Tasks to be woken.
 #[must_use]
 pub(crate) struct Called(Option<Vec<Option<Waker>>>);
 
@@ -137,7 +151,7 @@ impl Called {
 #[inline(never)]
 fn wake_all(mut wakers: Vec<Option<Waker>>) {
     wakers.drain(..).flatten().for_each(Waker::wake);
-    // A thread that is ending has no spare list any more.
+    // A thread that is ending may no longer have a spare list.
     let _ = SPARE.try_with(|spare| spare.set(wakers));
 }
 
@@ -163,7 +177,7 @@ mod tests {
     }
 
     #[test]
-    fn each_who_waits_is_woken_once() {
+    fn each_waiting_task_is_woken_once() {
         let mut waiters = Waiters::default();
         let all: Vec<_> = (0..3).map(|_| counted()).collect();
         for (_, waker) in &all {
@@ -177,7 +191,7 @@ mod tests {
     }
 
     #[test]
-    fn who_sits_again_is_woken_by_the_later_waker_alone() {
+    fn a_task_that_sits_again_is_woken_by_its_later_waker_only() {
         let mut waiters = Waiters::default();
         let mut seat = Seat::default();
         let ((earlier, first), (later, second)) = (counted(), counted());
@@ -195,7 +209,7 @@ mod tests {
     }
 
     #[test]
-    fn who_has_left_is_not_woken_and_the_seat_is_given_to_the_next() {
+    fn a_task_that_left_is_not_woken_and_its_seat_is_reused() {
         let mut waiters = Waiters::default();
         let ((gone, first), (there, second)) = (counted(), counted());
         for _ in 0..100 {
@@ -205,7 +219,7 @@ mod tests {
             assert!(!seat.is_taken());
         }
         assert!(waiters.sit(&mut Seat::default(), &second).is_none());
-        assert_eq!(waiters.wakers.len(), 1);
+        assert_eq!(waiters.0.as_ref().unwrap().wakers.len(), 1);
         waiters.call().wake();
         assert_eq!(
             (
@@ -217,7 +231,7 @@ mod tests {
     }
 
     #[test]
-    fn a_seat_of_an_earlier_round_is_nobodys() {
+    fn a_seat_from_an_earlier_round_is_no_longer_valid() {
         let mut waiters = Waiters::default();
         let mut seat = Seat::default();
         let ((_, first), (other, second)) = (counted(), counted());
@@ -228,8 +242,9 @@ mod tests {
         waiters.call().wake();
         assert_eq!(other.0.load(Ordering::Relaxed), 1);
     }
-    /// What may happen to two seats. Time passes between a call and its wake, since the lock is
-    /// released.
+
+    /// What may happen to two seats. Other steps may come between a call and its wake, since the
+    /// lock is released in between.
     #[derive(Clone, Copy, Debug)]
     enum Step {
         Sit(usize),
@@ -247,13 +262,13 @@ mod tests {
         Step::Wake,
     ];
 
-    /// Takes the steps, with a new waker for each seat: a wake calls each waker that waited at
-    /// its call, once, and no other one.
+    /// Takes the steps, with a new waker each time: a wake calls each waker that waited at the time
+    /// of its call once, and no other.
     fn take(steps: &[Step]) {
         let mut waiters = Waiters::default();
         let mut seats = [Seat::default(), Seat::default()];
         let (mut given, mut called) = (Vec::new(), std::collections::VecDeque::new());
-        // Whose waker waits, and how often each is to have been called.
+        // Which waker waits in each seat, and how often each should have been called.
         let (mut waits, mut wanted) = ([None; 2], Vec::new());
         for step in steps {
             match *step {
@@ -286,7 +301,7 @@ mod tests {
     }
 
     #[test]
-    fn in_every_order_a_wake_calls_whoever_waits() {
+    fn in_every_order_a_wake_calls_exactly_those_who_wait() {
         const LENGTH: u32 = 6;
         for order in 0..STEPS.len().pow(LENGTH) {
             let steps: Vec<_> = (0..LENGTH)

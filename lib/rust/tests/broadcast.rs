@@ -1,4 +1,4 @@
-//! The rules of a broadcast channel, by one thread.
+//! The rules of a broadcast channel, in one thread.
 mod common;
 
 use common::{block_on, poll, Calls};
@@ -27,7 +27,7 @@ fn each_value_goes_to_each_receiver_in_order() {
 }
 
 #[test]
-fn a_capacity_is_rounded_up_and_who_is_behind_it_lags() {
+fn a_capacity_is_rounded_up_and_a_receiver_behind_it_lags() {
     let (tx, mut rx) = broadcast::channel(3);
     for value in 0..7 {
         tx.send(value).unwrap();
@@ -48,7 +48,7 @@ fn a_capacity_is_rounded_up_and_who_is_behind_it_lags() {
 }
 
 #[test]
-fn a_closed_channel_gives_what_it_kept_and_tells_a_lag_first() {
+fn a_closed_channel_reports_a_lag_and_then_gives_what_it_kept() {
     let (tx, mut rx) = broadcast::channel(1);
     let other = tx.clone();
     tx.send(1).unwrap();
@@ -77,7 +77,7 @@ fn without_receivers_a_value_comes_back_and_later_ones_may_be_sent() {
 }
 
 #[test]
-fn new_receivers_begin_where_they_say() {
+fn new_receivers_begin_where_they_should() {
     let (tx, mut rx) = broadcast::channel(4);
     tx.send(1).unwrap();
     tx.send(2).unwrap();
@@ -150,7 +150,7 @@ fn a_value_is_kept_until_its_last_reader_and_that_one_gets_it_uncloned() {
     assert_eq!(count(), (1, 3));
     assert!(tx.send(made(2)).is_err());
     assert_eq!(count(), (1, 4));
-    // A value that no receiver has read is dropped when it falls out of the window, and with the
+    // A value that no receiver has read is dropped when the channel no longer keeps it, or with the
     // channel.
     let late = tx.subscribe();
     for number in 3..6 {
@@ -162,7 +162,7 @@ fn a_value_is_kept_until_its_last_reader_and_that_one_gets_it_uncloned() {
 }
 
 #[test]
-fn who_waits_is_woken_once_by_a_value_and_by_the_last_sender() {
+fn a_waiting_task_is_woken_once_by_a_value_and_by_the_last_sender() {
     let (tx, mut rx) = broadcast::channel(4);
     let other = tx.clone();
     let (calls, waker) = Calls::new();
@@ -189,7 +189,7 @@ fn who_waits_is_woken_once_by_a_value_and_by_the_last_sender() {
 }
 
 #[test]
-fn a_wait_that_is_given_up_has_received_nothing_and_is_not_woken() {
+fn a_wait_that_is_dropped_receives_nothing_and_is_not_woken() {
     let (tx, mut rx) = broadcast::channel(4);
     let (calls, waker) = Calls::new();
     for _ in 0..10 {
@@ -201,7 +201,7 @@ fn a_wait_that_is_given_up_has_received_nothing_and_is_not_woken() {
 }
 
 #[test]
-fn what_no_channel_can_have_is_refused() {
+fn invalid_capacities_and_limits_are_refused() {
     assert_eq!(
         Builder::new(0).build::<u8>().unwrap_err(),
         BuildError::Capacity
@@ -224,7 +224,7 @@ fn what_no_channel_can_have_is_refused() {
 }
 
 #[test]
-fn the_receivers_end_where_the_limit_is() {
+fn receivers_are_limited() {
     let (tx, rx) = broadcast::channel::<u8>(1);
     let all: Vec<_> = (1..65_535).map(|_| tx.subscribe()).collect();
     assert_eq!(tx.receiver_count(), 65_535);
@@ -241,7 +241,7 @@ fn the_receivers_end_where_the_limit_is() {
 }
 
 #[test]
-fn the_senders_end_where_the_limit_is() {
+fn senders_are_limited() {
     let (tx, rx) = broadcast::channel::<u8>(1);
     let weak = tx.downgrade();
     let all: Vec<_> = (1..65_535).map(|_| tx.try_clone().unwrap()).collect();
@@ -269,12 +269,12 @@ fn a_history_without_room_for_a_handle_is_an_error() {
     );
     assert_eq!(
         HandleError::TooMany.to_string(),
-        "the channel has 65,535 handles of this kind"
+        "the channel already has 65,535 handles of this kind"
     );
 }
 
 #[test]
-fn the_greatest_capacity_is_kept() {
+fn the_greatest_capacity_works() {
     let (tx, mut rx) = Builder::new(65_536).build().unwrap();
     tx.send_many((0..65_537).collect()).unwrap();
     assert_eq!(rx.try_recv(), Err(TryRecvError::Lagged(1)));
@@ -282,7 +282,7 @@ fn the_greatest_capacity_is_kept() {
 }
 
 #[test]
-fn a_sender_can_wait_until_nobody_receives() {
+fn a_sender_can_wait_until_no_receiver_is_left() {
     let (tx, rx) = broadcast::channel::<u8>(1);
     let other = rx.resubscribe();
     let (calls, waker) = Calls::new();
@@ -292,7 +292,7 @@ fn a_sender_can_wait_until_nobody_receives() {
     assert_eq!(calls.count(), 0);
     drop(other);
     assert_eq!(calls.count(), 1);
-    // A receiver that comes before the task is polled again keeps it waiting.
+    // A receiver that is made before the task is polled again keeps it waiting.
     let late = tx.subscribe();
     assert_eq!(poll(&mut waiting, &waker), Poll::Pending);
     drop(late);
@@ -338,7 +338,7 @@ fn an_upgrade_is_a_clone_in_the_recording() {
 }
 
 #[test]
-fn a_sender_needs_no_values_that_can_be_cloned() {
+fn a_sender_does_not_need_values_that_can_be_cloned() {
     struct Whole;
     let tx = Sender::<Whole>::new(1);
     let rx = tx.subscribe();
@@ -389,7 +389,7 @@ fn a_clone_that_panics_leaves_the_channel_in_order() {
 }
 
 #[test]
-fn errors_and_handles_say_what_tokios_say() {
+fn errors_and_handles_print_what_tokios_print() {
     let (tx, rx) = broadcast::channel::<u8>(1);
     assert_eq!(
         format!("{tx:?} {rx:?}"),
@@ -401,7 +401,7 @@ fn errors_and_handles_say_what_tokios_say() {
 }
 
 #[test]
-fn handles_go_to_threads_where_the_values_do() {
+fn handles_can_be_sent_to_threads_if_values_can() {
     fn goes<T: Send + Sync>() {}
     goes::<broadcast::Sender<Cell<u8>>>();
     goes::<broadcast::Receiver<Cell<u8>>>();

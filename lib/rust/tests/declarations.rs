@@ -2,14 +2,14 @@
 use std::collections::BTreeMap;
 use std::path::Path;
 
-/// A function's result and parameters, in the words of Rust.
+/// A function's result and parameters, as Rust types.
 type Signature = (String, Vec<String>);
 
 fn text_of(file: &str) -> Option<String> {
     std::fs::read_to_string(Path::new(env!("CARGO_MANIFEST_DIR")).join(file)).ok()
 }
 
-/// A type of the header, in the words of Rust.
+/// A type of the header, as a Rust type.
 fn in_rust(words: &str) -> String {
     let words: Vec<&str> = words.split_whitespace().collect();
     let (kind, is_const) = match words.as_slice() {
@@ -75,7 +75,7 @@ fn of_the_crate(text: &str) -> BTreeMap<String, Signature> {
     declared.collect()
 }
 
-/// The lines `NAME = NUMBER` or `NAME NUMBER` of a text, without what stands before the name.
+/// The lines `NAME = NUMBER` or `NAME NUMBER` of a text, without the prefix of the names.
 fn numbers<'a>(text: &'a str, before: &str) -> BTreeMap<&'a str, u32> {
     let lines = text.lines().filter_map(|line| {
         let (name, rest) = line.trim().strip_prefix(before)?.split_once(' ')?;
@@ -87,10 +87,10 @@ fn numbers<'a>(text: &'a str, before: &str) -> BTreeMap<&'a str, u32> {
 }
 
 #[test]
-fn each_declaration_is_that_of_the_header() {
+fn the_declarations_match_the_header() {
     let (header, source) = match (text_of("../c/topichub.h"), text_of("src/library/sys.rs")) {
         (Some(header), Some(source)) => (header, source),
-        _ => return eprintln!("left out: the header is not beside this crate"),
+        _ => return eprintln!("skipped: the header is not next to this crate"),
     };
     let (header_has, crate_has) = (of_the_header(&header), of_the_crate(&source));
     assert!(crate_has.len() > 40, "{crate_has:?}");
@@ -108,8 +108,8 @@ fn each_declaration_is_that_of_the_header() {
 }
 
 #[test]
-fn the_crate_and_the_library_are_of_one_version() {
-    // Not of what a pre-release has behind these.
+fn the_crate_and_the_library_have_the_same_version() {
+    // Not the part that a pre-release adds to these.
     let parts = [
         env!("CARGO_PKG_VERSION_MAJOR"),
         env!("CARGO_PKG_VERSION_MINOR"),

@@ -1,4 +1,4 @@
-//! Values that are sent and received in groups.
+//! Sending and receiving values in groups.
 mod common;
 
 use common::{block_on, poll, Calls};
@@ -10,7 +10,7 @@ use topichub::broadcast::{self, Builder};
 use topichub::{check, Verdict};
 
 #[test]
-fn a_group_is_sent_in_its_order_and_wakes_once() {
+fn a_group_is_sent_in_order_and_wakes_once() {
     let (tx, mut rx) = broadcast::channel(4);
     let (calls, waker) = Calls::new();
     let mut waiting = rx.recv();
@@ -28,7 +28,7 @@ fn a_group_is_sent_in_its_order_and_wakes_once() {
 }
 
 #[test]
-fn what_makes_room_in_a_group_is_dropped() {
+fn values_that_make_room_for_a_group_are_dropped() {
     let value = Rc::new(());
     let (tx, mut rx) = broadcast::channel(2);
     assert_eq!(tx.send_many(vec![Rc::clone(&value); 5]), Ok(1));
@@ -73,7 +73,7 @@ fn a_group_is_received_up_to_its_limit() {
 }
 
 #[test]
-fn a_wait_for_a_group_that_is_given_up_loses_nothing() {
+fn a_wait_for_a_group_that_is_dropped_loses_nothing() {
     let (tx, mut rx) = broadcast::channel(4);
     let (calls, waker) = Calls::new();
     let mut buffer = vec![];

@@ -1,5 +1,5 @@
-//! Tasks on one channel, in every order in which their polls and the calls of others can follow one
-//! another: no wake is lost, so that each task comes to its end.
+//! Tasks on one channel, in every order of their polls and the calls of others: no wake is lost, so
+//! every task finishes.
 mod common;
 
 use common::{poll, Calls};
@@ -11,10 +11,10 @@ use std::task::{Context, Poll, Waker};
 use topichub::broadcast::error::RecvError;
 use topichub::{broadcast, watch};
 
-/// Which step comes next, in one order after the other.
+/// Chooses the steps of a run, in one order after another.
 #[derive(Default)]
 struct Choices {
-    /// What was chosen, and of how many.
+    /// What was chosen, and out of how many.
     taken: Vec<(usize, usize)>,
     at: usize,
 }
@@ -45,7 +45,7 @@ impl Choices {
 
 type Steps = Vec<Box<dyn FnOnce()>>;
 
-/// A task, polled only at first and after it was woken.
+/// A task that is polled at first, and then only after it was woken.
 struct Task {
     future: Pin<Box<dyn Future<Output = ()>>>,
     calls: Arc<Calls>,
@@ -77,8 +77,8 @@ impl Task {
     }
 }
 
-/// Runs tasks beside others, each of which has its calls in their order. The tasks have to be done
-/// once nothing can go on.
+/// Runs tasks interleaved with others, each of which makes its calls in order. Once nothing can go
+/// on, all tasks must have finished.
 fn run(choices: &mut Choices, mut tasks: Vec<Task>, mut others: Vec<Steps>) {
     others.iter_mut().for_each(|steps| steps.reverse());
     loop {
@@ -101,7 +101,7 @@ fn run(choices: &mut Choices, mut tasks: Vec<Task>, mut others: Vec<Steps>) {
     }
 }
 
-/// Makes each run that the choices allow, and answers how many there were.
+/// Makes every run that the choices allow, and returns how many there were.
 fn in_every_order(mut made: impl FnMut() -> (Vec<Task>, Vec<Steps>)) -> u64 {
     let mut choices = Choices::default();
     let mut runs = 0;
@@ -115,7 +115,7 @@ fn in_every_order(mut made: impl FnMut() -> (Vec<Task>, Vec<Steps>)) -> u64 {
     }
 }
 
-/// Polls a future once, and drops it.
+/// Polls a future once and drops it.
 struct AtOnce<F>(Option<F>);
 
 impl<F: Future + Unpin> Future for AtOnce<F> {
@@ -134,8 +134,8 @@ fn at_once<F: Future + Unpin>(future: F) -> AtOnce<F> {
     AtOnce(Some(future))
 }
 
-/// Receives until this many values came or were missed, in their order. An impatient one drops a
-/// wait go first, each time.
+/// Receives, in order, until this many values have come or were missed. An impatient receiver first
+/// starts a wait and drops it, each time.
 async fn receive(rx: &mut broadcast::Receiver<u64>, sent: u64, is_impatient: bool) {
     let mut next = 0;
     while next < sent {
@@ -164,7 +164,7 @@ async fn receive_to_the_end(mut rx: broadcast::Receiver<u64>, sent: u64, is_impa
     assert_eq!(rx.recv().await, Err(RecvError::Closed));
 }
 
-/// The calls of a sender: this many sends, and its end.
+/// The calls of a sender: this many sends, and its drop.
 fn sends(tx: broadcast::Sender<u64>, count: u64) -> Steps {
     let tx = Rc::new(tx);
     let mut steps: Steps = Vec::new();
@@ -197,7 +197,7 @@ fn receivers_are_woken_by_each_send() {
 }
 
 #[test]
-fn receivers_are_woken_by_the_end_of_the_last_sender() {
+fn receivers_are_woken_when_the_last_sender_is_dropped() {
     let runs = in_every_order(|| {
         let (tx, rx) = broadcast::channel(2);
         let tasks = vec![
@@ -210,8 +210,8 @@ fn receivers_are_woken_by_the_end_of_the_last_sender() {
     assert!(runs > 1_000, "{runs}");
 }
 
-/// Waits for publications until the newest value is this one. An impatient one drops a wait go
-/// first, each time.
+/// Waits for publications until the newest value is this one. An impatient reader first starts a
+/// wait and drops it, each time.
 async fn follow(rx: &mut watch::Receiver<u64>, last: u64, is_impatient: bool) {
     while *rx.borrow() < last {
         let told = if is_impatient {
@@ -232,7 +232,7 @@ async fn follow_to_the_end(mut rx: watch::Receiver<u64>, last: u64, is_impatient
     assert_eq!(*rx.borrow(), last);
 }
 
-/// The calls of a sender: this many publications, and its end.
+/// The calls of a sender: this many publications, and its drop.
 fn publications(tx: watch::Sender<u64>, count: u64) -> Steps {
     let tx = Rc::new(tx);
     let mut steps: Steps = Vec::new();
@@ -265,7 +265,7 @@ fn readers_are_woken_by_each_publication() {
 }
 
 #[test]
-fn readers_are_woken_by_the_end_of_the_last_sender() {
+fn readers_are_woken_when_the_last_sender_is_dropped() {
     let runs = in_every_order(|| {
         let (tx, rx) = watch::channel(0);
         let tasks = vec![
@@ -279,7 +279,7 @@ fn readers_are_woken_by_the_end_of_the_last_sender() {
 }
 
 #[test]
-fn senders_are_woken_by_the_end_of_the_last_reader() {
+fn senders_are_woken_when_the_last_reader_is_dropped() {
     let runs = in_every_order(|| {
         let (tx, rx) = watch::channel(0);
         let (other, second) = (tx.clone(), rx.clone());
@@ -294,7 +294,7 @@ fn senders_are_woken_by_the_end_of_the_last_reader() {
 }
 
 #[test]
-fn senders_are_woken_by_the_end_of_the_last_receiver() {
+fn senders_are_woken_when_the_last_receiver_is_dropped() {
     let runs = in_every_order(|| {
         let (tx, rx) = broadcast::channel::<u64>(2);
         let (other, second) = (tx.clone(), tx.subscribe());
@@ -311,7 +311,7 @@ fn senders_are_woken_by_the_end_of_the_last_receiver() {
     assert!(runs > 10, "{runs}");
 }
 
-/// A future that a closure polls: `std::future::poll_fn` came with Rust 1.64.
+/// A future that calls a closure; `std::future::poll_fn` needs Rust 1.64.
 struct Polls<F>(F);
 
 impl<A, F: FnMut(&mut Context<'_>) -> Poll<A> + Unpin> Future for Polls<F> {
@@ -322,7 +322,7 @@ impl<A, F: FnMut(&mut Context<'_>) -> Poll<A> + Unpin> Future for Polls<F> {
     }
 }
 
-/// Receives to the end by polls without a future, as a stream does.
+/// Receives to the end by polling without a future, as a stream does.
 async fn poll_to_the_end(mut rx: broadcast::Receiver<u64>, sent: u64) {
     let mut next = 0;
     loop {

@@ -7,7 +7,7 @@ thread_local! {
     static FILE: RefCell<String> = const { RefCell::new(String::new()) };
 }
 
-/// The file that the panic of a call names.
+/// The file named in the panic of a call.
 fn file_of<A>(call: impl FnOnce() -> A) -> String {
     assert!(catch_unwind(AssertUnwindSafe(call)).is_err());
     FILE.with(RefCell::take)
@@ -39,7 +39,7 @@ fn a_panic_names_the_caller() {
     files.push(file_of(|| tx.subscribe()));
     files.push(file_of(|| rx.clone()));
     drop(all);
-    // Two drops may always be noted, and the limit has room for one entry more.
+    // The limit reserves room for two drops, which leaves one entry.
     let (tx, rx, _recording) = broadcast::Builder::new(1)
         .recorded(3)
         .build::<u8>()

@@ -1,8 +1,8 @@
-//! What is recorded, and that it is legal.
+//! Recordings have each call, and are legal.
 use topichub::{broadcast, check, watch, Verdict};
 
 #[test]
-fn a_broadcast_channel_tells_each_call_with_its_reply() {
+fn a_broadcast_channel_records_each_call_with_its_reply() {
     let (tx, mut rx, recording) = broadcast::Builder::new(2).recorded(100).build().unwrap();
     for value in ["red", "green", "blue"] {
         tx.send(value).unwrap();
@@ -26,7 +26,7 @@ fn a_broadcast_channel_tells_each_call_with_its_reply() {
 }
 
 #[test]
-fn a_watch_channel_tells_each_call_with_its_reply() {
+fn a_watch_channel_records_each_call_with_its_reply() {
     let (tx, mut rx, recording) = watch::Builder::new("red").recorded(100).build().unwrap();
     tx.send("green").unwrap();
     assert!(rx.has_changed().unwrap());
@@ -46,7 +46,7 @@ fn a_watch_channel_tells_each_call_with_its_reply() {
 }
 
 #[test]
-fn a_wait_that_is_not_over_is_no_event() {
+fn an_unfinished_wait_is_not_recorded() {
     let (_tx, mut rx, recording) = broadcast::Builder::new(2)
         .recorded(100)
         .build::<u8>()
@@ -57,7 +57,7 @@ fn a_wait_that_is_not_over_is_no_event() {
 }
 
 #[test]
-fn a_full_history_goes_on_in_the_next_trace_and_nothing_is_lost() {
+fn a_full_history_continues_in_the_next_trace() {
     let (tx, mut rx, recording) = broadcast::Builder::new(2).recorded(10).build().unwrap();
     for value in 0..50 {
         tx.send(value).unwrap();
@@ -79,7 +79,7 @@ fn a_full_history_goes_on_in_the_next_trace_and_nothing_is_lost() {
 }
 
 #[test]
-fn what_is_discarded_is_in_no_trace() {
+fn discarded_entries_are_in_no_trace() {
     let (tx, mut rx, recording) = broadcast::Builder::new(2).recorded(5).build().unwrap();
     for value in 0..10 {
         tx.send(value).unwrap();
@@ -93,7 +93,7 @@ fn what_is_discarded_is_in_no_trace() {
 }
 
 #[test]
-fn a_check_names_the_line_that_is_wrong() {
+fn a_check_reports_the_wrong_line() {
     let (tx, _rx, recording) = broadcast::Builder::new(1).recorded(100).build().unwrap();
     tx.send(0).unwrap();
     let told = recording.trace();

@@ -1,4 +1,4 @@
-//! Threads on one channel: what each receives fits together, and the whole run is legal.
+//! Threads on one channel: what they receive is consistent, and the whole run is legal.
 mod common;
 
 use common::{block_on, Dice};
@@ -10,9 +10,8 @@ const RUNS: u64 = 30;
 const SENDERS: u64 = 2;
 const EACH: u64 = 200;
 
-/// What a receiver gets until the end, by one of three kinds of receives at random. From its last
-/// subscription on it misses nothing but what lags count. Answered is what it was told then, and
-/// how many it missed.
+/// Receives until the end, each time by one of three calls at random. Returns what came after its
+/// last resubscription, and how many values it missed since then: nothing but what lags count.
 fn receive_all(mut rx: broadcast::Receiver<(u64, u64)>, seed: u64) -> (Vec<(u64, u64)>, u64) {
     let mut dice = Dice::new(seed);
     let (mut told, mut missed) = (Vec::new(), 0);
@@ -77,7 +76,7 @@ fn runs_of_a_broadcast_channel_are_legal() {
                 scope.spawn(move || {
                     let mut dice = Dice::new(seed * 10 + 5 + sender);
                     for number in 0..EACH {
-                        // Receivers may all be about to begin anew, so a value may find none.
+                        // All receivers may be resubscribing, so a send may find none.
                         let _ = tx.send((sender, number));
                         match dice.below(8) {
                             0 => thread::yield_now(),
@@ -101,7 +100,7 @@ fn runs_of_a_broadcast_channel_are_legal() {
 }
 
 #[test]
-fn who_keeps_up_receives_all() {
+fn receivers_that_keep_up_get_every_value() {
     const VALUES: u64 = 2_000;
     let (tx, rx) = broadcast::channel(VALUES as usize);
     let receivers: Vec<_> = (1..4).map(|_| tx.subscribe()).chain([rx]).collect();
@@ -126,19 +125,24 @@ fn who_keeps_up_receives_all() {
     });
 }
 
+/// Has three threads follow a watch channel while another publishes.
+fn publish_and_follow(tx: watch::Sender<u64>, rx: watch::Receiver<u64>, seed: u64) {
+    let receivers: Vec<_> = (1..3).map(|_| tx.subscribe()).chain([rx]).collect();
+    thread::scope(|scope| {
+        for (turn, rx) in (0u64..).zip(receivers) {
+            scope.spawn(move || assert!(rises(follow(rx, seed * 10 + turn).into_iter())));
+        }
+        // A reader stays until the last publication, so that each send finds one.
+        let keeper = tx.subscribe();
+        scope.spawn(move || publish_all(tx, keeper, seed));
+    });
+}
+
 #[test]
 fn runs_of_a_watch_channel_are_legal() {
     for seed in 0..RUNS {
         let (tx, rx, recording) = watch::Builder::new(0u64).recorded(100_000).build().unwrap();
-        let receivers: Vec<_> = (1..3).map(|_| tx.subscribe()).chain([rx]).collect();
-        thread::scope(|scope| {
-            for (turn, rx) in (0u64..).zip(receivers) {
-                scope.spawn(move || assert!(rises(follow(rx, seed * 10 + turn).into_iter())));
-            }
-            // Nobody may go before the last publication, or a send would find no reader.
-            let keeper = tx.subscribe();
-            scope.spawn(move || publish_all(tx, keeper, seed));
-        });
+        publish_and_follow(tx, rx, seed);
         assert!(
             matches!(check(recording.trace().as_bytes()), Verdict::Legal(_)),
             "seed {seed}"
@@ -146,8 +150,15 @@ fn runs_of_a_watch_channel_are_legal() {
     }
 }
 
-/// The values that a reader was told of as unseen, until the channel is closed. What it looks at
-/// again is left out.
+#[test]
+fn a_watch_channel_without_a_history_reports_each_value_once() {
+    for seed in 0..RUNS {
+        let (tx, rx) = watch::channel(0u64);
+        publish_and_follow(tx, rx, seed);
+    }
+}
+
+/// The values that were reported to a reader as unseen, until the channel is closed.
 fn follow(mut rx: watch::Receiver<u64>, seed: u64) -> Vec<u64> {
     let mut dice = Dice::new(seed);
     let mut told = vec![];
@@ -187,7 +198,7 @@ fn publish_all(tx: watch::Sender<u64>, keeper: watch::Receiver<u64>, seed: u64) 
 }
 
 #[test]
-fn a_sender_that_waits_for_readers_to_go_is_woken() {
+fn a_sender_that_waits_until_no_reader_is_left_is_woken() {
     let (tx, rx) = watch::channel(0);
     thread::scope(|scope| {
         scope.spawn(|| block_on(tx.closed()));

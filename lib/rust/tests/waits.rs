@@ -1,5 +1,5 @@
-//! How tasks and threads wait: none yields its thread, none is kept out of a channel, and a wait
-//! with a limit loses nothing.
+//! How tasks and threads wait: none yields its thread, none is shut out of a channel, and a wait
+//! with a timeout loses nothing.
 mod common;
 
 use std::path::{Path, PathBuf};
@@ -19,7 +19,7 @@ fn sources(folder: &Path) -> Vec<PathBuf> {
         .collect()
 }
 
-/// A yield lasts as long as another process uses the processor, which may be milliseconds.
+/// A yield lasts for as long as another process uses the processor, perhaps milliseconds.
 #[test]
 fn nothing_yields_its_thread_and_no_poll_spins() {
     let folder = Path::new(env!("CARGO_MANIFEST_DIR")).join("src");
@@ -27,6 +27,8 @@ fn nothing_yields_its_thread_and_no_poll_spins() {
     assert!(all.len() > 10);
     for path in all {
         let text = std::fs::read_to_string(&path).unwrap();
+        let code = text.lines().filter(|it| !it.trim_start().starts_with("//"));
+        let text = code.collect::<Vec<_>>().join("\n");
         assert!(!text.contains("yield_now"), "{}", path.display());
         let spins = text.contains("spin_loop");
         assert_eq!(spins, path.ends_with("blocking.rs"), "{}", path.display());
@@ -39,7 +41,7 @@ fn nothing_yields_its_thread_and_no_poll_spins() {
 }
 
 #[test]
-fn senders_without_a_pause_do_not_keep_a_receiver_out() {
+fn senders_that_never_pause_do_not_shut_a_receiver_out() {
     const ANSWERS: usize = 2_000;
     for is_blocking in [true, false] {
         let (tx, mut rx) = broadcast::channel(16);
@@ -68,7 +70,7 @@ const SHORT: Duration = Duration::from_millis(2);
 const LONG: Duration = Duration::from_secs(3_600);
 
 #[test]
-fn a_receive_ends_at_its_limit_and_loses_nothing() {
+fn a_receive_with_a_timeout_ends_in_time_and_loses_nothing() {
     use broadcast::error::RecvTimeoutError;
     let (tx, mut rx) = broadcast::channel(2);
     for timeout in [Duration::ZERO, SHORT] {
@@ -91,7 +93,7 @@ fn a_receive_ends_at_its_limit_and_loses_nothing() {
 }
 
 #[test]
-fn a_value_ends_a_receive_before_its_limit() {
+fn a_value_ends_a_receive_before_its_timeout() {
     for timeout in [LONG, Duration::MAX] {
         let (tx, mut rx) = broadcast::channel(1);
         let receiving = thread::spawn(move || {
@@ -106,7 +108,7 @@ fn a_value_ends_a_receive_before_its_limit() {
 }
 
 #[test]
-fn a_wait_for_a_change_ends_at_its_limit_and_loses_nothing() {
+fn a_wait_for_a_change_with_a_timeout_ends_in_time_and_loses_nothing() {
     use watch::error::RecvTimeoutError;
     let (tx, mut rx) = watch::channel(1);
     for timeout in [Duration::ZERO, SHORT] {
@@ -129,7 +131,7 @@ fn a_wait_for_a_change_ends_at_its_limit_and_loses_nothing() {
 }
 
 #[test]
-fn waits_that_end_in_time_and_too_late_lose_nothing_between_threads() {
+fn timeouts_lose_nothing_between_threads() {
     use broadcast::error::RecvTimeoutError;
     const VALUES: u64 = 2_000;
     let (tx, mut rx) = broadcast::channel(VALUES as usize);
@@ -156,7 +158,7 @@ fn waits_that_end_in_time_and_too_late_lose_nothing_between_threads() {
 }
 
 #[test]
-fn errors_of_waits_say_what_they_are() {
+fn errors_of_waits_are_described() {
     use broadcast::error::RecvTimeoutError as Broadcast;
     use watch::error::RecvTimeoutError as Watch;
     assert_eq!(

@@ -1,4 +1,4 @@
-//! The rules of a watch channel, by one thread.
+//! The rules of a watch channel, in one thread.
 mod common;
 
 use common::{block_on, poll, Calls};
@@ -8,7 +8,7 @@ use topichub::watch::{self, error::SendError, Builder, Sender};
 use topichub::{BuildError, HandleError};
 
 #[test]
-fn a_change_is_told_once_and_the_newest_value_is_shown() {
+fn a_change_is_reported_once_and_the_newest_value_is_shown() {
     let (tx, mut rx) = watch::channel("red");
     assert_eq!(rx.has_changed(), Ok(false));
     tx.send("amber").unwrap();
@@ -20,7 +20,7 @@ fn a_change_is_told_once_and_the_newest_value_is_shown() {
 }
 
 #[test]
-fn a_look_says_whether_the_value_was_unseen_and_may_mark_it() {
+fn a_borrow_reports_whether_the_value_was_unseen() {
     let (tx, mut rx) = watch::channel(1);
     tx.send(2).unwrap();
     assert!(rx.borrow().has_changed());
@@ -38,7 +38,7 @@ fn a_look_says_whether_the_value_was_unseen_and_may_mark_it() {
 }
 
 #[test]
-fn an_unseen_value_is_told_before_the_end() {
+fn an_unseen_value_is_reported_before_the_end() {
     let (tx, mut rx) = watch::channel(1);
     tx.send(2).unwrap();
     drop(tx);
@@ -49,7 +49,7 @@ fn an_unseen_value_is_told_before_the_end() {
 }
 
 #[test]
-fn a_send_needs_a_receiver_and_the_other_publications_do_not() {
+fn only_send_needs_a_receiver() {
     let tx = Sender::new(1);
     assert!(tx.is_closed());
     assert_eq!(tx.send(2), Err(SendError(2)));
@@ -64,7 +64,7 @@ fn a_send_needs_a_receiver_and_the_other_publications_do_not() {
 }
 
 #[test]
-fn what_a_closure_does_not_publish_is_shown_and_not_told() {
+fn what_a_closure_does_not_publish_is_shown_but_not_reported() {
     let (tx, rx) = watch::channel(1);
     assert!(!tx.send_if_modified(|value| {
         *value = 2;
@@ -106,7 +106,7 @@ fn a_clone_has_the_mark_of_its_original() {
 }
 
 #[test]
-fn who_waits_is_woken_by_a_publication_and_by_the_last_sender() {
+fn a_waiting_task_is_woken_by_a_publication_and_by_the_last_sender() {
     let (tx, mut rx) = watch::channel(1);
     let other = tx.clone();
     let (calls, waker) = Calls::new();
@@ -130,7 +130,7 @@ fn who_waits_is_woken_by_a_publication_and_by_the_last_sender() {
 }
 
 #[test]
-fn a_sender_can_wait_until_nobody_reads() {
+fn a_sender_can_wait_until_no_receiver_is_left() {
     let (tx, rx) = watch::channel(1);
     let other = rx.clone();
     let (calls, waker) = Calls::new();
@@ -164,7 +164,7 @@ fn a_wait_for_a_value_ends_with_it_or_with_the_channel() {
 }
 
 #[test]
-fn the_handles_end_where_the_limit_is() {
+fn handles_are_limited() {
     let (tx, rx) = watch::channel(1);
     let all: Vec<_> = (1..65_535).map(|_| rx.try_clone().unwrap()).collect();
     assert_eq!(tx.receiver_count(), 65_535);
@@ -181,7 +181,7 @@ fn the_handles_end_where_the_limit_is() {
 }
 
 #[test]
-fn one_receiver_may_be_shared_by_all_that_only_look() {
+fn tasks_that_only_look_can_share_a_receiver() {
     let (tx, rx) = watch::channel(1);
     let shared = std::sync::Arc::new(rx);
     std::thread::scope(|scope| {
@@ -194,59 +194,68 @@ fn one_receiver_may_be_shared_by_all_that_only_look() {
     assert_eq!(tx.receiver_count(), 1);
 }
 
-/// A channel without a history answers some questions without its library: it says what one with a
-/// history says, which asks.
+/// A channel without a history answers some calls without the library, and passes some marks on to
+/// it later. One with a history calls the library each time. Both must return the same.
 #[test]
-fn a_question_without_the_lock_has_the_answer_of_the_library() {
+fn a_channel_without_a_history_answers_as_its_library_does() {
     type Ends = (Vec<Sender<u64>>, Vec<watch::Receiver<u64>>);
 
-    fn answers((senders, receivers): &Ends) -> (Vec<bool>, Vec<Result<bool, ()>>) {
-        let closed = senders.iter().map(Sender::is_closed).collect();
-        let changed = receivers
-            .iter()
-            .map(|it| it.has_changed().map_err(|_| ()))
-            .collect();
-        (closed, changed)
+    fn shown(newest: watch::Ref<'_, u64>) -> (u64, bool) {
+        (*newest, newest.has_changed())
     }
 
-    fn step((senders, receivers): &mut Ends, choice: u64, who: usize) {
+    fn answers((senders, receivers): &Ends) -> String {
+        let closed: Vec<_> = senders.iter().map(Sender::is_closed).collect();
+        let changed = receivers
+            .iter()
+            .map(|it| (it.has_changed(), shown(it.borrow())));
+        format!("{closed:?} {:?}", changed.collect::<Vec<_>>())
+    }
+
+    /// Makes a call, and returns its result as text.
+    fn step((senders, receivers): &mut Ends, choice: u64, who: usize) -> String {
         let (tx, rx) = (who % senders.len().max(1), who % receivers.len().max(1));
+        let mut told = String::new();
         match (choice, senders.get(tx), receivers.get_mut(rx)) {
-            (0, Some(tx), _) => drop(tx.send(1)),
-            (1, Some(tx), _) => drop(tx.send_replace(2)),
+            (0, Some(tx), _) => told = format!("{:?}", tx.send(1)),
+            (1, Some(tx), _) => told = tx.send_replace(2).to_string(),
             (2, Some(tx), _) => tx.send_modify(|value| *value += 1),
             (3, Some(tx), _) => drop(tx.send_if_modified(|value| std::mem::replace(value, 7) == 8)),
             (4, Some(tx), _) => receivers.push(tx.subscribe()),
             (5, Some(tx), _) => senders.push(tx.clone()),
             (6, Some(_), _) if who % 8 == 0 => drop(senders.swap_remove(tx)),
-            (7, _, Some(rx)) => drop(rx.borrow_and_update()),
-            (8, _, Some(rx)) => rx.mark_changed(),
-            (9, _, Some(rx)) => rx.mark_unchanged(),
-            (10, _, Some(rx)) => {
+            (7 | 8, _, Some(rx)) => told = format!("{:?}", shown(rx.borrow_and_update())),
+            (9, _, Some(rx)) => rx.mark_changed(),
+            (10, _, Some(rx)) => rx.mark_unchanged(),
+            (11, _, Some(rx)) => {
                 let another = rx.clone();
                 receivers.push(another);
             }
-            (11, _, Some(_)) => drop(receivers.swap_remove(rx)),
-            (12, _, Some(rx)) => drop(poll(&mut rx.changed(), &Calls::new().1)),
-            (13, _, Some(rx)) => drop(rx.borrow()),
-            (14, _, Some(rx)) => {
+            (12, _, Some(_)) => drop(receivers.swap_remove(rx)),
+            (13 | 14, _, Some(rx)) => {
+                told = format!("{:?}", poll(&mut rx.changed(), &Calls::new().1));
+            }
+            (15, Some(tx), _) => told = tx.receiver_count().to_string(),
+            (16, _, Some(rx)) => {
                 let mut waiting = Box::pin(rx.wait_for(|value| *value > 2));
-                drop(poll(&mut waiting, &Calls::new().1).map(|it| it.map(drop)));
+                let polled = poll(&mut waiting, &Calls::new().1);
+                told = format!("{:?}", polled.map(|it| it.map(shown)));
             }
             _ => {}
         }
+        told
     }
 
     let mut dice = common::Dice::new(1);
-    for _ in 0..200 {
+    for _ in 0..400 {
         let (tx, rx) = watch::channel(0);
         let mut plain: Ends = (vec![tx], vec![rx]);
         let (tx, rx, recording) = Builder::new(0).recorded(1_000_000).build().unwrap();
         let mut recorded: Ends = (vec![tx], vec![rx]);
         for _ in 0..100 {
-            let (choice, who) = (dice.below(15), dice.below(64) as usize);
-            step(&mut plain, choice, who);
-            step(&mut recorded, choice, who);
+            let (choice, who) = (dice.below(17), dice.below(64) as usize);
+            let told = step(&mut plain, choice, who);
+            assert_eq!(told, step(&mut recorded, choice, who));
             assert_eq!(answers(&plain), answers(&recorded));
         }
         let verdict = topichub::check(recording.trace().as_bytes());
@@ -264,7 +273,7 @@ fn senders_are_counted() {
 }
 
 #[test]
-fn an_error_of_any_value_can_be_told() {
+fn an_error_can_contain_any_value() {
     struct Whole;
     let error: Box<dyn std::error::Error> = Box::new(SendError(Whole));
     assert_eq!(
@@ -274,7 +283,7 @@ fn an_error_of_any_value_can_be_told() {
 }
 
 #[test]
-fn a_wait_that_was_ready_marks_nothing_more() {
+fn a_finished_wait_marks_nothing_more() {
     let (tx, mut rx) = watch::channel(1);
     let (_, waker) = Calls::new();
     tx.send(2).unwrap();
@@ -293,7 +302,7 @@ fn a_wait_that_was_ready_marks_nothing_more() {
 }
 
 #[test]
-fn what_no_channel_can_have_is_refused() {
+fn invalid_limits_are_refused() {
     for limit in [0, 1, 2, 1_000_001] {
         assert_eq!(
             Builder::new(1).recorded(limit).build().unwrap_err(),
@@ -303,7 +312,7 @@ fn what_no_channel_can_have_is_refused() {
 }
 
 #[test]
-fn waits_go_to_other_threads() {
+fn waits_can_be_sent_to_other_threads() {
     fn goes<T: Send>(value: T) -> T {
         value
     }

@@ -2,7 +2,7 @@
 use std::error::Error;
 use std::fmt;
 
-/// There is no receiver. The error holds the value; a later send may succeed.
+/// There is no receiver. The error contains the value; a later send may succeed.
 #[derive(Clone, Copy, Debug, PartialEq, Eq)]
 pub struct SendError<T>(pub T);
 
@@ -14,12 +14,12 @@ impl<T> fmt::Display for SendError<T> {
 
 impl<T: fmt::Debug> Error for SendError<T> {}
 
-/// What [`Receiver::recv`](super::Receiver::recv) returns if there is no value.
+/// The error of [`Receiver::recv`](super::Receiver::recv).
 #[derive(Clone, Copy, Debug, PartialEq, Eq)]
 pub enum RecvError {
-    /// No sender is left, and all that was kept has been received.
+    /// No sender is left, and everything that was kept has been received.
     Closed,
-    /// The receiver was too slow and missed this many values. The next receive continues with the
+    /// The receiver fell behind and missed this many values. The next receive continues with the
     /// oldest value that is kept.
     Lagged(u64),
 }
@@ -35,14 +35,14 @@ impl fmt::Display for RecvError {
 
 impl Error for RecvError {}
 
-/// What [`Receiver::try_recv`](super::Receiver::try_recv) returns if there is no value.
+/// The error of [`Receiver::try_recv`](super::Receiver::try_recv).
 #[derive(Clone, Copy, Debug, PartialEq, Eq)]
 pub enum TryRecvError {
     /// There is no value yet.
     Empty,
-    /// No sender is left, and all that was kept has been received.
+    /// No sender is left, and everything that was kept has been received.
     Closed,
-    /// The receiver was too slow and missed this many values. The next receive continues with the
+    /// The receiver fell behind and missed this many values. The next receive continues with the
     /// oldest value that is kept.
     Lagged(u64),
 }
@@ -59,15 +59,15 @@ impl fmt::Display for TryRecvError {
 
 impl Error for TryRecvError {}
 
-/// What [`Receiver::recv_timeout`](super::Receiver::recv_timeout) returns if there is no
-/// value. The names are those of [`std::sync::mpsc::RecvTimeoutError`].
+/// The error of [`Receiver::recv_timeout`](super::Receiver::recv_timeout), with the names of
+/// [`std::sync::mpsc::RecvTimeoutError`].
 #[derive(Clone, Copy, Debug, PartialEq, Eq)]
 pub enum RecvTimeoutError {
-    /// The time was up first.
+    /// No value came in time.
     Timeout,
-    /// No sender is left, and all that was kept has been received.
+    /// No sender is left, and everything that was kept has been received.
     Disconnected,
-    /// The receiver was too slow and missed this many values. The next receive continues with the
+    /// The receiver fell behind and missed this many values. The next receive continues with the
     /// oldest value that is kept.
     Lagged(u64),
 }

@@ -1,9 +1,9 @@
 //! The values that a broadcast channel keeps.
 
-/// The values, each in the slot at its number's low bits. Putting one in, reading one and taking
-/// one out each access one slot, and allocate nothing.
+/// The values, each in the slot that the low bits of its number select. Putting one in, reading one
+/// and taking one out each access a single slot, and allocate nothing.
 pub(super) struct Kept<T> {
-    /// One for each value that the channel can keep, a power of two.
+    /// One for each value that the channel can keep; their number is a power of two.
     slots: Box<[Option<T>]>,
     /// How many values were sent: the number of the next one.
     sent: u64,
@@ -30,7 +30,7 @@ impl<T> Kept<T> {
         &mut self.slots[number as usize & low_bits]
     }
 
-    /// Keeps the next value, while the channel drops this many, and returns the one that it
+    /// Keeps the next value while the channel drops this many, and returns the one that it
     /// replaces.
     #[inline]
     pub(super) fn push(&mut self, value: T, let_go: u32) -> Option<T> {
@@ -40,7 +40,7 @@ impl<T> Kept<T> {
         self.slot(number).replace(value)
     }
 
-    /// The value with this number: a clone, or the value itself if the channel drops it.
+    /// Returns the value with this number: a clone, or the value itself if the channel drops it.
     #[inline]
     pub(super) fn read(&mut self, number: u64, let_go: u32) -> Option<T>
     where
@@ -55,7 +55,7 @@ impl<T> Kept<T> {
         }
     }
 
-    /// The oldest values, this many, which the channel drops.
+    /// Takes out this many of the oldest values, which the channel drops.
     pub(super) fn take_oldest(&mut self, let_go: u32) -> Vec<T> {
         let from = self.oldest;
         self.oldest += u64::from(let_go);

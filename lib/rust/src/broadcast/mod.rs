@@ -1,33 +1,34 @@
-//! A channel in which every value goes to every receiver.
+//! A channel that sends every value to every receiver.
 //!
-//! The names and their meaning are those of `tokio::sync::broadcast`, whose documentation says
-//! more.
+//! The names and what they mean are those of `tokio::sync::broadcast`; its documentation has more
+//! detail.
 //!
 //! # Lagging
 //!
-//! The channel keeps the newest values, as many as its capacity (rounded up to a power of two). If
-//! the channel drops values that a receiver has not read, the receiver gets
-//! [`Lagged`](error::RecvError::Lagged) with the number of values that it missed, and continues with
-//! the oldest value that is kept.
+//! The channel keeps the newest values, up to its capacity, which is rounded up to a power of two.
+//! If it drops values that a receiver has not read, the receiver gets
+//! [`Lagged`](error::RecvError::Lagged) with the number of values it missed, and continues with the
+//! oldest value that is kept.
 //!
 //! # Closing
 //!
-//! When all senders are dropped, a receiver gets what is kept for it, and then
+//! Once all senders are dropped, a receiver gets what is still kept for it, and then
 //! [`Closed`](error::RecvError::Closed).
 //!
 //! # Differences from Tokio
 //!
-//! - At most 65,535 senders and as many receivers are live at a time, and the capacity is at most
+//! - At most 65,535 senders and 65,535 receivers are live at a time, and the capacity is at most
 //!   65,536.
-//! - `T` is cloned under the channel's lock: its `clone` must not use the same channel, and if it
-//!   takes long, an `Arc` is better. The last receiver of a value gets the value itself.
-//! - The futures are [`Unpin`], and take no part in the cooperative budget of Tokio's tasks.
-//! - Tokio has no [`Sender::subscribe_oldest`], [`Sender::send_many`], [`Receiver::recv_many`] with
-//!   its two companions, [`Receiver::poll_recv`], [`Receiver::recv_timeout`],
+//! - `T` is cloned under the channel's lock, so its `clone` must not use the same channel. If a
+//!   clone is expensive, send an `Arc`. The last receiver of a value gets the value itself.
+//! - The futures are [`Unpin`], and take no part in the cooperative budget of Tokio's tasks: a loop
+//!   that always finds a value should await `tokio::task::yield_now` once in a while.
+//! - Tokio has no [`Sender::subscribe_oldest`], [`Sender::send_many`], [`Receiver::recv_many`] and
+//!   its two variants, [`Receiver::poll_recv`], [`Receiver::recv_timeout`],
 //!   [`Receiver::recv_deadline`], nor the calls that begin with `try_` and return a
 //!   [`HandleError`].
-//! - The streams of `tokio-stream` take Tokio's own receivers. The crate `topichub-streams` has
-//!   streams over these.
+//! - The streams of `tokio-stream` work only with Tokio's own receivers. The crate
+//!   `topichub-streams` has the same streams for these.
 //!
 //! # Examples
 //!
@@ -67,11 +68,11 @@ use std::collections::BTreeSet;
 use std::sync::atomic::AtomicU64;
 use std::sync::{Arc, MutexGuard};
 
-/// What all handles of a channel share. The lock is held for one call at a time.
+/// What all handles of a channel share. The lock is held for a single call.
 struct Shared<T> {
     state: Turns<State<T>>,
-    /// How many values were sent, or [`CLOSED`]. By it a receiver sees without the lock whether it
-    /// is worth asking.
+    /// How many values were sent, or [`CLOSED`]. From it a receiver sees without the lock whether
+    /// asking is worth while.
     reached: AtomicU64,
 }
 
@@ -79,7 +80,7 @@ struct Shared<T> {
 const CLOSED: u64 = u64::MAX;
 
 struct State<T> {
-    /// The channel of numbers: for each value it keeps the number of values that were sent before.
+    /// The channel of numbers: for each value it keeps the number of values sent before it.
     core: Core<library::Broadcast>,
     /// The values that the channel keeps.
     kept: Kept<T>,
@@ -89,7 +90,7 @@ struct State<T> {
     receivers: usize,
     /// The receivers that wait for a value.
     waiting: Waiters,
-    /// The senders that wait for the last receiver to go.
+    /// The senders that wait until no receiver is left.
     leaving: Waiters,
 }
 
@@ -107,8 +108,8 @@ impl<T> Shared<T> {
 }
 
 impl<T> State<T> {
-    /// Sends a value. Returned are the number of receivers and the value that the channel drops to
-    /// make room, or the value itself if it cannot be sent.
+    /// Sends a value. Returns the number of receivers and the value that the channel drops to make
+    /// room, or the value itself if it cannot be sent.
     #[track_caller]
     #[inline]
     fn send(&mut self, id: u64, value: T) -> Result<(usize, Option<T>), T> {
@@ -140,7 +141,7 @@ impl<T> State<T> {
 }
 
 impl<T: Clone> State<T> {
-    /// What a receiver gets now. `next` becomes the number of its next value, if that is known.
+    /// What a receiver gets now. Sets `next` to the number of its next value, if that is known.
     #[track_caller]
     #[inline]
     fn try_recv(&mut self, id: u64, next: &mut u64) -> Result<T, TryRecvError> {
@@ -157,7 +158,7 @@ impl<T: Clone> State<T> {
         }
     }
 
-    /// The same for a receiver that waits: nothing if there is nothing yet.
+    /// The same for a receiver that waits: `None` if there is nothing yet.
     #[track_caller]
     #[inline]
     fn recv(&mut self, id: u64, next: &mut u64) -> Option<Result<T, RecvError>> {
@@ -174,7 +175,7 @@ impl<T: Clone> State<T> {
         }
     }
 
-    /// As `recv`, and puts the value into the buffer, with those that come next, up to `limit`.
+    /// Like `recv`, but appends the value and those that follow it to the buffer, up to `limit`.
     #[track_caller]
     fn recv_many(
         &mut self,
@@ -192,7 +193,7 @@ impl<T: Clone> State<T> {
         })
     }
 
-    /// As `recv_many`, for a receiver that does not wait.
+    /// Like `recv_many`, but for a receiver that does not wait.
     #[track_caller]
     fn try_recv_many(
         &mut self,
@@ -208,8 +209,8 @@ impl<T: Clone> State<T> {
         Ok(self.take_more(first, id, next, buffer, limit))
     }
 
-    /// Puts the first value into the buffer, with those that were sent after it, up to `limit`.
-    /// None of them can be missed any more, since nobody else has the lock.
+    /// Appends the first value and those that were sent after it to the buffer, up to `limit`. None
+    /// of them can be missed any more, since nobody else has the lock.
     #[track_caller]
     fn take_more(
         &mut self,
@@ -238,7 +239,7 @@ impl<T: Clone> State<T> {
         *next = told.number + 1;
         self.kept
             .read(told.number, told.let_go)
-            .expect("the channel tells only of values that it keeps")
+            .expect("the library reports only values that are kept")
     }
 }
 
@@ -246,8 +247,8 @@ impl<T: Clone> State<T> {
 ///
 /// # Panics
 ///
-/// If the capacity is 0 or above 65,536, or if memory is refused. [`Builder::build`] returns these
-/// as errors.
+/// If the capacity is 0 or above 65,536, or if an allocation fails. [`Builder::build`] returns an
+/// error instead.
 ///
 /// # Examples
 ///

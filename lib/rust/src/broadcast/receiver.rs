@@ -14,16 +14,16 @@ use std::sync::Arc;
 use std::task::{Context, Poll};
 use std::time::{Duration, Instant};
 
-/// How long a thread looks for a value before it sleeps: less time than it takes to wake one.
+/// How long a thread looks for a value before it sleeps: less time than it takes to wake a thread.
 const BLOCKING: Patience = Patience { spins: 5 };
 
-/// Receives all values that are sent to a channel. Each receiver has its own position.
+/// Receives every value that is sent to a channel. Each receiver has its own position.
 pub struct Receiver<T> {
     shared: Arc<Shared<T>>,
     id: u64,
     /// The number of the next value, or a lower one.
     next: u64,
-    /// The seat of the task that called [`poll_recv`](Self::poll_recv) last.
+    /// The seat of the task that last called [`poll_recv`](Self::poll_recv).
     seat: Seat,
 }
 
@@ -37,12 +37,13 @@ impl<T> Receiver<T> {
         }
     }
 
-    /// Whether there seems to be news. It takes no lock, and only decides whether to ask.
+    /// Whether there seems to be something new. This takes no lock, and only decides whether to
+    /// ask.
     fn seems_ready(&self) -> Option<()> {
         (self.shared.reached.load(Ordering::Relaxed) > self.next).then_some(())
     }
 
-    /// The number of values still to come, including those that were missed.
+    /// The number of values that this receiver has yet to receive, including those it missed.
     #[track_caller]
     pub fn len(&self) -> usize {
         self.shared
@@ -51,7 +52,7 @@ impl<T> Receiver<T> {
             .count(|channel| channel.left(self.id))
     }
 
-    /// Whether no value is still to come.
+    /// Whether there is no value to receive.
     #[track_caller]
     pub fn is_empty(&self) -> bool {
         self.len() == 0
@@ -62,8 +63,8 @@ impl<T> Receiver<T> {
         Arc::ptr_eq(&self.shared, &other.shared)
     }
 
-    /// Whether no sender is left. Values may still be to come. A [`Recording`](super::Recording)
-    /// has no entry for this call, nor for the next two.
+    /// Whether no sender is left. There may still be values to receive. A
+    /// [`Recording`](super::Recording) has no entry for this call.
     ///
     /// # Examples
     ///
@@ -79,29 +80,30 @@ impl<T> Receiver<T> {
         self.shared.reached.load(Ordering::Acquire) == CLOSED
     }
 
-    /// The number of live senders.
+    /// The number of live senders. A [`Recording`](super::Recording) has no entry for this call.
     pub fn sender_strong_count(&self) -> usize {
         self.shared.lock().senders.len()
     }
 
-    /// The number of [`WeakSender`](super::WeakSender)s.
+    /// The number of [`WeakSender`](super::WeakSender)s. A [`Recording`](super::Recording) has no
+    /// entry for this call.
     pub fn sender_weak_count(&self) -> usize {
         self.shared.lock().weak_senders
     }
 
-    /// A new receiver of what is sent from now on. This one does not change.
+    /// Makes a receiver for the values that are sent from now on. This one does not change.
     ///
     /// # Panics
     ///
-    /// If the channel has 65,535 receivers, or if memory is refused.
-    /// [`try_resubscribe`](Self::try_resubscribe) returns these as errors.
+    /// If the channel already has 65,535 receivers, or if an allocation fails.
+    /// [`try_resubscribe`](Self::try_resubscribe) returns an error instead.
     #[must_use]
     #[track_caller]
     pub fn resubscribe(&self) -> Self {
         made(self.try_resubscribe())
     }
 
-    /// As [`resubscribe`](Self::resubscribe), with an error in place of a panic.
+    /// Like [`resubscribe`](Self::resubscribe), but returns an error instead of panicking.
     pub fn try_resubscribe(&self) -> Result<Self, HandleError> {
         let mut state = self.shared.lock();
         let id = state.new_receiver(|channel| channel.resubscribe(self.id))?;
@@ -110,10 +112,11 @@ impl<T> Receiver<T> {
 }
 
 impl<T: Clone> Receiver<T> {
-    /// The next value. It waits until there is one.
+    /// Waits for the next value.
     ///
-    /// If this receiver was too slow, it returns [`RecvError::Lagged`] with the number of missed
-    /// values; if no sender is left and all that was kept has been received, [`RecvError::Closed`].
+    /// If this receiver fell behind, it returns [`RecvError::Lagged`] with the number of values it
+    /// missed. If no sender is left and everything that was kept has been received, it returns
+    /// [`RecvError::Closed`].
     ///
     /// # Cancel safety
     ///
@@ -139,9 +142,9 @@ impl<T: Clone> Receiver<T> {
         Recv(Wait::new(self))
     }
 
-    /// Polls for the next value, for streams and for futures written by hand. If there is none, the
-    /// task of the last call is woken once there is. Tokio's broadcast has no such call; its `mpsc`
-    /// has.
+    /// Polls for the next value, for streams and hand-written futures. If there is none, the task
+    /// of the last call is woken once there is one. Tokio's `broadcast` has no such call, but its
+    /// `mpsc` does.
     #[track_caller]
     pub fn poll_recv(&mut self, context: &mut Context<'_>) -> Poll<Result<T, RecvError>> {
         let mut state = self.shared.lock();
@@ -152,10 +155,10 @@ impl<T: Clone> Receiver<T> {
         polled
     }
 
-    /// As [`recv`](Self::recv), by blocking the thread.
+    /// Like [`recv`](Self::recv), but blocks the thread.
     ///
-    /// It first looks for a value for about a microsecond, since to sleep and to be woken takes
-    /// longer. If there is one, it costs what [`try_recv`](Self::try_recv) does.
+    /// It first spins for about a microsecond, since going to sleep and being woken takes longer.
+    /// If there is a value, it costs as much as [`try_recv`](Self::try_recv).
     ///
     /// # Examples
     ///
@@ -175,8 +178,8 @@ impl<T: Clone> Receiver<T> {
         }
     }
 
-    /// Looks for an answer before the thread sleeps. Usually there is one, and then neither a
-    /// future nor a waker is made.
+    /// Looks for an answer before the thread sleeps. Usually there is one, and then no future and
+    /// no waker is made.
     #[inline]
     fn look<A>(
         &mut self,
@@ -186,11 +189,10 @@ impl<T: Clone> Receiver<T> {
         look(&mut self.shared.lock(), self.id, &mut self.next)
     }
 
-    /// As [`blocking_recv`](Self::blocking_recv), but for at most this long. Tokio has no such
-    /// call.
+    /// Like [`blocking_recv`](Self::blocking_recv), but waits for at most this long. Tokio has no
+    /// such call.
     ///
-    /// Nothing is lost: a value that comes after the limit is the one that the next receive
-    /// returns.
+    /// No value is lost: the next receive returns one that comes after the timeout.
     ///
     /// # Examples
     ///
@@ -210,7 +212,7 @@ impl<T: Clone> Receiver<T> {
         self.recv_until(|| deadline_after(timeout))
     }
 
-    /// As [`recv_timeout`](Self::recv_timeout), until this time.
+    /// Like [`recv_timeout`](Self::recv_timeout), but waits until this time.
     pub fn recv_deadline(&mut self, deadline: Instant) -> Result<T, RecvTimeoutError> {
         self.recv_until(|| Some(deadline))
     }
@@ -225,10 +227,9 @@ impl<T: Clone> Receiver<T> {
         Ok(told.ok_or(RecvTimeoutError::Timeout)??)
     }
 
-    /// Waits for a value, and appends it to the buffer, with those that were sent after it, up to
-    /// `limit` in all. It returns how many there are: at least 1, or 0 if the limit is 0. The
-    /// errors are those of [`recv`](Self::recv). Tokio's broadcast has no such call; its `mpsc`
-    /// has.
+    /// Waits for a value, and appends it and those that were sent after it to the buffer, up to
+    /// `limit` in all. It returns their number: at least 1, or 0 if the limit is 0. The errors are
+    /// those of [`recv`](Self::recv). Tokio's `broadcast` has no such call, but its `mpsc` does.
     ///
     /// It takes the channel's lock once for all of them, and clones them under it.
     ///
@@ -255,7 +256,7 @@ impl<T: Clone> Receiver<T> {
         }
     }
 
-    /// As [`recv_many`](Self::recv_many), by blocking the thread.
+    /// Like [`recv_many`](Self::recv_many), but blocks the thread.
     ///
     /// # Examples
     ///
@@ -282,7 +283,7 @@ impl<T: Clone> Receiver<T> {
         }
     }
 
-    /// As [`recv_many`](Self::recv_many), but without a wait: the errors are those of
+    /// Like [`recv_many`](Self::recv_many), but does not wait. The errors are those of
     /// [`try_recv`](Self::try_recv).
     #[track_caller]
     pub fn try_recv_many(
@@ -295,10 +296,10 @@ impl<T: Clone> Receiver<T> {
             .try_recv_many(self.id, &mut self.next, buffer, limit)
     }
 
-    /// The next value, if there is one.
+    /// Returns the next value, if there is one.
     ///
-    /// It takes the channel's lock once, for a call that is at most logarithmic in the number of
-    /// receivers, and allocates nothing. All receivers of a value but the last clone it, under the
+    /// It takes the channel's lock once, for a time at most logarithmic in the number of receivers,
+    /// and allocates nothing itself. Every receiver of a value but the last clones it under the
     /// lock.
     ///
     /// # Examples
@@ -344,7 +345,7 @@ impl<T> fmt::Debug for Receiver<T> {
     }
 }
 
-/// A receiver that waits, and where.
+/// A receiver that waits, and its seat.
 struct Wait<'a, T> {
     receiver: &'a mut Receiver<T>,
     seat: Seat,
@@ -386,7 +387,7 @@ impl<T> Drop for Wait<'_, T> {
     }
 }
 
-/// A receive that waits, made by [`Receiver::recv`].
+/// The future of [`Receiver::recv`].
 #[must_use = "a future does nothing unless it is awaited"]
 pub struct Recv<'a, T>(Wait<'a, T>);
 
@@ -405,7 +406,7 @@ impl<T> fmt::Debug for Recv<'_, T> {
     }
 }
 
-/// A receive of several values that waits, made by [`Receiver::recv_many`].
+/// The future of [`Receiver::recv_many`].
 #[must_use = "a future does nothing unless it is awaited"]
 pub struct RecvMany<'a, T> {
     wait: Wait<'a, T>,

@@ -12,7 +12,7 @@ use std::sync::atomic::Ordering;
 use std::sync::{Arc, MutexGuard};
 use std::task::{Context, Poll};
 
-/// Sends values to all receivers of a channel. It may be cloned, and used by several threads at
+/// Sends values to all receivers of a channel. It can be cloned, and used by several threads at
 /// once.
 pub struct Sender<T> {
     pub(super) shared: Arc<Shared<T>>,
@@ -20,24 +20,24 @@ pub struct Sender<T> {
 }
 
 impl<T> Sender<T> {
-    /// Makes a channel without a receiver; [`subscribe`](Self::subscribe) makes them.
+    /// Makes a channel without a receiver. [`subscribe`](Self::subscribe) makes receivers.
     ///
     /// # Panics
     ///
-    /// As [`channel`](super::channel).
+    /// As [`channel`](super::channel) does.
     #[track_caller]
     pub fn new(capacity: usize) -> Self {
         made(Builder::new(capacity).made(None)).0
     }
 
-    /// Sends a value to every receiver, and returns how many there are: at least 1. Without
-    /// receivers the error hands the value back, and a later send may succeed.
+    /// Sends a value to every receiver, and returns the number of receivers, which is at least 1.
+    /// If there is none, the error contains the value; a later send may succeed.
     ///
     /// It never waits for a receiver: if the channel is full, it drops the oldest value, and a
     /// receiver that has not read it lags.
     ///
-    /// It takes the channel's lock once, for a call that is at most logarithmic in the number of
-    /// senders, and allocates nothing. Waiting receivers are woken once the lock is released.
+    /// It takes the channel's lock once, for a time at most logarithmic in the number of senders,
+    /// and allocates nothing. Waiting receivers are woken after the lock is released.
     ///
     /// # Examples
     ///
@@ -69,13 +69,13 @@ impl<T> Sender<T> {
         called.wake();
     }
 
-    /// Sends values in their order, with no value of another sender between them, and returns how
-    /// many receivers there are, or 0 if there are no values. Without receivers all values come
-    /// back. Tokio has no such call.
+    /// Sends the values in order, with no other sender's value between them, and returns the number
+    /// of receivers, or 0 if there are no values. If there is no receiver, the error contains all
+    /// of the values. Tokio has no such call.
     ///
-    /// It takes the channel's lock once for all of them, and wakes once those that wait. Nobody
-    /// else can use the channel meanwhile, so send a long list in parts. If there are more values
-    /// than the channel keeps, every receiver misses the first ones.
+    /// It takes the channel's lock once for all of them, and wakes each waiting receiver once.
+    /// Nobody else can use the channel meanwhile, so send a long list in parts. If there are more
+    /// values than the channel keeps, every receiver misses the first ones.
     ///
     /// # Examples
     ///
@@ -90,7 +90,7 @@ impl<T> Sender<T> {
     /// ```
     #[track_caller]
     pub fn send_many(&self, values: Vec<T>) -> Result<usize, SendError<Vec<T>>> {
-        // Under the lock no memory is taken, and no value's own `drop` is run.
+        // Under the lock nothing is allocated and no value is dropped.
         let mut let_go = Vec::with_capacity(values.len());
         let mut values = values.into_iter();
         let (mut receivers, mut unsent) = (0, None);
@@ -115,12 +115,12 @@ impl<T> Sender<T> {
         }
     }
 
-    /// A new receiver of what is sent from now on.
+    /// Makes a receiver for the values that are sent from now on.
     ///
     /// # Panics
     ///
-    /// If the channel has 65,535 receivers, or if memory is refused.
-    /// [`try_subscribe`](Self::try_subscribe) returns these as errors.
+    /// If the channel already has 65,535 receivers, or if an allocation fails.
+    /// [`try_subscribe`](Self::try_subscribe) returns an error instead.
     ///
     /// # Examples
     ///
@@ -138,17 +138,17 @@ impl<T> Sender<T> {
         made(self.try_subscribe())
     }
 
-    /// As [`subscribe`](Self::subscribe), with an error in place of a panic.
+    /// Like [`subscribe`](Self::subscribe), but returns an error instead of panicking.
     pub fn try_subscribe(&self) -> Result<Receiver<T>, HandleError> {
         self.receiver(|channel| channel.subscribe(self.id))
     }
 
-    /// A new receiver that first gets what is still kept: what some other receiver has not read
-    /// yet. Tokio has no such call.
+    /// Makes a receiver that first gets the values that are still kept: those that some other
+    /// receiver has not read yet. Tokio has no such call.
     ///
     /// # Panics
     ///
-    /// As [`subscribe`](Self::subscribe).
+    /// As [`subscribe`](Self::subscribe) does.
     ///
     /// # Examples
     ///
@@ -164,7 +164,8 @@ impl<T> Sender<T> {
         made(self.try_subscribe_oldest())
     }
 
-    /// As [`subscribe_oldest`](Self::subscribe_oldest), with an error in place of a panic.
+    /// Like [`subscribe_oldest`](Self::subscribe_oldest), but returns an error instead of
+    /// panicking.
     pub fn try_subscribe_oldest(&self) -> Result<Receiver<T>, HandleError> {
         self.receiver(|channel| channel.subscribe_oldest(self.id))
     }
@@ -177,7 +178,7 @@ impl<T> Sender<T> {
         Ok(Receiver::new(Arc::clone(&self.shared), id))
     }
 
-    /// Another sender of the same channel: as `clone`, with an error in place of a panic.
+    /// Like `clone`, but returns an error instead of panicking.
     ///
     /// # Examples
     ///
@@ -198,7 +199,7 @@ impl<T> Sender<T> {
         Self::of(&self.shared, |_| Some(self.id)).expect("this sender is live")
     }
 
-    /// A clone of the sender whose number `find` returns.
+    /// Clones the sender whose number `find` returns.
     fn of(
         shared: &Arc<Shared<T>>,
         find: impl FnOnce(&State<T>) -> Option<u64>,
@@ -222,7 +223,7 @@ impl<T> Sender<T> {
             .count(|channel| channel.readers(self.id))
     }
 
-    /// The number of values that are kept: those that some receiver has still to read, up to the
+    /// The number of values that are kept: those that some receiver has not read yet, up to the
     /// capacity.
     #[track_caller]
     pub fn len(&self) -> usize {
@@ -232,14 +233,14 @@ impl<T> Sender<T> {
             .count(|channel| channel.queued(self.id))
     }
 
-    /// Whether no value is kept.
+    /// Whether the channel keeps no value.
     #[track_caller]
     pub fn is_empty(&self) -> bool {
         self.len() == 0
     }
 
-    /// Waits until no receiver is left. Without receivers it is ready at once. In a
-    /// [`Recording`](super::Recording) each poll is an entry that asks for the number of receivers.
+    /// Waits until there is no receiver. In a [`Recording`](super::Recording), each poll is an
+    /// entry that asks for the number of receivers.
     ///
     /// # Cancel safety
     ///
@@ -262,7 +263,7 @@ impl<T> Sender<T> {
         }
     }
 
-    /// A sender that does not keep the channel open.
+    /// Makes a [`WeakSender`], which does not keep the channel open.
     #[must_use = "a weak sender that is dropped does nothing"]
     pub fn downgrade(&self) -> WeakSender<T> {
         WeakSender::new(&self.shared)
@@ -285,8 +286,8 @@ impl<T> Sender<T> {
 }
 
 impl<T> Clone for Sender<T> {
-    /// Another sender of the same channel. It panics if the channel has 65,535, or if memory is
-    /// refused; [`try_clone`](Self::try_clone) returns these as errors.
+    /// Makes another sender of the same channel. It panics if the channel already has 65,535, or if
+    /// an allocation fails; [`try_clone`](Self::try_clone) returns an error instead.
     #[track_caller]
     fn clone(&self) -> Self {
         made(self.try_clone())
@@ -316,7 +317,7 @@ impl<T> fmt::Debug for Sender<T> {
     }
 }
 
-/// A wait for the last receiver to go, made by [`Sender::closed`].
+/// The future of [`Sender::closed`].
 #[must_use = "a future does nothing unless it is awaited"]
 pub struct Closed<'a, T> {
     sender: &'a Sender<T>,
@@ -354,8 +355,8 @@ impl<T> fmt::Debug for Closed<'_, T> {
     }
 }
 
-/// A sender that does not keep the channel open, made by [`Sender::downgrade`]. It cannot send: it
-/// first has to be upgraded.
+/// A sender that does not keep the channel open, made by [`Sender::downgrade`]. It has to be
+/// upgraded before it can send.
 ///
 /// # Examples
 ///
@@ -382,13 +383,13 @@ impl<T> WeakSender<T> {
         }
     }
 
-    /// A sender of the channel, unless all of them were dropped. In a
-    /// [`Recording`](super::Recording) it is a clone of a live one.
+    /// Makes a sender, unless all senders were dropped. In a [`Recording`](super::Recording) it is
+    /// a clone of a live one.
     ///
     /// # Panics
     ///
-    /// If the channel has 65,535 senders, or if memory is refused.
-    /// [`try_upgrade`](Self::try_upgrade) returns these as errors.
+    /// If the channel already has 65,535 senders, or if an allocation fails.
+    /// [`try_upgrade`](Self::try_upgrade) returns an error instead.
     #[must_use]
     #[track_caller]
     pub fn upgrade(&self) -> Option<Sender<T>> {
@@ -396,7 +397,7 @@ impl<T> WeakSender<T> {
         Some(made(sender))
     }
 
-    /// As [`upgrade`](Self::upgrade), with an error in place of a panic.
+    /// Like [`upgrade`](Self::upgrade), but returns an error instead of panicking.
     #[must_use]
     pub fn try_upgrade(&self) -> Option<Result<Sender<T>, HandleError>> {
         Sender::of(&self.shared, |state| state.senders.iter().next().copied())

@@ -1,4 +1,4 @@
-//! The library behind this crate, as safe types. All `unsafe` code of the crate is in this module.
+//! Safe types for the library behind this crate. All `unsafe` code of the crate is in this module.
 #![allow(unsafe_code)]
 
 mod sys;
@@ -7,12 +7,12 @@ pub(crate) use sys::{status, Reply};
 
 use crate::{Build, BuildError, HandleError, Verdict};
 
-/// Room for whole lines: a trace has none that is longer.
+/// Long enough for any line of a trace.
 const PIECE: usize = 4_096;
 
 /// A channel whose calls may be recorded.
 pub(crate) trait Channel {
-    /// The history since the last cut. Not for channels that are made without one.
+    /// The history since the last cut. Not for channels that were made without one.
     #[track_caller]
     fn cut(&mut self) -> Trace;
 }
@@ -25,16 +25,16 @@ macro_rules! channel {
         $(#[$about])*
         pub(crate) struct $name(sys::$name);
 
-        // SAFETY: a channel belongs to no thread. It may be made in one, used in others, and freed
-        // in yet another.
+        // SAFETY: a channel is not tied to a thread. It may be made in one, used in others, and
+        // freed in yet another.
         unsafe impl Send for $name {}
 
         impl $name {
             $(
                 #[inline]
                 pub(crate) fn $call(&mut self $(, $argument: u64)*) -> Reply {
-                    // SAFETY: the struct is this value's own and was filled by a maker, and `&mut`
-                    // gives it to one call at a time.
+                    // SAFETY: this value owns the struct, which a maker has filled, and `&mut`
+                    // allows one call at a time.
                     unsafe { sys::$function(&mut self.0 $(, $argument)*) }
                 }
             )*
@@ -43,7 +43,7 @@ macro_rules! channel {
         impl Channel for $name {
             fn cut(&mut self) -> Trace {
                 let mut trace = Trace(sys::Trace::NONE);
-                // SAFETY: as of the calls; and the trace is a value of its own, and none yet.
+                // SAFETY: as for the calls. The trace is a new struct, which is still null.
                 done(unsafe { sys::$cut(&mut self.0, &mut trace.0) });
                 trace
             }
@@ -51,7 +51,7 @@ macro_rules! channel {
 
         impl Drop for $name {
             fn drop(&mut self) {
-                // SAFETY: as of the calls; and this is the last use of the one owner.
+                // SAFETY: as for the calls. This is the last use by the only owner.
                 unsafe { sys::$free(&mut self.0) }
             }
         }
@@ -101,7 +101,7 @@ impl Broadcast {
     /// A channel with sender 1 and no receiver; with a history if a limit is given.
     pub(crate) fn new(capacity: u64, limit: Option<u64>) -> Result<Self, BuildError> {
         let mut channel = Self(sys::Broadcast::NONE);
-        // SAFETY: the struct is a value of its own, and none yet.
+        // SAFETY: this is a new struct, which is still null.
         let made = match limit {
             None => unsafe { sys::topichub_broadcast_new(&mut channel.0, capacity, 0) },
             Some(limit) => unsafe {
@@ -116,7 +116,7 @@ impl Watch {
     /// A channel with sender 1, no receiver and this value; with a history if a limit is given.
     pub(crate) fn new(value: u64, limit: Option<u64>) -> Result<Self, BuildError> {
         let mut channel = Self(sys::Watch::NONE);
-        // SAFETY: the struct is a value of its own, and none yet.
+        // SAFETY: this is a new struct, which is still null.
         let made = match limit {
             None => unsafe { sys::topichub_watch_new(&mut channel.0, value, 1) },
             Some(limit) => unsafe {
@@ -130,18 +130,18 @@ impl Watch {
 /// A segment of a channel's history.
 pub(crate) struct Trace(sys::Trace);
 
-// SAFETY: a trace belongs to no thread.
+// SAFETY: a trace is not tied to a thread.
 unsafe impl Send for Trace {}
 
 impl Trace {
-    /// Its text, piece by piece.
+    /// The text, read piece by piece.
     #[track_caller]
     pub(crate) fn into_text(mut self) -> String {
         let mut text = Vec::new();
         loop {
             let mut piece = [0; PIECE];
             let mut written = 0;
-            // SAFETY: the trace is this value's own and was filled by a cut, and the buffer has the
+            // SAFETY: this value owns the trace, which a cut has filled, and the buffer has the
             // length that is passed.
             done(unsafe {
                 sys::topichub_trace_read(&mut self.0, piece.as_mut_ptr(), PIECE, &mut written)
@@ -156,7 +156,7 @@ impl Trace {
 
 impl Drop for Trace {
     fn drop(&mut self) {
-        // SAFETY: the trace is this value's own, and this is its last use.
+        // SAFETY: this value owns the trace, and this is its last use.
         unsafe { sys::topichub_trace_free(&mut self.0) }
     }
 }
@@ -164,7 +164,7 @@ impl Drop for Trace {
 #[track_caller]
 pub(crate) fn check(text: &[u8]) -> Verdict {
     let mut line = 0;
-    // SAFETY: the pointer is to as many bytes as are passed, and a slice's is never null.
+    // SAFETY: the pointer is that of a slice of this length, so it is not null.
     match unsafe { sys::topichub_check(text.as_ptr(), text.len(), &mut line) } {
         status::LEGAL => Verdict::Legal(line),
         status::ILLEGAL => Verdict::Illegal(line),
@@ -174,17 +174,17 @@ pub(crate) fn check(text: &[u8]) -> Verdict {
 }
 
 pub(crate) fn version() -> u32 {
-    // SAFETY: it takes nothing.
+    // SAFETY: the function has no arguments.
     unsafe { sys::topichub_version() }
 }
 
 pub(crate) fn build() -> Build {
-    // SAFETY: it takes nothing.
+    // SAFETY: the function has no arguments.
     match unsafe { sys::topichub_build() } {
         sys::BUILD_PROVED => Build::Proved,
         sys::BUILD_CHECKED => Build::Checked,
         sys::BUILD_UNCHECKED => Build::Unchecked,
-        // That of a given archive, or one of a later version: nothing is known about it.
+        // Given by hand, or a kind that a later version adds: nothing is known about its proof.
         _ => Build::Given,
     }
 }
@@ -206,7 +206,7 @@ fn done(told: u32) {
     }
 }
 
-/// The limit that a call has met, if the status is one of a limit.
+/// The limit that a call has reached, if the status is that of a limit.
 pub(crate) fn limit(told: u32) -> Option<HandleError> {
     match told {
         status::TOO_MANY => Some(HandleError::TooMany),
@@ -216,7 +216,7 @@ pub(crate) fn limit(told: u32) -> Option<HandleError> {
     }
 }
 
-/// Panics for a status that the calls of this crate cannot return.
+/// Panics because of a status that the call should not have.
 #[track_caller]
 #[cold]
 pub(crate) fn refused(told: u32) -> ! {
@@ -226,7 +226,7 @@ pub(crate) fn refused(told: u32) -> ! {
     match told {
         status::EXHAUSTED => panic!("the channel has had 2^64 - 1 versions"),
         other => {
-            panic!("libtopichub answered with the status {other}, which this call does not have")
+            panic!("libtopichub returned the status {other}, which this call does not have")
         }
     }
 }

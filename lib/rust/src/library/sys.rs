@@ -1,4 +1,4 @@
-//! What `topichub.h` declares, by hand: `tests/declarations.rs` compares the two.
+//! The declarations of `topichub.h`, written by hand; `tests/declarations.rs` compares the two.
 use std::ffi::c_void;
 use std::ptr::null_mut;
 
@@ -17,7 +17,7 @@ macro_rules! owned {
 }
 
 owned! {
-    /// A `topichub_broadcast`: a pointer that belongs to the library, and null for none.
+    /// A `topichub_broadcast`: a pointer that belongs to the library, or null for none.
     Broadcast
     /// A `topichub_watch`.
     Watch
@@ -31,9 +31,9 @@ owned! {
 pub(crate) struct Reply {
     /// One of [`status`].
     pub(crate) status: u32,
-    /// How many of the kept values the channel drops, the oldest ones.
+    /// How many of the kept values the channel drops, oldest first.
     pub(crate) let_go: u32,
-    /// What the status says.
+    /// The number that belongs to the status.
     pub(crate) number: u64,
 }
 
@@ -67,7 +67,7 @@ pub(crate) mod status {
     pub(crate) const BAD_TRACE: u32 = 31;
 }
 
-// How the library was built. BUILD_GIVEN, which is 0, says nothing about it.
+// How the library was built. BUILD_GIVEN, which is 0, says nothing about that.
 pub(crate) const BUILD_PROVED: u32 = 1;
 pub(crate) const BUILD_CHECKED: u32 = 2;
 pub(crate) const BUILD_UNCHECKED: u32 = 3;

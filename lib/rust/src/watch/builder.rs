@@ -20,8 +20,8 @@ impl<T> Builder<T> {
     }
 
     /// Makes the channel record each call with its reply. `limit`, 3 to 1,000,000, is the maximum
-    /// number of entries in one trace. Room for the drop of each live handle is reserved in it, so
-    /// choose it well above their number.
+    /// number of entries in one trace. It reserves room for the drop of each live handle, so choose
+    /// it well above their number.
     pub fn recorded(self, limit: u64) -> RecordedBuilder<T> {
         RecordedBuilder {
             builder: self,
@@ -97,29 +97,29 @@ pub struct Recording<T> {
 }
 
 impl<T> Recording<T> {
-    /// The calls and their replies, as a trace that [`check`](crate::check) and `topichub check`
-    /// read.
+    /// Returns the calls and their replies, as a trace that [`check`](crate::check) and
+    /// `topichub check` can read.
     ///
-    /// Each call returns the next part, from where the last one ended: everything since then, or,
-    /// if that is more than the limit, the first part that filled it. `END 0` means that nothing
-    /// has happened. What has not been returned is kept. In a trace a value is written as a number:
-    /// 0 is the value that the channel was made with, and each later one has the next.
+    /// Each trace begins where the last one ended. It has everything since then or, if that is more
+    /// than the limit, as much as fills it; the rest is kept for the next trace. `END 0` means that
+    /// nothing has happened. In a trace, values are written as numbers: 0 is the initial value, and
+    /// each later value has the next number.
     ///
     /// # Panics
     ///
-    /// If memory is refused.
+    /// If an allocation fails.
     #[track_caller]
     pub fn trace(&self) -> String {
         let segment = self.shared.lock().core.cut();
         segment.into_text()
     }
 
-    /// Discards what has not been returned, without making a text of it. The next trace begins
+    /// Discards what has not been returned yet, without making a text of it. The next trace begins
     /// here.
     ///
     /// # Panics
     ///
-    /// If memory is refused.
+    /// If an allocation fails.
     #[track_caller]
     pub fn discard(&self) {
         let discarded = self.shared.lock().core.cut_all();

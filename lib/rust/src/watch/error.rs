@@ -2,7 +2,7 @@
 use std::error::Error;
 use std::fmt;
 
-/// There is no receiver. The error holds the value; a later send may succeed.
+/// There is no receiver. The error contains the value; a later send may succeed.
 #[derive(Clone, Copy, PartialEq, Eq)]
 pub struct SendError<T>(pub T);
 
@@ -32,11 +32,11 @@ impl fmt::Display for RecvError {
 
 impl Error for RecvError {}
 
-/// What [`Receiver::changed_timeout`](super::Receiver::changed_timeout) returns if there is no
-/// unseen value. The names are those of [`std::sync::mpsc::RecvTimeoutError`].
+/// The error of [`Receiver::changed_timeout`](super::Receiver::changed_timeout), with the names of
+/// [`std::sync::mpsc::RecvTimeoutError`].
 #[derive(Clone, Copy, Debug, PartialEq, Eq)]
 pub enum RecvTimeoutError {
-    /// The time was up first.
+    /// No value came in time.
     Timeout,
     /// No sender is left, and the newest value has been seen.
     Disconnected,

@@ -1,35 +1,37 @@
 //! A channel that keeps only the newest value.
 //!
-//! The names and their meaning are those of `tokio::sync::watch`, whose documentation says more.
+//! The names and what they mean are those of `tokio::sync::watch`; its documentation has more
+//! detail.
 //!
 //! # Seen and unseen
 //!
-//! Each receiver learns once that there is something new: [`Receiver::changed`] waits for a value
-//! that it has not seen, and marks it seen. Values that came in between are skipped. The value that
-//! the channel is made with counts as seen.
+//! Each receiver is notified once of a new value: [`Receiver::changed`] waits for a value that it
+//! has not seen, and marks it seen. Values that were replaced in between are skipped. The initial
+//! value counts as seen.
 //!
 //! # Closing
 //!
-//! When all senders are dropped, an unseen value is reported first, and then an error. The newest
-//! value can still be borrowed.
+//! Once all senders are dropped, an unseen value is still reported first, and then an error. The
+//! newest value can still be borrowed.
 //!
-//! # Looking
+//! # Borrowing
 //!
-//! A [`Ref`] borrows the newest value, and senders wait until it is dropped. So hold it for a short
-//! time, not across an `.await`, and take no second one meanwhile: it may wait for a sender that
-//! waits for the first.
+//! A [`Ref`] borrows the newest value, and senders wait until it is dropped. So keep it only
+//! briefly, and never across an `.await`. Do not take a second one while you hold the first: it may
+//! wait for a sender that is waiting for the first.
 //!
 //! # Sharing a receiver
 //!
-//! [`Receiver::borrow`] and [`Receiver::has_changed`] take `&self`. Tasks that only look can share
-//! one receiver in an `Arc`, however many they are. Only a task that awaits [`Receiver::changed`]
+//! [`Receiver::borrow`] and [`Receiver::has_changed`] take `&self`, so any number of tasks that
+//! only look can share one receiver in an `Arc`. Only a task that awaits [`Receiver::changed`]
 //! needs a clone of its own.
 //!
 //! # Differences from Tokio
 //!
-//! - At most 65,535 senders and as many receivers are live at a time.
+//! - At most 65,535 senders and 65,535 receivers are live at a time.
 //! - The futures of [`Receiver::changed`] and [`Sender::closed`] are [`Unpin`], and none takes part
-//!   in the cooperative budget of Tokio's tasks.
+//!   in the cooperative budget of Tokio's tasks: a loop that always finds a new value should await
+//!   `tokio::task::yield_now` once in a while.
 //! - Tokio has no [`Receiver::blocking_changed`], [`Receiver::changed_timeout`],
 //!   [`Receiver::changed_deadline`], [`Receiver::poll_changed`], nor the calls that begin with
 //!   `try_` and return a [`HandleError`].
@@ -50,6 +52,7 @@
 //! ```
 mod builder;
 pub mod error;
+mod mark;
 mod receiver;
 mod sender;
 
@@ -62,6 +65,7 @@ use crate::recording::{made, Core};
 use crate::waiting::Waiters;
 use crate::HandleError;
 use error::RecvError;
+use mark::Mark;
 use std::fmt;
 use std::ops::Deref;
 use std::sync::atomic::{AtomicU64, AtomicUsize, Ordering};
@@ -69,25 +73,25 @@ use std::sync::{Arc, Mutex, MutexGuard, PoisonError, RwLock, RwLockReadGuard, Rw
 
 /// What all handles of a channel share.
 ///
-/// If both locks are taken, the value's comes first. The state's lock is held for one call, while
-/// the value may be borrowed for longer; so a borrow never holds up a task that only waits or asks.
+/// A caller that takes both locks takes the value's first. The state's lock is held for a single
+/// call, while a value may be borrowed for longer. So a borrow never holds up a task that only
+/// waits or asks.
 struct Shared<T> {
     value: RwLock<T>,
     state: Mutex<State>,
-    /// Whether the channel records its calls. Then every question is a call, too.
+    /// Whether the channel records its calls. If so, every question is a call.
     is_recorded: bool,
-    /// What [`State::news`] returns, stored by whoever holds the lock, so that a question takes
-    /// none.
+    /// What [`State::news`] returns. It is stored under the lock, so that questions need no lock.
     news: AtomicU64,
-    /// How many receivers are live, in the same way.
+    /// How many receivers are live, stored likewise.
     receivers: AtomicUsize,
 }
 
-/// The bit of [`State::news`] that says that no sender is left.
+/// The bit of [`State::news`] that is set if no sender is left.
 const CLOSED: u64 = 1;
 
 struct State {
-    /// The channel of numbers: for the newest value it keeps how many replaced the first one.
+    /// The channel of numbers: its newest number is how many values have replaced the first one.
     core: Core<library::Watch>,
     /// How many values have replaced the first one.
     published: u64,
@@ -97,7 +101,7 @@ struct State {
     receivers: usize,
     /// The receivers that wait for a value.
     waiting: Waiters,
-    /// The senders that wait for the last receiver to go.
+    /// The senders that wait until no receiver is left.
     leaving: Waiters,
 }
 
@@ -112,24 +116,41 @@ impl<T> Shared<T> {
         })
     }
 
-    /// Stores what questions without the lock are answered from, after each change.
+    /// Stores what is read without the lock. Called after each change.
     fn show(&self, state: &State) {
         self.news.store(state.news(), Ordering::Release);
         self.receivers.store(state.receivers, Ordering::Release);
     }
 
+    /// The newest version and whether a sender is left, as [`State::news`] has them.
+    #[inline]
+    fn news(&self) -> u64 {
+        self.news.load(Ordering::Acquire)
+    }
+
+    #[inline]
     fn lock(&self) -> MutexGuard<'_, State> {
         self.state.lock().unwrap_or_else(PoisonError::into_inner)
     }
 
+    #[inline]
     fn read(&self) -> RwLockReadGuard<'_, T> {
         self.value.read().unwrap_or_else(PoisonError::into_inner)
     }
 
+    #[inline]
     fn write(&self) -> RwLockWriteGuard<'_, T> {
-        // If a closure has panicked, the value is as it left it, and nothing was published.
+        // If a closure has panicked, the value is as the closure left it, and nothing was
+        // published.
         self.value.write().unwrap_or_else(PoisonError::into_inner)
     }
+}
+
+/// Whether the handle that is being dropped is the last one. Its drop need not be a call, since the
+/// channel is freed with it, and no [`Recording`] is left either that could show the call.
+#[inline]
+fn is_last<T>(shared: &Arc<Shared<T>>) -> bool {
+    Arc::strong_count(shared) == 1
 }
 
 impl State {
@@ -150,19 +171,32 @@ impl State {
         self.version << 1 | if self.senders == 0 { CLOSED } else { 0 }
     }
 
-    /// What a receiver that waits for a change gets now: nothing if there is none.
+    /// What a receiver that waits for a change gets now: `None` if there is no change yet.
     #[track_caller]
     #[inline]
-    fn changed(&mut self, id: u64, seen: &AtomicU64) -> Option<Result<(), RecvError>> {
+    fn changed(&mut self, id: u64, mark: &Mark) -> Option<Result<(), RecvError>> {
+        self.settle(id, mark);
         let told = self.core.call(|channel| channel.changed(id));
         match told.status {
             status::MARKED => {
-                seen.store(self.version, Ordering::Relaxed);
+                mark.set(self.version);
                 Some(Ok(()))
             }
             status::CLOSED => Some(Err(RecvError(()))),
             status::WOULD_WAIT => None,
             other => library::refused(other),
+        }
+    }
+
+    /// Passes on to the library a mark that it is owed.
+    #[track_caller]
+    #[inline]
+    fn settle(&mut self, id: u64, mark: &Mark) {
+        if mark.settle(self.version) {
+            let told = self.core.call(|channel| channel.mark_unchanged(id));
+            if told.status != status::DONE {
+                library::refused(told.status);
+            }
         }
     }
 
@@ -177,14 +211,14 @@ impl State {
     }
 }
 
-/// The newest value, borrowed. It holds the value's lock.
+/// A borrow of the newest value. It holds the value's lock.
 pub struct Ref<'a, T> {
     value: RwLockReadGuard<'a, T>,
     has_changed: bool,
 }
 
 impl<T> Ref<'_, T> {
-    /// Whether the value was unseen when it was borrowed. If a sender borrowed it, this is `false`.
+    /// Whether the value was unseen when it was borrowed: always `false` if a sender borrowed it.
     ///
     /// # Examples
     ///
@@ -218,11 +252,11 @@ impl<T: fmt::Debug> fmt::Debug for Ref<'_, T> {
     }
 }
 
-/// Makes a channel with this value, a sender and a receiver that has seen the value.
+/// Makes a channel with this value, a sender, and a receiver that has seen the value.
 ///
 /// # Panics
 ///
-/// If memory is refused.
+/// If an allocation fails.
 ///
 /// # Examples
 ///

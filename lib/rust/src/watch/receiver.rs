@@ -1,5 +1,6 @@
 //! The receiving side.
 use super::error::{RecvError, RecvTimeoutError};
+use super::mark::Mark;
 use super::{Ref, Shared, CLOSED};
 use crate::blocking::{block_on, block_until, deadline_after};
 use crate::library::{self, status, Reply};
@@ -9,7 +10,6 @@ use crate::HandleError;
 use std::fmt;
 use std::future::Future;
 use std::pin::Pin;
-use std::sync::atomic::{AtomicU64, Ordering};
 use std::sync::Arc;
 use std::task::{Context, Poll};
 use std::time::{Duration, Instant};
@@ -18,9 +18,8 @@ use std::time::{Duration, Instant};
 pub struct Receiver<T> {
     shared: Arc<Shared<T>>,
     id: u64,
-    /// The version that this receiver has seen, or another one if the newest value is unseen.
-    seen: AtomicU64,
-    /// The seat of the task that called [`poll_changed`](Self::poll_changed) last.
+    mark: Mark,
+    /// The seat of the task that last called [`poll_changed`](Self::poll_changed).
     seat: Seat,
 }
 
@@ -29,12 +28,12 @@ impl<T> Receiver<T> {
         Self {
             shared,
             id,
-            seen: AtomicU64::new(seen),
+            mark: Mark::new(seen),
             seat: Seat::default(),
         }
     }
 
-    /// Borrows the newest value. It stays unseen if it was.
+    /// Borrows the newest value without marking it seen.
     ///
     /// # Examples
     ///
@@ -45,26 +44,42 @@ impl<T> Receiver<T> {
     /// assert_eq!(*rx.borrow(), "hello");
     /// ```
     #[track_caller]
+    #[inline]
     pub fn borrow(&self) -> Ref<'_, T> {
-        self.look(|channel, id| channel.borrow(id)).0
+        // Nothing is published while the value's lock is held.
+        let value = self.shared.read();
+        let has_changed = if self.shared.is_recorded {
+            self.look(|channel, id| channel.borrow(id)).0
+        } else {
+            self.mark.is_unseen(self.shared.news() >> 1)
+        };
+        Ref { value, has_changed }
     }
 
     /// Borrows the newest value, and marks it seen.
     #[track_caller]
+    #[inline]
     pub fn borrow_and_update(&mut self) -> Ref<'_, T> {
         self.take()
     }
 
+    #[track_caller]
+    #[inline]
     fn take(&self) -> Ref<'_, T> {
-        let (newest, version) = self.look(|channel, id| channel.take(id));
-        self.seen.store(version, Ordering::Relaxed);
-        newest
+        let value = self.shared.read();
+        let has_changed = if self.shared.is_recorded {
+            let (has_changed, version) = self.look(|channel, id| channel.take(id));
+            self.mark.set(version);
+            has_changed
+        } else {
+            self.mark.take(self.shared.news() >> 1)
+        };
+        Ref { value, has_changed }
     }
 
-    /// Makes a call that shows the newest value, and returns the value and its version.
+    /// Makes a call that shows the newest value. Returns whether it was unseen, and its version.
     #[track_caller]
-    fn look(&self, call: impl Fn(&mut library::Watch, u64) -> Reply) -> (Ref<'_, T>, u64) {
-        let value = self.shared.read();
+    fn look(&self, call: impl Fn(&mut library::Watch, u64) -> Reply) -> (bool, u64) {
         let mut state = self.shared.lock();
         let told = state.core.call(|channel| call(channel, self.id));
         let has_changed = match told.status {
@@ -72,7 +87,7 @@ impl<T> Receiver<T> {
             status::SAME => false,
             other => library::refused(other),
         };
-        (Ref { value, has_changed }, state.version)
+        (has_changed, state.version)
     }
 
     /// Whether the newest value is unseen. It returns an error if no sender is left.
@@ -90,14 +105,21 @@ impl<T> Receiver<T> {
     /// assert!(rx.has_changed().is_err());
     /// ```
     #[track_caller]
+    #[inline]
     pub fn has_changed(&self) -> Result<bool, RecvError> {
-        if !self.shared.is_recorded {
-            let news = self.shared.news.load(Ordering::Acquire);
-            return match news & CLOSED {
-                CLOSED => Err(RecvError(())),
-                _ => Ok(news >> 1 != self.seen.load(Ordering::Relaxed)),
-            };
+        if self.shared.is_recorded {
+            return self.ask_whether_changed();
         }
+        let news = self.shared.news();
+        match news & CLOSED {
+            CLOSED => Err(RecvError(())),
+            _ => Ok(self.mark.is_unseen(news >> 1)),
+        }
+    }
+
+    #[track_caller]
+    #[cold]
+    fn ask_whether_changed(&self) -> Result<bool, RecvError> {
         let told = self
             .shared
             .lock()
@@ -111,8 +133,8 @@ impl<T> Receiver<T> {
         }
     }
 
-    /// Waits for an unseen value, and marks it seen. It returns an error if there is none and no
-    /// sender is left.
+    /// Waits for an unseen value, and marks it seen. If there is none and no sender is left, it
+    /// returns an error.
     ///
     /// # Cancel safety
     ///
@@ -136,28 +158,28 @@ impl<T> Receiver<T> {
         }
     }
 
-    /// Polls for an unseen value, and marks it seen, for streams and for futures written by hand.
-    /// If there is none, the task of the last call is woken once there is. Tokio has no such call.
+    /// Polls for an unseen value, and marks it seen, for streams and hand-written futures. If there
+    /// is none, the task of the last call is woken once there is one. Tokio has no such call.
     #[track_caller]
     pub fn poll_changed(&mut self, context: &mut Context<'_>) -> Poll<Result<(), RecvError>> {
         let mut state = self.shared.lock();
-        let answer = state.changed(self.id, &self.seen);
+        let answer = state.changed(self.id, &self.mark);
         let (polled, left) = state.waiting.poll(&mut self.seat, context.waker(), answer);
         drop(state);
         drop(left);
         polled
     }
 
-    /// As [`changed`](Self::changed), by blocking the thread. Tokio has no such call.
+    /// Like [`changed`](Self::changed), but blocks the thread. Tokio has no such call.
     #[track_caller]
     pub fn blocking_changed(&mut self) -> Result<(), RecvError> {
         block_on(self.changed())
     }
 
-    /// As [`blocking_changed`](Self::blocking_changed), but for at most this long. Tokio has no
-    /// such call.
+    /// Like [`blocking_changed`](Self::blocking_changed), but waits for at most this long. Tokio
+    /// has no such call.
     ///
-    /// A value that comes after the limit stays unseen, and the next wait reports it.
+    /// A value that comes after the timeout stays unseen, and the next wait reports it.
     ///
     /// # Examples
     ///
@@ -175,7 +197,7 @@ impl<T> Receiver<T> {
         self.changed_until(deadline_after(timeout))
     }
 
-    /// As [`changed_timeout`](Self::changed_timeout), until this time.
+    /// Like [`changed_timeout`](Self::changed_timeout), but waits until this time.
     pub fn changed_deadline(&mut self, deadline: Instant) -> Result<(), RecvTimeoutError> {
         self.changed_until(Some(deadline))
     }
@@ -186,8 +208,8 @@ impl<T> Receiver<T> {
     }
 
     /// Waits for a value for which the closure returns `true`, and borrows it. Every value that the
-    /// closure was given is marked seen. It returns an error if no sender is left and the newest
-    /// value is no such value.
+    /// closure was called with is marked seen. If no sender is left and the closure returned
+    /// `false` for the newest value, it returns an error.
     ///
     /// # Examples
     ///
@@ -223,14 +245,14 @@ impl<T> Receiver<T> {
     #[track_caller]
     pub fn mark_changed(&mut self) {
         let version = self.mark(|channel, id| channel.mark_changed(id));
-        self.seen.store(version.wrapping_sub(1), Ordering::Relaxed);
+        self.mark.set(version.wrapping_sub(1));
     }
 
     /// Marks the newest value seen by this receiver.
     #[track_caller]
     pub fn mark_unchanged(&mut self) {
         let version = self.mark(|channel, id| channel.mark_unchanged(id));
-        self.seen.store(version, Ordering::Relaxed);
+        self.mark.set(version);
     }
 
     #[track_caller]
@@ -243,13 +265,13 @@ impl<T> Receiver<T> {
         state.version
     }
 
-    /// As `clone`, with an error in place of a panic.
+    /// Like `clone`, but returns an error instead of panicking.
     pub fn try_clone(&self) -> Result<Self, HandleError> {
         let mut state = self.shared.lock();
+        state.settle(self.id, &self.mark);
         let id = state.new_receiver(|channel| channel.clone_rx(self.id))?;
         self.shared.show(&state);
-        let seen = self.seen.load(Ordering::Relaxed);
-        Ok(Self::new(Arc::clone(&self.shared), id, seen))
+        Ok(Self::new(Arc::clone(&self.shared), id, self.mark.seen()))
     }
 
     /// Whether both are receivers of the same channel.
@@ -259,9 +281,9 @@ impl<T> Receiver<T> {
 }
 
 impl<T> Clone for Receiver<T> {
-    /// A new receiver, with the same mark as this one: the newest value is seen or unseen. It
-    /// panics if the channel has 65,535, or if memory is refused; [`try_clone`](Self::try_clone)
-    /// returns these as errors.
+    /// Makes another receiver, for which the newest value is seen if it is for this one. It panics
+    /// if the channel already has 65,535, or if an allocation fails; [`try_clone`](Self::try_clone)
+    /// returns an error instead.
     #[track_caller]
     fn clone(&self) -> Self {
         made(self.try_clone())
@@ -270,6 +292,9 @@ impl<T> Clone for Receiver<T> {
 
 impl<T> Drop for Receiver<T> {
     fn drop(&mut self) {
+        if super::is_last(&self.shared) {
+            return;
+        }
         let mut state = self.shared.lock();
         let told = state.core.call(|channel| channel.drop_rx(self.id));
         debug_assert_eq!(told.status, status::DONE);
@@ -293,7 +318,7 @@ impl<T> fmt::Debug for Receiver<T> {
     }
 }
 
-/// A wait for an unseen value, made by [`Receiver::changed`].
+/// The future of [`Receiver::changed`].
 #[must_use = "a future does nothing unless it is awaited"]
 pub struct Changed<'a, T> {
     receiver: &'a Receiver<T>,
@@ -307,7 +332,7 @@ impl<T> Future for Changed<'_, T> {
         let Self { receiver, seat } = self.get_mut();
         seat.expect_waiting("watch::Changed");
         let mut state = receiver.shared.lock();
-        let answer = state.changed(receiver.id, &receiver.seen);
+        let answer = state.changed(receiver.id, &receiver.mark);
         let (polled, left) = state.waiting.poll(seat, context.waker(), answer);
         drop(state);
         drop(left);

@@ -13,25 +13,25 @@ use std::sync::atomic::Ordering;
 use std::sync::Arc;
 use std::task::{Context, Poll};
 
-/// Publishes values on a channel. It may be cloned, and used by several threads at once.
+/// Publishes values on a channel. It can be cloned, and used by several threads at once.
 pub struct Sender<T> {
     pub(super) shared: Arc<Shared<T>>,
     pub(super) id: u64,
 }
 
 impl<T> Sender<T> {
-    /// Makes a channel with this value and without a receiver; [`subscribe`](Self::subscribe) makes
-    /// them.
+    /// Makes a channel with this value and without a receiver. [`subscribe`](Self::subscribe) makes
+    /// receivers.
     ///
     /// # Panics
     ///
-    /// If memory is refused.
+    /// If an allocation fails.
     #[track_caller]
     pub fn new(init: T) -> Self {
         super::channel(init).0
     }
 
-    /// Publishes a value if there is a receiver; otherwise the error hands the value back.
+    /// Publishes a value if there is a receiver. Otherwise the error contains the value.
     ///
     /// # Examples
     ///
@@ -125,7 +125,7 @@ impl<T> Sender<T> {
     ///
     /// # Panics
     ///
-    /// As [`send_modify`](Self::send_modify).
+    /// As [`send_modify`](Self::send_modify) does.
     ///
     /// # Examples
     ///
@@ -173,12 +173,12 @@ impl<T> Sender<T> {
         }
     }
 
-    /// A new receiver that has seen the newest value.
+    /// Makes a receiver that has seen the newest value.
     ///
     /// # Panics
     ///
-    /// If the channel has 65,535 receivers, or if memory is refused.
-    /// [`try_subscribe`](Self::try_subscribe) returns these as errors.
+    /// If the channel already has 65,535 receivers, or if an allocation fails.
+    /// [`try_subscribe`](Self::try_subscribe) returns an error instead.
     ///
     /// # Examples
     ///
@@ -196,7 +196,7 @@ impl<T> Sender<T> {
         made(self.try_subscribe())
     }
 
-    /// As [`subscribe`](Self::subscribe), with an error in place of a panic.
+    /// Like [`subscribe`](Self::subscribe), but returns an error instead of panicking.
     pub fn try_subscribe(&self) -> Result<Receiver<T>, HandleError> {
         let mut state = self.shared.lock();
         let id = state.new_receiver(|channel| channel.subscribe(self.id))?;
@@ -204,7 +204,7 @@ impl<T> Sender<T> {
         Ok(Receiver::new(Arc::clone(&self.shared), id, state.version))
     }
 
-    /// Another sender of the same channel: as `clone`, with an error in place of a panic.
+    /// Like `clone`, but returns an error instead of panicking.
     pub fn try_clone(&self) -> Result<Self, HandleError> {
         let mut state = self.shared.lock();
         let id = state.core.new_handle(|channel| channel.clone_tx(self.id))?;
@@ -231,10 +231,17 @@ impl<T> Sender<T> {
 
     /// Whether no receiver is left.
     #[track_caller]
+    #[inline]
     pub fn is_closed(&self) -> bool {
-        if !self.shared.is_recorded {
-            return self.shared.receivers.load(Ordering::Acquire) == 0;
+        if self.shared.is_recorded {
+            return self.ask_whether_closed();
         }
+        self.shared.receivers.load(Ordering::Acquire) == 0
+    }
+
+    #[track_caller]
+    #[cold]
+    fn ask_whether_closed(&self) -> bool {
         let told = self
             .shared
             .lock()
@@ -271,8 +278,8 @@ fn is_yes(told: u32) -> bool {
 }
 
 impl<T> Clone for Sender<T> {
-    /// Another sender of the same channel. It panics if the channel has 65,535, or if memory is
-    /// refused; [`try_clone`](Self::try_clone) returns these as errors.
+    /// Makes another sender of the same channel. It panics if the channel already has 65,535, or if
+    /// an allocation fails; [`try_clone`](Self::try_clone) returns an error instead.
     #[track_caller]
     fn clone(&self) -> Self {
         made(self.try_clone())
@@ -287,6 +294,9 @@ impl<T: Default> Default for Sender<T> {
 
 impl<T> Drop for Sender<T> {
     fn drop(&mut self) {
+        if super::is_last(&self.shared) {
+            return;
+        }
         let mut state = self.shared.lock();
         let told = state.core.call(|channel| channel.drop_tx(self.id));
         debug_assert_eq!(told.status, status::DONE);
@@ -308,7 +318,7 @@ impl<T> fmt::Debug for Sender<T> {
     }
 }
 
-/// A wait for the last receiver to go, made by [`Sender::closed`].
+/// The future of [`Sender::closed`].
 #[must_use = "a future does nothing unless it is awaited"]
 pub struct Closed<'a, T> {
     sender: &'a Sender<T>,

@@ -1,15 +1,17 @@
-//! Streams over the channels of [`topichub`], with the names and errors of tokio-stream's `wrappers`.
+//! Streams over the channels of [`topichub`], with the names and errors of tokio-stream's
+//! `wrappers`.
 //!
-//! - [`BroadcastStream`] has every value of a broadcast channel. If it is too slow, it has an error
-//!   with the number of values that it missed, and continues with the oldest value that is kept.
-//! - [`WatchStream`] has the newest value of a watch channel, and then each newest one that it has
-//!   not had yet.
+//! - [`BroadcastStream`] yields every value of a broadcast channel. If it falls behind, it yields
+//!   an error with the number of values it missed, and continues with the oldest value that is
+//!   kept.
+//! - [`WatchStream`] yields the newest value of a watch channel, and then, after each change, the
+//!   newest value again.
 //!
-//! Both end when the channel is closed.
+//! Both end once the channel is closed and everything was yielded.
 #![forbid(unsafe_code)]
 #![warn(missing_docs, unreachable_pub, rust_2018_idioms)]
 
-// The example of the README is compiled too.
+// The example in the README is compiled too.
 #[cfg(doctest)]
 #[doc = include_str!("../README.md")]
 struct Readme;
@@ -26,10 +28,10 @@ pub mod errors {
     use std::error::Error;
     use std::fmt;
 
-    /// An item of a [`BroadcastStream`](crate::BroadcastStream) that is no value.
+    /// The error of a [`BroadcastStream`](crate::BroadcastStream).
     #[derive(Clone, Debug, PartialEq, Eq)]
     pub enum BroadcastStreamRecvError {
-        /// The stream was too slow and missed this many values. It continues with the oldest value
+        /// The stream fell behind and missed this many values. It continues with the oldest value
         /// that is kept.
         Lagged(u64),
     }
@@ -50,7 +52,7 @@ pub struct BroadcastStream<T> {
 }
 
 impl<T> BroadcastStream<T> {
-    /// A stream of what this receiver has still to receive.
+    /// Makes a stream of the values that this receiver has yet to receive.
     pub fn new(receiver: broadcast::Receiver<T>) -> Self {
         Self { receiver }
     }
@@ -85,12 +87,12 @@ impl<T> fmt::Debug for BroadcastStream<T> {
 /// The newest values of a watch channel, as a stream.
 pub struct WatchStream<T> {
     receiver: watch::Receiver<T>,
-    /// Whether the next item is the newest value, even if the receiver has seen it.
+    /// Whether the next poll yields the newest value even if the receiver has seen it.
     is_due: bool,
 }
 
 impl<T> WatchStream<T> {
-    /// A stream that begins with the newest value, even if the receiver has seen it.
+    /// Makes a stream that begins with the newest value, even if the receiver has seen it.
     pub fn new(receiver: watch::Receiver<T>) -> Self {
         Self {
             receiver,
@@ -98,7 +100,7 @@ impl<T> WatchStream<T> {
         }
     }
 
-    /// A stream that begins with the first value that the receiver has not seen.
+    /// Makes a stream that begins with the first value that the receiver has not seen.
     pub fn from_changes(receiver: watch::Receiver<T>) -> Self {
         Self {
             receiver,

@@ -1,4 +1,4 @@
-//! What the streams have, by one task that counts its wakes.
+//! The items of the streams, polled by a task that counts its wakes.
 use futures_core::Stream;
 use std::pin::Pin;
 use std::sync::atomic::{AtomicUsize, Ordering};
@@ -40,7 +40,7 @@ impl Task {
 }
 
 #[test]
-fn a_broadcast_stream_has_each_value_and_what_it_missed() {
+fn a_broadcast_stream_yields_each_value_and_what_it_missed() {
     let (tx, rx) = broadcast::channel(2);
     let (task, mut stream) = (Task::new(), BroadcastStream::new(rx));
     assert_eq!(task.next(&mut stream), Poll::Pending);
@@ -62,7 +62,7 @@ fn a_broadcast_stream_has_each_value_and_what_it_missed() {
 }
 
 #[test]
-fn a_watch_stream_has_the_newest_value_and_then_each_newer_one() {
+fn a_watch_stream_yields_the_newest_value_and_then_newer_ones() {
     let (tx, rx) = watch::channel("first");
     let (task, mut stream) = (Task::new(), WatchStream::new(rx.clone()));
     let mut changes = WatchStream::from_changes(rx);
@@ -81,7 +81,7 @@ fn a_watch_stream_has_the_newest_value_and_then_each_newer_one() {
 }
 
 #[test]
-fn a_stream_that_is_dropped_is_not_woken() {
+fn a_dropped_stream_is_not_woken() {
     let (tx, rx) = broadcast::channel(2);
     let (task, mut stream) = (Task::new(), BroadcastStream::from(rx));
     assert_eq!(task.next(&mut stream), Poll::Pending);
@@ -98,7 +98,7 @@ fn a_stream_that_is_dropped_is_not_woken() {
 }
 
 #[test]
-fn streams_go_where_their_receivers_do() {
+fn streams_can_be_sent_where_receivers_can() {
     fn goes<T: Send + Sync + Unpin>() {}
     goes::<BroadcastStream<String>>();
     goes::<WatchStream<String>>();

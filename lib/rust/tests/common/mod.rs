@@ -1,5 +1,5 @@
-//! What several tests need.
-#![allow(dead_code)] // each test is a crate of its own, and uses some of it
+//! Helpers that several tests share.
+#![allow(dead_code)] // each test is a crate of its own and uses only some of them
 
 use std::future::Future;
 use std::pin::Pin;
@@ -8,7 +8,7 @@ use std::sync::Arc;
 use std::task::{Context, Poll, Wake, Waker};
 use std::thread::{self, Thread};
 
-/// A waker that counts how often it was called.
+/// A waker that counts its calls.
 #[derive(Default)]
 pub struct Calls(AtomicUsize);
 
@@ -42,7 +42,7 @@ impl Wake for Unparks {
     }
 }
 
-/// Carries out a future on this thread.
+/// Runs a future to its end on this thread.
 pub fn block_on<F: Future>(future: F) -> F::Output {
     let waker = Waker::from(Arc::new(Unparks(thread::current())));
     let mut future = Box::pin(future);
@@ -54,7 +54,7 @@ pub fn block_on<F: Future>(future: F) -> F::Output {
     }
 }
 
-/// Numbers that look random, the same for each seed.
+/// Pseudo-random numbers, the same for the same seed.
 pub struct Dice(u64);
 
 impl Dice {
