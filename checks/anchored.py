@@ -1,7 +1,7 @@
 """What `topichub serve --at-once` does for the files of traces where it is asked to, for checks/serve: `--sync`, `--anchors`, and how it
 begins where the system limits the size of a file.
 
-What is due is written in docs/FORMATS.md, "A server that stands". Sums are made here by Python's hashlib, of the files as they are. What
+What is due is written in docs/SERVER.md. Sums are made here by Python's hashlib, of the files as they are. What
 is on the disk when takes `strace` to be seen, where that is installed. What is left out is said."""
 import contextlib
 import hashlib
@@ -11,7 +11,7 @@ import resource
 
 from guarded import can_trace
 from histories import ended, joined, parts_of, standing, starts
-from program import eventually, program
+from program import eventually, program, run
 from sessions import Client, Server
 
 ANCHOR = re.compile(r"topichub: anchor (\S+)/(\S+) ([0-9a-f]{64})")
@@ -120,6 +120,44 @@ def anchors(folder):
         yield "and nothing else is there", len(os.listdir(kept)) == sum(map(len, due.values()))
 
 
+def compared(folder):
+    """What `check --anchors` says of a server's files, by what the server told of them in a journal."""
+    traces, journal = os.path.join(folder, "anchored-compared"), os.path.join(folder, "anchored-journal")
+    with standing(os.path.join(folder, "anchored-tells"), "--history", "7", "--traces", traces, "--anchors") as server:
+        kept, = starts(traces)
+        with contextlib.closing(Client(server.path)) as client:
+            opened(client, {topic: KINDS[topic] for topic in "bw"})
+            made(client, "bw", 40)
+        told = ended(server)[2]
+    with open(journal, "w") as file:
+        file.write("".join(f"Dec 01 10:00:00 host topichub[12]: {line}\n" for line in ["a line", *told.splitlines(), "another"]))
+    paths = [path for _, _, path in parts_of(kept, "b")]
+    whole = {topic: f"joined {joined(parts_of(kept, topic))} 1-{joined(parts_of(kept, topic))} {topic}\n" for topic in "bw"}
+
+    def says(*names, anchors=journal):
+        ran = run(["check", "--joined", "--anchors", anchors, *names], b"")
+        return ran.returncode, ran.stdout.decode(), ran.stderr.decode()
+
+    yield "files that are those of their anchors are joined", len(paths) > 3 and says(*paths) == (0, whole["b"], "")
+    yield "so are those of each topic in a folder", says(kept) == (0, whole["b"] + whole["w"], "")
+    yield "where the last file is missing, that is told", says(*paths[:-1]) == (3, f"ended {paths[-2]}\n", "")
+    yield "where the first one is, the next has no anchor", says(*paths[1:]) == (3, f"unanchored {paths[1]}\n", "")
+    yield "anchors that cannot be read are told by name", says(*paths, anchors=journal + "-none") == (
+        1, "", f"topichub: {journal}-none: read fault\n")
+    changed = []
+    for path in paths:
+        with open(path, "rb") as file:
+            text = file.read()
+        if b" value-20\n" in text:
+            changed.append(path)
+            with open(path, "wb") as file:
+                file.write(text.replace(b" value-20\n", b" value-2x\n"))
+    again = run(["check", "--joined", *paths], b"").stdout.decode()
+    yield "files with another value may be joined", changed != [] and again == whole["b"]
+    yield "and have no anchor", says(*paths) == (3, f"unanchored {changed[0]}\n", "")
+    yield "the files before them have", says(*paths[:paths.index(changed[0])])[:2] == (3, f"ended {paths[paths.index(changed[0]) - 1]}\n")
+
+
 def moved_away(folder):
     """Who takes a file as soon as it has its name changes no sum."""
     traces = os.path.join(folder, "anchored-away")
@@ -201,10 +239,10 @@ def sync_faults(folder):
         return
     log, path = os.path.join(folder, "anchored-faults"), os.path.join(folder, "anchored-fails")
     traces = os.path.join(folder, "anchored-unsynced")
-    with watched(path, ["--verbose", "--traces", traces, "--sync"], log, "-e", "inject=fsync:error=EIO") as server:
+    with watched(path, ["--traces", traces, "--sync"], log, "-e", "inject=fsync:error=EIO") as server:
         ends = server.end()
     yield "a folder for traces that cannot be synced is refused by its name", ends == (
-        1, "", f"topichub: write fault\ntopichub: {path}: the folder for the traces cannot be synced\n") and os.listdir(traces) == []
+        1, "", f"topichub: write fault\ntopichub: {traces}: the folder for the traces cannot be synced\n") and os.listdir(traces) == []
     failed = "topichub: {}: a trace could not be written; the server goes on\n"
     for name, when, is_there in (("file", "2", False), ("name", "3", True)):
         traces = os.path.join(folder, f"anchored-unsynced-{name}")
@@ -244,14 +282,14 @@ def sized(size):
 def sizes(folder):
     path = os.path.join(folder, "anchored-sizes")
     for history in (None, 1, 1_000, 1_000_000):
-        words = ["--at-once", "2", "--until-eof", "--verbose"] + (["--history", str(history)] if history else [])
+        words = ["--at-once", "2", "--until-eof"] + (["--history", str(history)] if history else [])
         least = most_bytes(history or 100_000)
         name = f"--history {history}" if history else "no --history"
         traces = os.path.join(folder, f"anchored-sizes-{history}")
         with Server(path, None, words=[*words, "--traces", traces], begin=sized(least - 1)) as server:
             ends = server.end()
         yield f"with {name} a start is refused by its name where a trace may be larger than a file", ends == (
-            1, "", f"topichub: write fault\ntopichub: {path}: a trace may take {least} bytes, and files of {least - 1} are allowed\n")
+            1, "", f"topichub: write fault\ntopichub: {traces}: a trace may take {least} bytes, and files of {least - 1} are allowed\n")
         yield "and nothing is made", (os.path.lexists(path), os.path.lexists(path + ".lock"), os.path.lexists(traces)) == (False,) * 3
         with Server(path, None, words=[*words, "--traces", traces], begin=sized(least)) as server:
             ends = ended(server)
@@ -276,4 +314,4 @@ def longest(folder):
     yield "no line of a trace is longer than is counted on", len(paths) > 5 and all(map(is_within, paths))
 
 
-TRIED = (words, anchors, moved_away, syncs, sync_faults, unreadable, sizes, longest)
+TRIED = (words, anchors, compared, moved_away, syncs, sync_faults, unreadable, sizes, longest)

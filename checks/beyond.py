@@ -1,6 +1,6 @@
 """What `topichub serve --at-once N --busy` tells clients beyond N, and what people are told of clients that die, for checks/serve.
 
-What is due is written in docs/FORMATS.md, "A server that stands"."""
+What is due is written in docs/SERVER.md."""
 import contextlib
 import os
 import signal

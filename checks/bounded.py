@@ -1,7 +1,7 @@
 """What `topichub serve --memory-bytes` holds at most, for checks/serve: one client asks for as much as it can, and is refused before the
 server takes more; what was opened can always be published to and received from, and a history cut.
 
-What is due is written in docs/FORMATS.md, "A server that stands". Memory is the server's resident memory, with one arena of the C
+What is due is written in docs/SERVER.md. Memory is the server's resident memory, with one arena of the C
 library, as the unit sets it."""
 import contextlib
 import os
@@ -27,7 +27,7 @@ def resident(server):
 
 def bounded(path, at_once=AT_ONCE, most=BYTES, words=()):
     """A server that may take so many bytes."""
-    words = ["--at-once", str(at_once), "--until-eof", "--verbose", "--memory-bytes", str(most), *words]
+    words = ["--at-once", str(at_once), "--until-eof", "--memory-bytes", str(most), *words]
     return Server(path, None, environment=dict(os.environ, MALLOC_ARENA_MAX="1"), words=words)
 
 

@@ -1,7 +1,7 @@
 """How `topichub serve` stands among other users and other files, for checks/serve: what it makes and with which mode, what it refuses
 to touch, what it removes, and which descriptors it has.
 
-What is due is written in docs/FORMATS.md, "Sessions" and "A server that stands". What takes another user is tried where root runs it,
+What is due is written in docs/SERVER.md, and in docs/FORMATS.md, "Sessions". What takes another user is tried where root runs it,
 as the users 10001, who serves, and 10002; what takes `strace` to be seen, where that is installed. What is left out is said."""
 import contextlib
 import fcntl
@@ -42,12 +42,10 @@ def written(path, text=b"a file of the user\n", mode=0o600):
     return text
 
 
-def refused(path, fault=None, words=(), **how):
-    """How a server ends that is refused for this reason, and whether it did so. A reason is told of one that stands."""
-    words = [*words, "--at-once", "2", "--verbose"]
-    told = "topichub: socket fault\n" + (f"topichub: {fault}\n" if fault else "")
-    with Server(path, None, words=words, **how) as server:
-        return server.end() == (1, "", told)
+def refused(path, fault, words=(), serving=("--at-once", "2"), **how):
+    """Whether a server is refused for this reason."""
+    with Server(path, None, words=[*words, *serving], **how) as server:
+        return server.end() == (1, "", f"topichub: socket fault\ntopichub: {fault}\n")
 
 
 def connects(path):
@@ -155,8 +153,7 @@ def no_locks(folder):
         before = os.lstat(lock)
         told = refused(path, f"{lock}: {fault}"), refused(path, f"{lock}: {fault}", ["--replace"])
         yield f"{name} at PATH.lock is refused by its name", told == (True, True)
-        with Server(path, 1) as server:
-            yield "and with --sessions", server.end() == (1, "", "topichub: socket fault\n")
+        yield "and with --sessions", refused(path, f"{lock}: {fault}", serving=("--sessions", "1"))
         after = os.lstat(lock)
         yield "it is left as it was, and nothing is made", (text_of(victim), os.path.lexists(os.path.join(folder, "nowhere-locked")),
                                                             os.path.lexists(path)) == (text, False, False) and (
@@ -304,7 +301,7 @@ def removes(folder):
 def stales(folder):
     path = os.path.join(folder, "stale")
     lock = path + ".lock"
-    words = ["--at-once", "2", "--replace", "--until-eof", "--verbose"]
+    words = ["--at-once", "2", "--replace", "--until-eof"]
     other = f"{path}: its server has left no lock, so --replace leaves it"
     for before in (["--sessions", "2"], ["--at-once", "2"]):
         with Server(path, None, words=before) as server:
@@ -405,8 +402,8 @@ def folders_of_others(folder):
         os.mkdir(traces, 0o777)
         os.chmod(traces, 0o777)
         owned(traces)
-        words = ["--at-once", "2", "--until-eof", "--verbose", "--traces", traces]
-        told = f"topichub: write fault\ntopichub: {path}: the folder for the traces belongs to another user\n"
+        words = ["--at-once", "2", "--until-eof", "--traces", traces]
+        told = f"topichub: write fault\ntopichub: {traces}: the folder for the traces belongs to another user\n"
         for name, how in (("user", {"user": OWN, "group": OWN, "extra_groups": []}), ("root", {})):
             with Server(path, None, words=words, file=copy, **how) as server:
                 ends = server.end()
@@ -503,17 +500,16 @@ def stands_without(path, closed, words, passed=()):
 
 def empty_words(folder):
     path = os.path.join(folder, "words-empty")
-    for words in (["--sessions", "1"], ["--at-once", "2", "--verbose"]):
+    for words in (["--sessions", "1"], ["--at-once", "2"]):
         ran = subprocess.run([program(), "serve", "", *words], stdin=subprocess.DEVNULL, capture_output=True, text=True, cwd=folder,
                              timeout=patience())
-        told = "topichub: the path is empty\n" if "--verbose" in words else ""
         yield f"an empty PATH is refused with {words[0]}", (ran.returncode, ran.stdout, ran.stderr) == (
-            1, "", "topichub: socket fault\n" + told)
+            1, "", "topichub: socket fault\ntopichub: the path is empty\n")
         yield "and no lock is made for it", not os.path.lexists(os.path.join(folder, ".lock"))
-    with Server(path, None, words=["--at-once", "2", "--verbose", "--traces", ""]) as server:
+    with Server(path, None, words=["--at-once", "2", "--traces", ""]) as server:
         ends = server.end()
     yield "a folder for traces without a name is refused by its name", ends == (
-        1, "", f"topichub: write fault\ntopichub: {path}: the folder for the traces has no name\n")
+        1, "", "topichub: write fault\ntopichub: the folder for the traces has no name\n")
 
 
 def other_sockets(folder):

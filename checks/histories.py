@@ -1,9 +1,10 @@
 """What `topichub serve --at-once` makes of histories, for checks/serve: where they are cut, and the files of their parts.
 
-What is due is written in docs/FORMATS.md, "A server that stands". How many events a topic has is counted by hand, from the lines
+What is due is written in docs/SERVER.md. How many events a topic has is counted by hand, from the lines
 that are sent: each line that is an event is one, a `RESUB` is two, and a session that ends spends its handles."""
 import contextlib
 import ctypes
+import errno
 import glob
 import os
 import re
@@ -420,12 +421,12 @@ def no_folder(folder):
     with open(file, "w") as made:
         made.write("a file\n")
     traces = os.path.join(file, "traces")
-    for verbose, told in (((), ""), (("--verbose",), f"topichub: {path}: no folder for the traces can be made\n")):
-        with standing(path, "--traces", traces, *verbose) as server:
-            ends = ended(server)
-        name = "a folder for traces that cannot be made" + (" is named by --verbose" if verbose else " ends the server, as a write fault")
-        yield name, ends == (1, "", "topichub: write fault\n" + told)
-        yield "and no socket is left", not os.path.lexists(path)
+    why = f"{os.strerror(errno.ENOTDIR)} (os error {errno.ENOTDIR})"
+    with standing(path, "--traces", traces) as server:
+        ends = ended(server)
+    yield "a folder for traces that cannot be made ends the server, as a write fault, and is named", ends == (
+        1, "", f"topichub: write fault\ntopichub: {traces}: no folder for the traces can be made: {why}\n")
+    yield "and no socket is left", not os.path.lexists(path)
     with standing(path, "--traces", file) as server:
         yield "nor can it be made where a file stands", ended(server)[0] == 1 and not os.path.lexists(path)
 
@@ -453,7 +454,7 @@ def handed_over(folder):
         with contextlib.closing(Client(path)) as early, standing(path, *handed, **how) as server:
             told = early.ask(b"LIST"), ended(server)
         yield "who connects between two starts is served by the next", told == (b"OK 0\n", (0, "listening\ndone 1\n", ""))
-        with open(os.devnull) as other, standing(path, "--socket-fd", str(other.fileno()), "--verbose", pass_fds=(other.fileno(),)) as server:
+        with open(os.devnull) as other, standing(path, "--socket-fd", str(other.fileno()), pass_fds=(other.fileno(),)) as server:
             ends = ended(server)
         yield "a descriptor that is no socket is refused", ends == (
             1, "", f"topichub: socket fault\ntopichub: {path}: the descriptor that was handed over is no socket\n")
@@ -463,7 +464,7 @@ def handed_over(folder):
             if there:
                 with open(nowhere, "w") as file:
                     file.write("a file\n")
-            with standing(nowhere, *handed, "--verbose", **how) as server:
+            with standing(nowhere, *handed, **how) as server:
                 ends = ended(server)
             yield ("where a file stands" if there else "where nothing stands") + " at the path, no socket was handed over", ends == (
                 1, "", f"topichub: socket fault\ntopichub: {nowhere}: {fault}\n")

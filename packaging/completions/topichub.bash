@@ -9,7 +9,7 @@ _topichub() {
         :-*) words='-h --help -V --version' ;;
         :*) words='replay check serve help' ;;
         replay:-*) words='-h --help' ;;
-        check:-*) words='--joined --whole --files-from -h --help' ;;
+        check:-*) words='--joined --whole --anchors --files-from -h --help' ;;
         check:*)
             compopt -o filenames 2>/dev/null
             mapfile -t COMPREPLY < <(compgen -f -- "$word")

@@ -30,6 +30,7 @@ _topichub() {
             _arguments "$help[@]" \
                 '--joined[the files are to be one history]' \
                 '--whole[that history is to be whole]' \
+                '--anchors=[its files are to be those of which this text tells]:anchors:_files' \
                 '(*)--files-from=[the files that a list names]:list:_files' \
                 '*:trace:_files' && ret=0
             ;;
@@ -39,7 +40,7 @@ _topichub() {
                 '(--sessions)--at-once=[any number of connections, so many at a time]:number from 1 to 1024: ' \
                 '(--sessions --socket-fd)--replace[take the place of a socket whose server is gone]' \
                 '(--sessions)--until-eof[end at the end of standard input]' \
-                '(--sessions)--verbose[say what is wrong at the path]' \
+                '(--sessions)--verbose[changes nothing]' \
                 '(--sessions)--history=[cut histories at so many entries]:number from 1 to 1000000: ' \
                 '(--sessions)--memory=[how many entries all histories hold]:number from 1024 to 1000000000: ' \
                 '(--sessions)--traces=[keep what was cut below this directory]:directory:_files -/' \

@@ -4,8 +4,9 @@ use std::fs::File;
 use std::process::ExitCode;
 use th_lines::Counted;
 use th_program::{
-    Advising, End, Opens, check_by_words, check_files, check_joined, explanation, given_words,
-    greet, mode, part_name, run, run_for, run_not_text, run_on_streams, run_short, status, texts,
+    Advising, Anchor, End, Opens, Wanted, check_by_words, check_files, check_joined, explanation,
+    given_words, greet, mode, part_name, run, run_for, run_not_text, run_on_streams, run_short,
+    status, sum_of, texts,
 };
 
 pub fn say(errors: &mut Counted<File>) {
@@ -41,8 +42,18 @@ pub fn check_with(
     let _ = rt.open("t.1.trace");
     let _ = rt.list(alloc, "traces");
     let _ = check_files(alloc, rt, names, output, errors, true);
-    let _ = check_joined(alloc, rt, names, false, output, errors, true);
+    let told = [Anchor {
+        path: b"1/t.00000000000000000001.trace",
+        digits: b"0",
+    }];
+    let wanted = Wanted {
+        whole: false,
+        anchors: Some(&told),
+    };
+    let _ = check_joined(alloc, rt, names, wanted, output, errors, true);
     let _ = check_by_words(alloc, rt, words, input, output, errors, true);
+    let first = sum_of(None, input);
+    let _ = sum_of(first, input);
 }
 
 pub fn read_words(rt: &HostRuntime, alloc: Global, words: &[&str], given: &[String]) {

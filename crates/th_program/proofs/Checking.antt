@@ -1,6 +1,6 @@
 -- What words that begin with `check` ask for.
-use Rattle.std.proofs.Common.{inl, inr, ◌≡◌, ◌∙◌, ℕ, Bool, true, false, List, ap, sym, refl, subst, None, Some, Result, Ok, Err, IfOk}
-use Rattle.std.specs.Prelude.{◌≢◌, ◌⊎◌, IsSome, MatchResult, if◌then◌else◌}
+use Rattle.std.proofs.Common.{inl, inr, ◌≡◌, ◌∙◌, ℕ, Bool, true, false, List, ap, sym, refl, subst, Option, None, Some, Result, Ok, Err, IfOk}
+use Rattle.std.specs.Prelude.{◌≢◌, ◌⊎◌, ◌||◌, IsSome, MatchResult, if◌then◌else◌}
 use Rattle.std.proofs.lemmas.Bool.{false≢true}
 use Rattle.std.proofs.lemmas.Option.{none-some, same_Some}
 use Rattle.clap.specs.Words.{Row}
@@ -12,7 +12,7 @@ use Rattle.th_program.specs.declared.modes.Mode.TheVariants.{Check, CheckFiles, 
 use Rattle.th_program.specs.declared.modes.ModeFault.{ModeFault}
 use Rattle.th_program.specs.declared.modes.ModeFault.TheVariants.{Short}
 use Rattle.th_program.specs.declared.modes.Sources.TheVariants as sources
-use Rattle.th_program.specs.Words.{GivesCheck, GivesMode, HasFiles, IsList, IsMode, IsUsage, files_of, is_joined, is_whole, list_of, manner_of}
+use Rattle.th_program.specs.Words.{GivesCheck, GivesMode, HasFiles, IsList, IsMode, IsUsage, anchors_of, files_of, has_anchors, is_joined, is_whole, list_of, manner_of}
 
 abbrev IsCheck : Asked → Type 0
 IsCheck Asked.Check = Unit {0}
@@ -26,42 +26,45 @@ only_check asked rows (Err e) a none unlisted is gives = gives
 only_check asked rows (Ok Check) a none unlisted is gives = refl
 only_check asked rows (Ok Replay) a none unlisted is gives = absurd (subst IsCheck (sym a ∙ is) tt)
 only_check asked rows (Ok (Serve path n)) a none unlisted is gives = absurd (subst IsCheck (sym a ∙ is.0) tt)
-only_check asked rows (Ok (CheckFiles (sources.Words names) so)) a none unlisted is gives = absurd (none-some _ (sym none ∙ is.1.0))
-only_check asked rows (Ok (CheckFiles (sources.List list) so)) a none unlisted is gives =
+only_check asked rows (Ok (CheckFiles (sources.Words names) so file)) a none unlisted is gives = absurd (none-some _ (sym none ∙ is.1.0))
+only_check asked rows (Ok (CheckFiles (sources.List list) so file)) a none unlisted is gives =
     absurd (none-some _ (sym unlisted ∙ is.1.1))
 
 -- the mode of a list
-pub listed_mode : (rows : List Row) (r : Result Mode ModeFault) (list : List ℕ) (so : Manner) → IfOk r (λ m. IsList m list so)
-    → files_of rows ≡ None → list_of rows ≡ Some list → manner_of rows ≡ Some so → IfOk r (IsMode Asked.Check rows)
-listed_mode rows (Err e) list so is none given asked = is
-listed_mode rows (Ok (CheckFiles (sources.List other) one)) list so is none given asked =
-    (refl, (none, given ∙ ap (λ (l : List ℕ). Some l) (sym is.0)), asked ∙ ap (λ (m : Manner). Some m) (sym is.1))
-listed_mode rows (Ok (CheckFiles (sources.Words names) one)) list so is none given asked = absurd is
-listed_mode rows (Ok Check) list so is none given asked = absurd is
-listed_mode rows (Ok Replay) list so is none given asked = absurd is
-listed_mode rows (Ok (Serve path n)) list so is none given asked = absurd is
+pub listed_mode : (rows : List Row) (r : Result Mode ModeFault) (list : List ℕ) (so : Manner) (file : Option (List ℕ))
+    → IfOk r (λ m. IsList m list so file) → files_of rows ≡ None → list_of rows ≡ Some list → manner_of rows ≡ Some so
+    → file ≡ anchors_of rows → IfOk r (IsMode Asked.Check rows)
+listed_mode rows (Err e) list so file is none given asked told = is
+listed_mode rows (Ok (CheckFiles (sources.List other) one anchors)) list so file is none given asked told =
+    (refl, (none, given ∙ ap (λ (l : List ℕ). Some l) (sym is.0)), asked ∙ ap (λ (m : Manner). Some m) (sym is.1), is.2 ∙ told)
+listed_mode rows (Ok (CheckFiles (sources.Words names) one anchors)) list so file is none given asked told = absurd is
+listed_mode rows (Ok Check) list so file is none given asked told = absurd is
+listed_mode rows (Ok Replay) list so file is none given asked told = absurd is
+listed_mode rows (Ok (Serve path n)) list so file is none given asked told = absurd is
 
--- what was not given cannot be whole
+-- what was not given cannot be whole, or that of anchors
 pub no_manner : (rows : List Row) → manner_of rows ≡ None → HasFiles rows → ⊥
-no_manner rows none has = by (is_joined rows) (is_whole rows) none has.whole
+no_manner rows none has = by (is_joined rows) (is_whole rows) (has_anchors rows) none has.whole has.anchored
   where
-    by : (joined whole : Bool)
-        → (if joined then Some (if whole then manner.Whole else manner.Joined) else if whole then None else Some manner.Each) ≡ None
-        → (whole ≡ true → joined ≡ true) → ⊥
-    by true whole none asks = absurd (none-some _ (sym none))
-    by false true none asks = false≢true (asks refl)
-    by false false none asks = absurd (none-some _ (sym none))
+    by : (joined whole told : Bool)
+        → (if joined then Some (if whole then manner.Whole else manner.Joined) else if whole || told then None else Some manner.Each) ≡ None
+        → (whole ≡ true → joined ≡ true) → (told ≡ true → joined ≡ true) → ⊥
+    by true whole told none asks needs = absurd (none-some _ (sym none))
+    by false true told none asks needs = false≢true (asks refl)
+    by false false true none asks needs = false≢true (needs refl)
+    by false false false none asks needs = absurd (none-some _ (sym none))
 
 -- as what files are checked says whether they are to be a history
 joins : (rows : List Row) (so : Manner) → manner_of rows ≡ Some so → (so ≡ manner.Each → ⊥) → is_joined rows ≡ true
-joins rows so is other = by (is_joined rows) (is_whole rows) is
+joins rows so is other = by (is_joined rows) (is_whole rows) (has_anchors rows) is
   where
-    by : (joined whole : Bool)
-        → (if joined then Some (if whole then manner.Whole else manner.Joined) else if whole then None else Some manner.Each) ≡ Some so
+    by : (joined whole told : Bool)
+        → (if joined then Some (if whole then manner.Whole else manner.Joined) else if whole || told then None else Some manner.Each) ≡ Some so
         → joined ≡ true
-    by true whole is = refl
-    by false true is = absurd (none-some _ is)
-    by false false is = absurd (other (sym (same_Some _ _ is)))
+    by true whole told is = refl
+    by false true told is = absurd (none-some _ is)
+    by false false true is = absurd (none-some _ is)
+    by false false false is = absurd (other (sym (same_Some _ _ is)))
 
 -- the mode where no files are named
 abbrev IsUnnamed : Result Mode ModeFault → Manner → Type 0

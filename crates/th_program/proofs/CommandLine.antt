@@ -14,7 +14,7 @@ use Rattle.clap.specs.declared.error.kind.ErrorKind.TheVariants as kind
 use Rattle.clap.proofs.OnLiterals.{clap_on_literals}
 use Rattle.th_program.specs.declared.modes.Mode.{Mode}
 use Rattle.th_program.specs.declared.modes.ModeFault.{ModeFault}
-use Rattle.th_program.specs.Words.{AreServe, AsksRightly, IsMode, arguments_by, arguments_of, asked_by, asked_of, command_line, files_of, is_joined, is_whole, list_of}
+use Rattle.th_program.specs.Words.{AreServe, AsksRightly, IsMode, arguments_by, arguments_of, asked_by, asked_of, command_line, files_of, has_anchors, is_joined, is_whole, list_of}
 
 pub is_plain : is_simple_and_free command_line ≡ true
 is_plain = refl
@@ -43,6 +43,10 @@ not_joined name = refl
 pub not_whole : (name : List ℕ) → is_whole (arguments_by (name ∷ codes "check" ∷ [])) ≡ false
 unfolding clap_on_literals
 not_whole name = refl
+
+pub not_anchored : (name : List ℕ) → has_anchors (arguments_by (name ∷ codes "check" ∷ [])) ≡ false
+unfolding clap_on_literals
+not_anchored name = refl
 
 -- the command that such words name
 pub is_simple_line : is_simple command_line ≡ true

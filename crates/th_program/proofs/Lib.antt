@@ -7,7 +7,8 @@ mod Checking
 mod Telling
 mod Placing
 mod GoingOn
-mod NamedFiles
 mod Showing
 mod Listing
 mod PartNames
+mod SumLemmas
+mod Anchoring

@@ -33,7 +33,7 @@ unfolding names_in
 names_mark mark b later is =
     ap (λ (t : Bool). if t then [] ∷ names_in mark later else with_byte b (names_in mark later)) (eq-eqb b mark is)
 
-names_none : (mark : ℕ) → names_in mark [] ≡ []
+pub names_none : (mark : ℕ) → names_in mark [] ≡ []
 unfolding names_in
 names_none mark = refl
 

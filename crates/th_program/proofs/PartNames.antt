@@ -8,7 +8,7 @@ use Rattle.std.proofs.lemmas.Slice.Eq.{bytes_eq-Decides}
 use Rattle.std.proofs.lemmas.Str.Parse.{IsNumeralModel, digit_from_value, numerals_by_value, parse_digits, tells_digits}
 use Rattle.std.specs.List.{suffix_len}
 use Rattle.std.specs.Str.Parse.{AllDigits, ParsesUnsigned, digits_value}
-use Rattle.std.specs.Prelude.{◌&&◌, codes, nat_lt, nat_le, not}
+use Rattle.std.specs.Prelude.{◌&&◌, ◌==◌, codes, nat_lt, nat_le, not}
 use Rattle.std.specs.Str.{IsAscii, bytes_eq}
 use Rattle.std.specs.List.{list_all}
 use Rattle.std.proofs.lemmas.Str.Ascii.{IsAscii-cons, IsAscii-nil, IsAscii-push}
@@ -78,28 +78,41 @@ named_by t d e {a} {b} {c} {x} {y} none topic dot digits end =
     ∙ ap (λ (l : List ℕ). l ++ 46 ∷ []) (topic ∙ ap (λ (l : List ℕ). l ++ t) none)))
     ∙ append_assoc (t ++ 46 ∷ []) d e ∙ append_assoc t (46 ∷ []) (d ++ e)
 
+-- what stands behind the last such byte of bytes that have it at this place and nowhere behind it, and of those that do not have it
+abbrev pub is_other : ℕ → ℕ → Bool
+is_other mark b = not (b == mark)
+
+pub last_mark : (mark : ℕ) (bs : List ℕ) (i : ℕ) → i < length bs → get_or bs i 0 ≡ mark
+    → ((k : ℕ) → i + 1 ≤ k → k < length bs → get_or bs k 0 ≢ mark)
+    → i + 1 ≡ length bs - suffix_len (is_other mark) bs
+last_mark mark bs i low is later =
+    let passes : (k : ℕ) → i + 1 ≤ k → k < length bs → is_other mark (get_or bs k 0) ≡ true =
+    λ k up down. ap not (ne_eqb (get_or bs k 0) mark (later k up down)) in
+    let fails : 0 < i + 1 → is_other mark (get_or bs (i + 1 - 1) 0) ≡ false =
+    λ some. let same : i + 1 - 1 ≡ i = omega arith in
+    ap (λ (j : ℕ). is_other mark (get_or bs j 0)) same ∙ ap not (eq-eqb (get_or bs i 0) mark is) in
+    let count = suffix_len_is (is_other mark) bs (i + 1) 0 (omega (arith, low)) passes fails in
+    omega (arith, count, low)
+
+abbrev pub IsOther : ℕ → ℕ → Type 0
+IsOther mark b = b ≢ mark
+
+pub no_mark : (mark : ℕ) (bs : List ℕ) → All (IsOther mark) bs → suffix_len (is_other mark) bs ≡ length bs
+no_mark mark bs none =
+    let passes : (k : ℕ) → 0 ≤ k → k < length bs → is_other mark (get_or bs k 0) ≡ true =
+    λ k up down. ap not (ne_eqb (get_or bs k 0) mark (All-get_or (IsOther mark) bs k 0 down none)) in
+    let count = suffix_len_is (is_other mark) bs 0 0 (omega arith) passes (λ some. absurd (omega (arith, some))) in
+    omega (arith, count)
+
 -- the file's name of a path with a slash at this place and none behind it, and of one with none at all
 pub file_at : (path : List ℕ) (i : ℕ) → i < length path → get_or path i 0 ≡ 47
     → ((k : ℕ) → i + 1 ≤ k → k < length path → get_or path k 0 ≢ 47)
     → take (length path - (i + 1)) (drop (i + 1) path) ≡ file_of path
-file_at path i low is later =
-    let passes : (k : ℕ) → i + 1 ≤ k → k < length path → is_no_slash (get_or path k 0) ≡ true =
-    λ k up down. ap not (ne_eqb (get_or path k 0) 47 (later k up down)) in
-    let fails : 0 < i + 1 → is_no_slash (get_or path (i + 1 - 1) 0) ≡ false =
-    λ some. let same : i + 1 - 1 ≡ i = omega arith in
-    ap (λ (j : ℕ). is_no_slash (get_or path j 0)) same ∙ ap not (eq-eqb (get_or path i 0) 47 is) in
-    let count = suffix_len_is is_no_slash path (i + 1) 0 (omega (arith, low)) passes fails in
-    let at : i + 1 ≡ length path - suffix_len is_no_slash path = omega (arith, count, low) in
-    take_rest path (i + 1) ∙ ap (λ (k : ℕ). drop k path) at
+file_at path i low is later = take_rest path (i + 1) ∙ ap (λ (k : ℕ). drop k path) (last_mark 47 path i low is later)
 
-abbrev pub IsNoSlash : ℕ → Type 0
-IsNoSlash b = b ≢ 47
-
-pub file_alone : (path : List ℕ) → All IsNoSlash path → path ≡ file_of path
+pub file_alone : (path : List ℕ) → All (IsOther 47) path → path ≡ file_of path
 file_alone path none =
-    let passes : (k : ℕ) → 0 ≤ k → k < length path → is_no_slash (get_or path k 0) ≡ true =
-    λ k up down. ap not (ne_eqb (get_or path k 0) 47 (All-get_or IsNoSlash path k 0 down none)) in
-    let count = suffix_len_is is_no_slash path 0 0 (omega arith) passes (λ some. absurd (omega (arith, some))) in
+    let count : suffix_len is_no_slash path ≡ length path = no_mark 47 path none in
     let all : 0 ≡ length path - suffix_len is_no_slash path = omega (arith, count) in
     ap (λ (k : ℕ). drop k path) all
 

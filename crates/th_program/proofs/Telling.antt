@@ -15,10 +15,9 @@ use Rattle.th_check.specs.declared.verdict.Verdict.TheVariants as verdict
 use Rattle.th_program.specs.declared.end.End.{End}
 use Rattle.th_program.specs.declared.part_names.Misplaced.{Misplaced}
 use Rattle.th_program.specs.declared.part_names.Place.{Place}
-use Rattle.th_program.specs.Files.{AreOneHistory, EachIsTold, EndsEach, EndsFolder, EndsJoined, IsBrokenBy, Breaks, IsFile, IsMisplaced, IsNext, IsOutcome, IsTextOf, IsToldBy, Outcome, PartFile, TellsBroken, TellsHistory, Told, broken_line, end_by, end_of, end_with, entries_in, entries_of, fault_line, file_line, history_line, lines_by, place_of, worse, worst}
+use Rattle.th_program.specs.Files.{AreOneHistory, EachIsTold, EndsEach, EndsFolder, EndsJoined, IsBrokenBy, Breaks, IsFile, IsLack, IsMisplaced, IsNext, IsOutcome, IsTextOf, IsToldBy, Outcome, PartFile, TellsBroken, TellsHistory, Told, Wants, broken_line, end_by, end_of, end_with, entries_in, entries_of, fault_line, file_line, history_line, lines_by, place_of, worse, worst}
 use Rattle.th_program.specs.PartNames.{GoesOn}
 use Rattle.th_program.specs.Run.{Errors, IsSaid}
-use Rattle.th_program.specs.Whole.{lack_if}
 use Rattle.th_program.specs.declared.whole.Lack.{Lack}
 use Rattle.th_program.proofs.Hearing.{said_more}
 use Rattle.th_program.proofs.Placing.{place_apart, place_more}
@@ -151,7 +150,7 @@ unless_write P End.Apart p q = q (λ e. absurd (subst IsWrite (sym e) tt))
 unless_write P End.Partial p q = q (λ e. absurd (subst IsWrite (sym e) tt))
 
 -- how a history ends that a file breaks
-module _ (holds : List ℕ → Option (List ℕ)) (is_whole : Bool) (names earlier later : List (List ℕ)) (name : List ℕ)
+module _ (holds : List ℕ → Option (List ℕ)) (wants : Wants) (names earlier later : List (List ℕ)) (name : List ℕ)
     (parts : names ≡ earlier ++ name ∷ later) (count : ℕ) (mid there : Option Reach) (place : Option Place)
     (up : UpTo holds earlier count mid place) (before after : Option (List ℕ)) where
   breaks : (said : Joined) → Breaks (holds name) up.history.files name mid said → Appends before after (broken_line name said)
@@ -174,7 +173,7 @@ module _ (holds : List ℕ → Option (List ℕ)) (is_whole : Bool) (names earli
 
   by_said : (said : Result Joined CheckFault) → IfOk said (λ s. IsNext (holds name) mid s there)
       → ((n : ℕ) → said ≡ Ok (Judged (verdict.Legal n)) → ⊥) → IsToldBy name said before after
-      → EndsJoined holds is_whole names before after (end_by said)
+      → EndsJoined holds wants names before after (end_by said)
   by_said (Ok (Judged (verdict.Legal n))) next never told = absurd (never n refl)
   by_said (Ok (Judged (verdict.Illegal n))) next never told =
       (n, breaks (Judged (verdict.Illegal n)) (as_it_was (Judged (verdict.Illegal n)) (next.1.so [] (λ e. refl)).1 next) told)
@@ -187,15 +186,15 @@ module _ (holds : List ℕ → Option (List ℕ)) (is_whole : Bool) (names earli
 
   pub ends_broken : (said : Result Joined CheckFault) → IfOk said (λ s. IsNext (holds name) mid s there)
       → ((n : ℕ) → said ≡ Ok (Judged (verdict.Legal n)) → ⊥) → (ends : End) → TellsBroken name said before after ends
-      → EndsJoined holds is_whole names before after ends
-  ends_broken said next never ends tells = unless_write (λ (e : End). EndsJoined holds is_whole names before after e) ends tt
+      → EndsJoined holds wants names before after ends
+  ends_broken said next never ends tells = unless_write (λ (e : End). EndsJoined holds wants names before after e) ends tt
       (λ no. let t = tells no in
-      subst (λ (e : End). EndsJoined holds is_whole names before after e) (sym t.0) (by_said said next never t.1))
+      subst (λ (e : End). EndsJoined holds wants names before after e) (sym t.0) (by_said said next never t.1))
 
   pub ends_misplaced : (m : ℕ) (e : Misplaced) → IsNext (holds name) mid (Judged (verdict.Legal m)) there
       → GoesOn place count (count + m) name (Err e)
-      → (ends : End) → TellsBroken name (Ok Apart) before after ends → EndsJoined holds is_whole names before after ends
-  ends_misplaced m e next goes ends tells = unless_write (λ (e : End). EndsJoined holds is_whole names before after e) ends tt
+      → (ends : End) → TellsBroken name (Ok Apart) before after ends → EndsJoined holds wants names before after ends
+  ends_misplaced m e next goes ends tells = unless_write (λ (e : End). EndsJoined holds wants names before after e) ends tt
       (λ no. let t = tells no in
       let file : PartFile = record { name = name; lines = []; entries = m } in
       let misplaced : IsMisplaced (holds name) up.history.files name mid = record {
@@ -204,22 +203,22 @@ module _ (holds : List ℕ → Option (List ℕ)) (is_whole : Bool) (names earli
         next = next;
         apart = place_apart up.history.files file count up.counted place e up.history.placed goes;
       } in
-      subst (λ (e : End). EndsJoined holds is_whole names before after e) (sym t.0) (breaks Apart (inr misplaced) t.1))
+      subst (λ (e : End). EndsJoined holds wants names before after e) (sym t.0) (breaks Apart (inr misplaced) t.1))
 
 -- how a history ends that no file breaks
-module _ (holds : List ℕ → Option (List ℕ)) (is_whole : Bool) (names : List (List ℕ)) (count : ℕ) (there : Option Reach)
+module _ (holds : List ℕ → Option (List ℕ)) (wants : Wants) (names : List (List ℕ)) (count : ℕ) (there : Option Reach)
     (place : Option (List ℕ × ℕ)) (are : AreOneHistory holds names count there place) (before after : Option (List ℕ)) where
-  by_lack : (lack : Option Lack) → lack ≡ lack_if is_whole there place → Appends before after (history_line names count place lack)
-      → EndsJoined holds is_whole names before after (end_with lack)
+  by_lack : (lack : Option Lack) → IsLack holds wants names there place lack → Appends before after (history_line names count place lack)
+      → EndsJoined holds wants names before after (end_with lack)
   by_lack None e told = record { count = count; there = there; place = place; are = are; lacks = e; told = told }
   by_lack (Some lack) e told =
       (lack, record { count = count; there = there; place = place; are = are; lacks = e; told = told })
 
-  pub ends_told : (lack : Option Lack) → lack ≡ lack_if is_whole there place → (ends : End)
-      → TellsHistory names count place lack before after ends → EndsJoined holds is_whole names before after ends
-  ends_told lack e ends tells = unless_write (λ (e : End). EndsJoined holds is_whole names before after e) ends tt
+  pub ends_told : (lack : Option Lack) → IsLack holds wants names there place lack → (ends : End)
+      → TellsHistory names count place lack before after ends → EndsJoined holds wants names before after ends
+  ends_told lack e ends tells = unless_write (λ (e : End). EndsJoined holds wants names before after e) ends tt
       (λ no. let t = tells no in
-      subst (λ (e : End). EndsJoined holds is_whole names before after e) (sym t.0) (by_lack lack e t.1))
+      subst (λ (e : End). EndsJoined holds wants names before after e) (sym t.0) (by_lack lack e t.1))
 
 -- before the first file
 pub nothing_told : (holds : List ℕ → Option (List ℕ)) (before : Option (List ℕ)) (people : Bool) (a : Errors) →
@@ -244,24 +243,24 @@ no_history holds = record {
 }
 
 -- histories that are checked one after the other
-each_history : (holds : List ℕ → Option (List ℕ)) (is_whole : Bool) (all : List (List (List ℕ))) (names : List (List ℕ)) (begun so_far said : End)
-    (before mid after : Option (List ℕ)) → EndsEach holds is_whole all begun before mid so_far → EndsJoined holds is_whole names mid after said
-    → EndsEach holds is_whole (all ++ names ∷ []) begun before after (worse so_far said)
-each_history holds is_whole [] names begun so_far said before mid after each one = (
+each_history : (holds : List ℕ → Option (List ℕ)) (wants : Wants) (all : List (List (List ℕ))) (names : List (List ℕ)) (begun so_far said : End)
+    (before mid after : Option (List ℕ)) → EndsEach holds wants all begun before mid so_far → EndsJoined holds wants names mid after said
+    → EndsEach holds wants (all ++ names ∷ []) begun before after (worse so_far said)
+each_history holds wants [] names begun so_far said before mid after each one = (
   after,
   said,
-  subst (λ (o : Option (List ℕ)). EndsJoined holds is_whole names o after said) each.0 one,
+  subst (λ (o : Option (List ℕ)). EndsJoined holds wants names o after said) each.0 one,
   (refl, ap (λ (e : End). worse e said) each.1),
 )
-each_history holds is_whole (first ∷ later) names begun so_far said before mid after (now, told, joined, rest) one =
-    (now, told, joined, each_history holds is_whole later names (worse begun told) so_far said now mid after rest one)
+each_history holds wants (first ∷ later) names begun so_far said before mid after (now, told, joined, rest) one =
+    (now, told, joined, each_history holds wants later names (worse begun told) so_far said now mid after rest one)
 
-pub folder_begins : (holds : List ℕ → Option (List ℕ)) (is_whole : Bool) (before : Option (List ℕ)) → EndsFolder holds is_whole before before End.Done
-folder_begins holds is_whole before = record { topics = []; each = (refl, refl) }
+pub folder_begins : (holds : List ℕ → Option (List ℕ)) (wants : Wants) (before : Option (List ℕ)) → EndsFolder holds wants before before End.Done
+folder_begins holds wants before = record { topics = []; each = (refl, refl) }
 
-pub folder_more : (holds : List ℕ → Option (List ℕ)) (is_whole : Bool) (names : List (List ℕ)) (so_far said : End) (before mid after : Option (List ℕ))
-    → EndsFolder holds is_whole before mid so_far → EndsJoined holds is_whole names mid after said → EndsFolder holds is_whole before after (worse so_far said)
-folder_more holds is_whole names so_far said before mid after folder one = record {
+pub folder_more : (holds : List ℕ → Option (List ℕ)) (wants : Wants) (names : List (List ℕ)) (so_far said : End) (before mid after : Option (List ℕ))
+    → EndsFolder holds wants before mid so_far → EndsJoined holds wants names mid after said → EndsFolder holds wants before after (worse so_far said)
+folder_more holds wants names so_far said before mid after folder one = record {
   topics = folder.topics ++ names ∷ [];
-  each = each_history holds is_whole folder.topics names End.Done so_far said before mid after folder.each one;
+  each = each_history holds wants folder.topics names End.Done so_far said before mid after folder.each one;
 }

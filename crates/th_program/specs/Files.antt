@@ -1,5 +1,5 @@
 -- What a run does that checks files.
-use Rattle.std.specs.Prelude.{◌≡◌, ◌≢◌, ◌⊎◌, ◌==◌, ◌+◌, ◌≤◌, ℕ, zero, suc, Bool, false, true, IfSome, IsSome, List, [], ◌∷◌, ◌++◌, map, codes, Option, Some, None, Result, Ok, Err, if◌then◌else◌}
+use Rattle.std.specs.Prelude.{◌≡◌, ◌≢◌, ◌⊎◌, ◌==◌, ◌+◌, ◌≤◌, ℕ, zero, suc, Bool, false, true, IfSome, IsSome, List, [], ◌∷◌, ◌++◌, map, string_bytes, codes, Option, Some, None, Result, Ok, Err, if◌then◌else◌}
 use Rattle.std.specs.Fmt.{decimal}
 use Rattle.std.specs.Io.KnownBytes.{Appends, Consumes, IsAtEnd}
 use Rattle.std.specs.List.{AllByRecursion}
@@ -22,11 +22,15 @@ use Rattle.th_program.specs.Run.{Errors, IsSaid, verdict_line}
 use Rattle.th_program.specs.Shown.{shown}
 use Rattle.th_program.specs.Status.{status_of}
 use Rattle.th_program.specs.Listed.{held_by, listed}
-use Rattle.th_program.specs.Words.{HasFiles, arguments_by, asked_by, command_line, files_of, list_of, manner_of}
+use Rattle.th_program.specs.Words.{AreSources, HasFiles, anchors_of, arguments_by, asked_by, command_line, files_of, list_of, manner_of}
 use Rattle.th_program.specs.Whole.{lack_if, lack_line}
+use Rattle.th_program.specs.Anchors.{AnchorLine, LackBy, anchors_in, told_if}
 use Rattle.th_program.specs.declared.modes.Asked.{Asked}
 use Rattle.th_program.specs.declared.modes.Manner.{Manner}
 use Rattle.th_program.specs.declared.modes.Manner.TheVariants as manner
+use Rattle.th_program.specs.declared.modes.Sources.{Sources}
+use Rattle.th_program.specs.declared.modes.Sources.TheVariants as sources
+use Rattle.th_program.specs.declared.modes.Wanted.{Wanted}
 use Rattle.th_program.specs.declared.whole.Lack.{Lack}
 
 -- what came of a file: the verdict on it, or why there is none
@@ -211,35 +215,54 @@ pub record IsBrokenBy (holds : List ℕ → Option (List ℕ)) (names : List (Li
   pub breaks : Breaks (holds name) so_far.files name there said
   pub told : Appends before after (broken_line name said)
 
--- These files are one history, which lacks this of a whole one where it is to be whole, and else nothing. The line is told.
-pub record IsHistoryTold (holds : List ℕ → Option (List ℕ)) (is_whole : Bool)
+-- what is wanted of a history: whether it is to be whole, and what its files are to be, if that was told
+pub record Wants : Type 0 where
+  pub is_whole : Bool
+  pub anchors : Option (List AnchorLine)
+
+abbrev pub wanted_of : Wanted → Wants
+wanted_of wanted = record { is_whole = wanted.whole; anchors = told_if wanted.anchors }
+
+-- what is lacking is the first of two things, if it is anything, else the other
+abbrev pub IsFirst : Option Lack → (Option Lack → Type 0) → Option Lack → Type 0
+IsFirst (Some lack) other found = found ≡ Some lack
+IsFirst None other found = other found
+
+-- what a history of these files, which has come there and stands at this place, lacks of what is wanted
+abbrev pub IsLack : (List ℕ → Option (List ℕ)) → Wants → List (List ℕ) → Option Reach
+    → Option (List ℕ × ℕ) → Option Lack → Type 0
+IsLack holds wants names there place =
+    IsFirst (lack_if wants.is_whole there place) (LackBy holds wants.anchors names)
+
+-- These files are one history, which lacks this of what is wanted of it. The line is told.
+pub record IsHistoryTold (holds : List ℕ → Option (List ℕ)) (wants : Wants)
     (names : List (List ℕ)) (lack : Option Lack) (line : ℕ → Option (List ℕ × ℕ) → List ℕ)
     (before after : Option (List ℕ)) : Type 0 where
   pub count : ℕ
   pub there : Option Reach
   pub place : Option (List ℕ × ℕ)
   pub are : AreOneHistory holds names count there place
-  pub lacks : lack ≡ lack_if is_whole there place
+  pub lacks : IsLack holds wants names there place lack
   pub told : Appends before after (line count place)
 
--- how a run ends that checks files as one history, which is to be whole or not
-abbrev pub EndsJoined : (List ℕ → Option (List ℕ)) → Bool → List (List ℕ)
+-- how a run ends that checks files as one history, of which this is wanted
+abbrev pub EndsJoined : (List ℕ → Option (List ℕ)) → Wants → List (List ℕ)
     → (before after : Option (List ℕ)) → End → Type 0
-EndsJoined holds is_whole names before after end.Done =
-    IsHistoryTold holds is_whole names None joined_line before after
-EndsJoined holds is_whole names before after end.Partial = (lack : Lack)
-    × IsHistoryTold holds is_whole names (Some lack) (λ count place. lack_line lack names)
+EndsJoined holds wants names before after end.Done =
+    IsHistoryTold holds wants names None joined_line before after
+EndsJoined holds wants names before after end.Partial = (lack : Lack)
+    × IsHistoryTold holds wants names (Some lack) (λ count place. lack_line lack names)
     before after
-EndsJoined holds is_whole names before after end.Illegal =
+EndsJoined holds wants names before after end.Illegal =
     (number : ℕ) × IsBrokenBy holds names (Judged (verdict.Illegal number)) before after
-EndsJoined holds is_whole names before after end.Bad =
+EndsJoined holds wants names before after end.Bad =
     (number : ℕ) × IsBrokenBy holds names (Judged (verdict.BadTrace number)) before after
-EndsJoined holds is_whole names before after end.Apart = IsBrokenBy holds names Apart before after
-EndsJoined holds is_whole names before after end.Read = after ≡ before
-EndsJoined holds is_whole names before after end.TooLong = after ≡ before
-EndsJoined holds is_whole names before after end.Short = after ≡ before
-EndsJoined holds is_whole names before after end.Write = Unit {0}
-EndsJoined holds is_whole names before after so = ⊥
+EndsJoined holds wants names before after end.Apart = IsBrokenBy holds names Apart before after
+EndsJoined holds wants names before after end.Read = after ≡ before
+EndsJoined holds wants names before after end.TooLong = after ≡ before
+EndsJoined holds wants names before after end.Short = after ≡ before
+EndsJoined holds wants names before after end.Write = Unit {0}
+EndsJoined holds wants names before after so = ⊥
 
 -- the line of a history that lacks this, and how a run ends by it
 abbrev pub history_line : List (List ℕ) → ℕ → Option (List ℕ × ℕ) → Option Lack → List ℕ
@@ -274,18 +297,18 @@ TellsBroken name said before after ends =
     ends ≢ end.Write → (ends ≡ end_by said) × IsToldBy name said before after
 
 -- each of these lists of files is one history, or is told not to be; the run ends by the worst of it
-abbrev pub EndsEach : (List ℕ → Option (List ℕ)) → Bool → List (List (List ℕ)) → (so_far : End)
+abbrev pub EndsEach : (List ℕ → Option (List ℕ)) → Wants → List (List (List ℕ)) → (so_far : End)
     → (before after : Option (List ℕ)) → End → Type 0
-EndsEach holds is_whole [] so_far before after ends = (after ≡ before) × (ends ≡ so_far)
-EndsEach holds is_whole (names ∷ later) so_far before after ends =
-    (mid : Option (List ℕ)) × (said : End) × EndsJoined holds is_whole names before mid said
-    × EndsEach holds is_whole later (worse so_far said) mid after ends
+EndsEach holds wants [] so_far before after ends = (after ≡ before) × (ends ≡ so_far)
+EndsEach holds wants (names ∷ later) so_far before after ends =
+    (mid : Option (List ℕ)) × (said : End) × EndsJoined holds wants names before mid said
+    × EndsEach holds wants later (worse so_far said) mid after ends
 
 -- how a run ends that checks the files of each topic in a folder
-pub record EndsFolder (holds : List ℕ → Option (List ℕ)) (is_whole : Bool)
+pub record EndsFolder (holds : List ℕ → Option (List ℕ)) (wants : Wants)
     (before after : Option (List ℕ)) (ends : End) : Type 0 where
   pub topics : List (List (List ℕ))
-  pub each : EndsEach holds is_whole topics end.Done before after ends
+  pub each : EndsEach holds wants topics end.Done before after ends
 
 -- how a run ends that could not read a folder, or found none there
 abbrev pub EndsUnread : End → (before after : Option (List ℕ)) → Type 0
@@ -295,13 +318,13 @@ EndsUnread end.Usage before after = after ≡ before
 EndsUnread so before after = ⊥
 
 -- how a run ends that checks histories: one of these files, or of a folder that stands alone one of each topic
-abbrev pub EndsHistories : (List ℕ → Option (List ℕ)) → Bool → List (List ℕ)
+abbrev pub EndsHistories : (List ℕ → Option (List ℕ)) → Wants → List (List ℕ)
     → (before after : Option (List ℕ)) → End → Type 0
-EndsHistories holds is_whole names before after ends =
-    EndsJoined holds is_whole names before after ends
+EndsHistories holds wants names before after ends =
+    EndsJoined holds wants names before after ends
     ⊎ ((folder : List ℕ) × (names ≡ folder ∷ []) × (holds folder ≡ None)
     × (ends ≢ end.Write
-    → EndsFolder holds is_whole before after ends ⊎ EndsUnread ends before after))
+    → EndsFolder holds wants before after ends ⊎ EndsUnread ends before after))
 
 -- the words ask rightly to check files
 pub record AreFiles (words : List (List ℕ)) : Type 0 where
@@ -310,15 +333,15 @@ pub record AreFiles (words : List (List ℕ)) : Type 0 where
   pub files : HasFiles (arguments_by words)
   pub named : IsSome (files_of (arguments_by words)) ⊎ IsSome (list_of (arguments_by words))
 
--- how a run ends that checks these files so
-abbrev pub EndsNamed : (List ℕ → Option (List ℕ)) → Manner → List (List ℕ)
-    → (before after : Option (List ℕ)) → Bool → Errors → Errors → End → Type 0
-EndsNamed holds manner.Each names before after people errors errors' ends =
+-- how a run ends that checks these files so, of which anchors tell if any are given
+abbrev pub EndsNamed : (List ℕ → Option (List ℕ)) → Manner → Option (List AnchorLine)
+    → List (List ℕ) → (before after : Option (List ℕ)) → Bool → Errors → Errors → End → Type 0
+EndsNamed holds manner.Each told names before after people errors errors' ends =
     ends ≢ end.Write → EachIsTold holds names before after people errors errors' ends
-EndsNamed holds manner.Joined names before after people errors errors' ends =
-    EndsHistories holds false names before after ends
-EndsNamed holds manner.Whole names before after people errors errors' ends =
-    EndsHistories holds true names before after ends
+EndsNamed holds manner.Joined told names before after people errors errors' ends =
+    EndsHistories holds (record { is_whole = false; anchors = told }) names before after ends
+EndsNamed holds manner.Whole told names before after people errors errors' ends =
+    EndsHistories holds (record { is_whole = true; anchors = told }) names before after ends
 
 -- how a run ends whose list of files is not read, or names none
 abbrev pub EndsUnlisted : End → Type 0
@@ -329,29 +352,53 @@ EndsUnlisted end.Usage = Unit {0}
 EndsUnlisted so = ⊥
 
 -- how a run ends that checks the files that a list names, of which this is known
-abbrev pub EndsListed : (List ℕ → Option (List ℕ)) → Manner → Option (List ℕ)
-    → (before after : Option (List ℕ)) → Bool → Errors → Errors → End → Type 0
-EndsListed holds so list before after people errors errors' ends =
+abbrev pub EndsListed : (List ℕ → Option (List ℕ)) → Manner → Option (List AnchorLine)
+    → Option (List ℕ) → (before after : Option (List ℕ)) → Bool → Errors → Errors → End → Type 0
+EndsListed holds so told list before after people errors errors' ends =
     ((names : List (List ℕ)) × IfSome list (λ bytes. names ≡ listed bytes)
-    × EndsNamed holds so names before after people errors errors' ends)
+    × EndsNamed holds so told names before after people errors errors' ends)
     ⊎ (EndsUnlisted ends × (after ≡ before))
 
 -- the same of files that are named by words, or by a list
 abbrev pub EndsSources : (List ℕ → Option (List ℕ)) → (input : Option (List ℕ)) → Manner
-    → Option (List (List ℕ)) → Option (List ℕ)
+    → Option (List AnchorLine) → Sources
     → (before after : Option (List ℕ)) → Bool → Errors → Errors → End → Type 0
-EndsSources holds input so (Some names) list before after people errors errors' ends =
-    EndsNamed holds so names before after people errors errors' ends
-EndsSources holds input so None (Some list) before after people errors errors' ends =
-    EndsListed holds so (held_by holds input list) before after people errors errors' ends
-EndsSources holds input so None None before after people errors errors' ends = ⊥
+EndsSources holds input so told (sources.Words names) before after people errors errors' ends =
+    EndsNamed holds so told (map string_bytes names.items) before after people errors errors' ends
+EndsSources holds input so told (sources.List list) before after people errors errors' ends =
+    EndsListed holds so told (held_by holds input (string_bytes list)) before after people
+    errors errors' ends
+
+-- how a run ends whose anchors are not read
+abbrev pub EndsUntold : End → Type 0
+EndsUntold end.Read = Unit {0}
+EndsUntold end.TooLong = Unit {0}
+EndsUntold end.Short = Unit {0}
+EndsUntold so = ⊥
+
+-- how a run ends that checks files of which anchors tell, those in the file with this name
+abbrev pub EndsAnchored : (List ℕ → Option (List ℕ)) → (input : Option (List ℕ)) → Manner
+    → List ℕ → Sources
+    → (before after : Option (List ℕ)) → Bool → Errors → Errors → End → Type 0
+EndsAnchored holds input so name which before after people errors errors' ends =
+    ((told : List AnchorLine) × IfSome (holds name) (λ bytes. told ≡ anchors_in bytes)
+    × EndsSources holds input so (Some told) which before after people errors errors' ends)
+    ⊎ (EndsUntold ends × (after ≡ before))
+
+-- the same where such a file is named, if one is
+abbrev pub EndsBy : (List ℕ → Option (List ℕ)) → (input : Option (List ℕ)) → Manner
+    → Option (List ℕ) → Sources
+    → (before after : Option (List ℕ)) → Bool → Errors → Errors → End → Type 0
+EndsBy holds input so None which before after people errors errors' ends =
+    EndsSources holds input so None which before after people errors errors' ends
+EndsBy holds input so (Some name) which before after people errors errors' ends =
+    EndsAnchored holds input so name which before after people errors errors' ends
 
 -- It checks the files that these words name, or ends for want of memory with nothing on standard output.
 abbrev pub EndsFiles : (List ℕ → Option (List ℕ)) → (input : Option (List ℕ)) → List (List ℕ)
     → (before after : Option (List ℕ)) → Bool → Errors → Errors → End → Type 0
 EndsFiles holds input words before after people errors errors' ends =
     let rows = arguments_by words in
-    ((so : Manner) × (manner_of rows ≡ Some so)
-    × EndsSources holds input so (files_of rows) (list_of rows) before after people
-    errors errors' ends)
+    ((so : Manner) × (which : Sources) × (manner_of rows ≡ Some so) × AreSources rows which
+    × EndsBy holds input so (anchors_of rows) which before after people errors errors' ends)
     ⊎ ((ends ≡ end.Short) × (after ≡ before))

@@ -6,4 +6,6 @@ pub mod Listed
 pub mod PartNames
 pub mod Files
 pub mod Whole
+pub mod Sums
+pub mod Anchors
 pub mod Advice

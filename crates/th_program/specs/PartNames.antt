@@ -1,4 +1,4 @@
--- Names of files that are parts of a topic's history (docs/FORMATS.md, "A server that stands").
+-- Names of files that are parts of a topic's history (docs/SERVER.md, "Traces on disk").
 use Rattle.std.specs.Prelude.{◌≡◌, ◌<◌, ◌≤◌, ◌+◌, ◌-◌, ◌/◌, ◌%◌, ◌^◌, ◌==◌, ℕ, zero, suc, Bool, List, [], ◌∷◌, ◌++◌, codes, drop, length, not, Option, Some, None, IfSome, Result, Ok, Err}
 use Rattle.std.specs.List.{suffix_len}
 use Rattle.std.specs.Str.Parse.{AllDigits, digits_value}

@@ -145,9 +145,14 @@ serve_line =
     (with_rule (new_app (codes "serve")) (record (new_rule (codes "PATH")) { required = true }))
     (option_of (codes "sessions")))))
 
--- the words of a history: whether files are one, and whether it is to be whole
+-- the words of a history: whether files are one, whether it is to be whole, and which file has the anchors of its files
 abbrev pub with_history : App → App
-with_history app = with_rule (with_rule app (flag_of (codes "joined"))) (flag_of (codes "whole"))
+with_history app =
+    with_rule
+    (with_rule
+    (with_rule app (flag_of (codes "joined")))
+    (flag_of (codes "whole")))
+    (option_of (codes "anchors"))
 
 -- `check` and its words: files, what is asked of them as a history, and a list of files
 abbrev pub check_line : App
@@ -300,20 +305,28 @@ is_joined rows = is_given (codes "joined") rows
 abbrev pub is_whole : List Row → Bool
 is_whole rows = is_given (codes "whole") rows
 
--- as what they are checked; files that are no history cannot be a whole one
+-- the file with anchors, of which its files are to be
+abbrev pub anchors_of : List Row → Option (List ℕ)
+anchors_of rows = first_of (codes "anchors") rows
+
+abbrev pub has_anchors : List Row → Bool
+has_anchors rows = has (codes "anchors") rows
+
+-- as what they are checked; files that are no history cannot be a whole one, or those of anchors
 abbrev pub manner_of : List Row → Option Manner
 manner_of rows =
     if is_joined rows then Some (if is_whole rows then manner.Whole else manner.Joined)
-    else if is_whole rows then None
+    else if is_whole rows || has_anchors rows then None
     else Some manner.Each
 
 -- the list that names them instead
 abbrev pub list_of : List Row → Option (List ℕ)
 list_of rows = first_of (codes "files-from") rows
 
--- a history has a file at least, what is whole is a history, and files are named by words or by a list
+-- a history has a file at least, what is whole or has anchors is a history, and files are named by words or by a list
 pub record HasFiles (rows : List Row) : Type 0 where
   pub whole : is_whole rows ≡ true → is_joined rows ≡ true
+  pub anchored : has_anchors rows ≡ true → is_joined rows ≡ true
   pub some : is_joined rows ≡ true → IsSome (files_of rows) ⊎ IsSome (list_of rows)
   pub one : IsSome (files_of rows) → list_of rows ≡ None
 
@@ -324,20 +337,21 @@ AreSources rows (Words names) =
 AreSources rows (sources.List list) =
     (files_of rows ≡ None) × (list_of rows ≡ Some (string_bytes list))
 
--- the files are those of this list, and are checked so
-abbrev pub IsList : Mode → List ℕ → Manner → Type 0
-IsList (CheckFiles (sources.List list) manner) name so =
-    (string_bytes list ≡ name) × (manner ≡ so)
-IsList mode name so = ⊥
+-- the files are those of this list, and are checked so, with the anchors of that file
+abbrev pub IsList : Mode → List ℕ → Manner → Option (List ℕ) → Type 0
+IsList (CheckFiles (sources.List list) manner anchors) name so file =
+    (string_bytes list ≡ name) × (manner ≡ so) × (option_map string_bytes anchors ≡ file)
+IsList mode name so file = ⊥
 
 -- the mode that was asked for; one that checks files has those that the words name, and one that serves has what they say
 abbrev pub IsMode : Asked → List Row → Mode → Type 0
 IsMode asked rows Replay = asked ≡ Asked.Replay
 IsMode asked rows Check = (asked ≡ Asked.Check)
     × (files_of rows ≡ None) × (list_of rows ≡ None) × (manner_of rows ≡ Some manner.Each)
-IsMode asked rows (CheckFiles files manner) = (asked ≡ Asked.Check)
+IsMode asked rows (CheckFiles files manner anchors) = (asked ≡ Asked.Check)
     × AreSources rows files
     × (manner_of rows ≡ Some manner)
+    × (option_map string_bytes anchors ≡ anchors_of rows)
 IsMode asked rows (Serve path serving) = (asked ≡ Asked.Serve)
     × (string_bytes path ≡ text_of (codes "PATH") rows)
     × ServesBy rows serving

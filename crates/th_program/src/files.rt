@@ -1,18 +1,20 @@
 //! Traces in files, checked.
 ghost use Rattle.std.specs.Prelude.{◌≡◌, ◌≢◌, ◌+◌, ◌≤◌, ◌^◌, Option, None, List, ℕ, IfOk, IfSome, IsSome, OnErr, Ok, Err, map, string_bytes, true};
 ghost use Rattle.std.specs.Io.KnownBytes.{Appends};
-ghost use Rattle.th_program.specs.Files.{AreFiles, EachIsTold, EndsFiles, EndsHistories, EndsJoined, EndsListed, EndsNamed, EndsUnlisted, IsNext, IsOutcome, TellsBroken, TellsHistory, broken_line, end_of, entries_of, fault_line, fault_word, file_line, joined_line, place_of, place_told, worse};
+ghost use Rattle.th_program.specs.Anchors.{told_if};
+ghost use Rattle.th_program.specs.Files.{AreFiles, EachIsTold, EndsAnchored, EndsFiles, EndsHistories, EndsJoined, EndsListed, EndsNamed, EndsSources, EndsUnlisted, IsNext, IsOutcome, TellsBroken, TellsHistory, broken_line, end_of, entries_of, fault_line, fault_word, file_line, joined_line, place_of, place_told, wanted_of, worse};
 ghost use Rattle.th_program.specs.Listed.{held_by};
 ghost use Rattle.th_program.specs.Run.{IsSaid, errors_of};
 
+use crate::anchors::{Anchor, anchors_in};
 use crate::end::{End, status};
 use crate::folders::check_folder;
-use crate::listed::{ListFault, listed};
-use crate::modes::{Manner, Mode, ModeFault, Sources};
+use crate::listed::{ListFault, listed, text_in};
+use crate::modes::{Manner, Mode, ModeFault, Sources, Wanted};
 use crate::part_names::{Place, placed};
 use crate::program::{explain, run_short, say, write_number, write_text, write_verdict};
 use crate::shown::{say_shown, write_shown};
-use crate::whole::{Lack, lack_if, write_lack};
+use crate::whole::{Lack, lack_in, name_at, write_lack};
 use crate::words::mode;
 use std::alloc::Global;
 use std::fs::File;
@@ -53,6 +55,7 @@ impl Opens for HostRuntime {
     type File = File;
 
     fn open(&self, name: &str) -> io::Result<File> {
+        let name = if name == "-" { "/dev/stdin" } else { name };
         if !is_stream(name) && !fs::metadata(self, name)?.is_file() {
             return Err(ErrorKind::InvalidInput.into());
         }
@@ -60,7 +63,7 @@ impl Opens for HostRuntime {
     }
 
     fn list(&self, alloc: Global, name: &str) -> io::Result<Option<Vec<String>>> {
-        if is_stream(name) || !fs::metadata(self, name)?.is_dir() {
+        if name == "-" || is_stream(name) || !fs::metadata(self, name)?.is_dir() {
             return Ok(None);
         }
         let mut found = Vec::new(alloc);
@@ -342,7 +345,7 @@ fn write_joined<W: Write>(output: &mut Counted<W>, count: u64, place: Option<Pla
     write_text(output, b"\n")
 }
 
-// Tells of files with these names that are one history, at this place by their names, and which is to be whole or not:
+// Tells of files with these names that are one history, at this place by their names, and which lacks this, if anything:
 // the end of the run.
 fn tell_history<W: Write, E: Write>(
     output: &mut Counted<W>,
@@ -372,20 +375,21 @@ fn tell_history<W: Write, E: Write>(
 /// entries of the one before it lead. Files with names of parts of a topic's history are also to be parts of one topic, and
 /// the number in each name is to be that of the history's first event and the entries before the file. Where it is to be
 /// whole, it also begins with the picture of a channel that was just opened, and with event 1 where a name tells it, and
-/// ends with no live handle. `output` gets one line: how many entries they have, and, where a name tells it, from which event
-/// to which; or which file is the first that breaks the history, or in which a whole one lacks its beginning or its end. No
-/// file behind that is read. A file that there is no verdict on is told of in `errors`, and so is, to people at a terminal,
-/// what is wrong with a trace. More than 2^64 - 1 entries are too long.
+/// ends with no live handle. Where anchors are given, they tell of each file with its sum, and of no later one. `output` gets
+/// one line: how many entries they have, and, where a name tells it, from which event to which; or which file is the first
+/// that breaks the history, or in which it lacks what is wanted of it. No file behind one that breaks it is read. A file that
+/// there is no verdict on is told of in `errors`, and so is, to people at a terminal, what is wrong with a trace. More than
+/// 2^64 - 1 entries are too long.
 pub fn check_joined<O: Opens, W: Write, E: Write>(
     alloc: Global,
     files: &O,
     names: &[String],
-    whole: bool,
+    wanted: Wanted<'_>,
     output: &mut Counted<W>,
     errors: &mut Counted<E>,
     people: bool,
 ) -> End
-    ensures { EndsJoined (O.holds files.now) whole (map string_bytes names.now)
+    ensures { EndsJoined (O.holds files.now) (wanted_of wanted.entry) (map string_bytes names.now)
         (W.contents output.old.device) (W.contents output.new.device) result }
 {
     let mut history = Joining::new();
@@ -408,8 +412,13 @@ pub fn check_joined<O: Opens, W: Write, E: Write>(
         count = sum;
         place = next;
     }
-    let lack = lack_if(whole, &history, place);
-    tell_history(output, errors, names, count, place, lack)
+    match lack_in(files, names, wanted, &history, place) {
+        Ok(lack) => tell_history(output, errors, names, count, place, lack),
+        Err(file) => {
+            say_fault(errors, name_at(names, file.at), CheckFault::Read);
+            End::Read
+        }
+    }
 }
 
 // Says why a list names no files: the end of the run.
@@ -430,31 +439,32 @@ fn refuse_list<E: Write>(errors: &mut Counted<E>, list: &str, why: Option<ListFa
     End::Usage
 }
 
-// Checks the files of these names as one history, or, of a folder that stands alone, those of each topic.
+// Checks the files of these names as one history, of which this is wanted, or, of a folder that stands alone, those of each
+// topic.
 fn check_histories<O: Opens, W: Write, E: Write>(
     alloc: Global,
     files: &O,
     names: &[String],
-    whole: bool,
+    wanted: Wanted<'_>,
     output: &mut Counted<W>,
     errors: &mut Counted<E>,
     people: bool,
 ) -> End
-    ensures { EndsHistories (O.holds files.now) whole (map string_bytes names.now)
+    ensures { EndsHistories (O.holds files.now) (wanted_of wanted.entry) (map string_bytes names.now)
         (W.contents output.old.device) (W.contents output.new.device) result }
 {
     let [name] = names else {
-        return check_joined(alloc, files, names, whole, output, errors, people);
+        return check_joined(alloc, files, names, wanted, output, errors, people);
     };
     match files.list(alloc, name.as_str()) {
-        Ok(None) => check_joined(alloc, files, names, whole, output, errors, people),
+        Ok(None) => check_joined(alloc, files, names, wanted, output, errors, people),
         Ok(Some(found)) => {
             check_folder(
                 alloc,
                 files,
                 name.as_str(),
                 found,
-                whole,
+                wanted,
                 output,
                 errors,
                 people,
@@ -467,24 +477,38 @@ fn check_histories<O: Opens, W: Write, E: Write>(
     }
 }
 
-// Checks the files of these names, each by itself or as one history, whole or not.
+// Checks the files of these names, each by itself or as one history, whole or not, which are to be those of these anchors.
 fn check_named<O: Opens, W: Write, E: Write>(
     alloc: Global,
     files: &O,
     names: &[String],
     manner: Manner,
+    anchors: Option<&[Anchor<'_>]>,
     output: &mut Counted<W>,
     errors: &mut Counted<E>,
     people: bool,
 ) -> End
-    ensures { EndsNamed (O.holds files.now) manner (map string_bytes names.now)
+    ensures { EndsNamed (O.holds files.now) manner (told_if anchors.entry)
+        (map string_bytes names.now)
         (W.contents output.old.device) (W.contents output.new.device) people
         (errors_of E.contents errors.old) (errors_of E.contents errors.new) result }
 {
     match manner {
         Manner::Each => check_files(alloc, files, names, output, errors, people),
-        Manner::Joined => check_histories(alloc, files, names, false, output, errors, people),
-        Manner::Whole => check_histories(alloc, files, names, true, output, errors, people),
+        Manner::Joined => {
+            let wanted = Wanted {
+                whole: false,
+                anchors,
+            };
+            check_histories(alloc, files, names, wanted, output, errors, people)
+        }
+        Manner::Whole => {
+            let wanted = Wanted {
+                whole: true,
+                anchors,
+            };
+            check_histories(alloc, files, names, wanted, output, errors, people)
+        }
     }
 }
 
@@ -494,12 +518,13 @@ fn check_list<O: Opens, R: Read, W: Write, E: Write>(
     files: &O,
     list: &str,
     manner: Manner,
+    anchors: Option<&[Anchor<'_>]>,
     input: &mut R,
     output: &mut Counted<W>,
     errors: &mut Counted<E>,
     people: bool,
 ) -> End
-    ensures { EndsListed (O.holds files.now) manner
+    ensures { EndsListed (O.holds files.now) manner (told_if anchors.entry)
         (held_by (O.holds files.now) (R.remaining input.old) list.now)
         (W.contents output.old.device) (W.contents output.new.device) people
         (errors_of E.contents errors.old) (errors_of E.contents errors.new) result }
@@ -512,7 +537,70 @@ fn check_list<O: Opens, R: Read, W: Write, E: Write>(
     if names.is_empty() {
         return refuse_list(errors, list, None);
     }
-    check_named(alloc, files, names, manner, output, errors, people)
+    check_named(alloc, files, names, manner, anchors, output, errors, people)
+}
+
+// Checks the files of these sources, which are to be those of these anchors.
+fn check_sources<O: Opens, R: Read, W: Write, E: Write>(
+    alloc: Global,
+    files: &O,
+    sources: Sources,
+    manner: Manner,
+    anchors: Option<&[Anchor<'_>]>,
+    input: &mut R,
+    output: &mut Counted<W>,
+    errors: &mut Counted<E>,
+    people: bool,
+) -> End
+    ensures { EndsSources (O.holds files.now) (R.remaining input.old) manner
+        (told_if anchors.entry) sources
+        (W.contents output.old.device) (W.contents output.new.device) people
+        (errors_of E.contents errors.old) (errors_of E.contents errors.new) result }
+{
+    match sources {
+        Sources::Words(names) => {
+            let names = names.as_slice();
+            check_named(alloc, files, names, manner, anchors, output, errors, people)
+        }
+        Sources::List(list) => {
+            let list = list.as_str();
+            check_list(
+                alloc, files, list, manner, anchors, input, output, errors, people,
+            )
+        }
+    }
+}
+
+// The same of the anchors that the file of this name has.
+fn check_anchored<O: Opens, R: Read, W: Write, E: Write>(
+    alloc: Global,
+    files: &O,
+    sources: Sources,
+    manner: Manner,
+    name: &str,
+    input: &mut R,
+    output: &mut Counted<W>,
+    errors: &mut Counted<E>,
+    people: bool,
+) -> End
+    ensures { EndsAnchored (O.holds files.now) (R.remaining input.old) manner name.now sources
+        (W.contents output.old.device) (W.contents output.new.device) people
+        (errors_of E.contents errors.old) (errors_of E.contents errors.new) result }
+{
+    let text = match text_in(alloc, files, name) {
+        Ok(text) => text,
+        Err(fault) => {
+            say_fault(errors, name, fault);
+            return end_of(Err(fault));
+        }
+    };
+    let Ok(anchors) = anchors_in(alloc, text.as_slice()) else {
+        return run_short(errors);
+    };
+    let anchors = Some(anchors.as_slice());
+    check_sources(
+        alloc, files, sources, manner, anchors, input, output, errors, people,
+    )
 }
 
 /// Checks the files that the words name, the program's name first, each by itself or as one history; `None`, with nothing
@@ -535,15 +623,22 @@ pub fn check_by_words<O: Opens, R: Read, W: Write, E: Write>(
         → (input.new ≡ input.old) × (output.new ≡ output.old) × (errors.new ≡ errors.old) }
 {
     match mode(alloc, words) {
-        Ok(Mode::CheckFiles { sources, manner }) => match sources {
-            Sources::Words(names) => {
-                let names = names.as_slice();
-                Some(check_named(alloc, files, names, manner, output, errors, people))
+        Ok(
+            Mode::CheckFiles {
+                sources,
+                manner,
+                anchors,
+            },
+        ) => match anchors {
+            Some(name) => {
+                let name = name.as_str();
+                Some(check_anchored(
+                    alloc, files, sources, manner, name, input, output, errors, people,
+                ))
             }
-            Sources::List(list) => {
-                let list = list.as_str();
-                Some(check_list(alloc, files, list, manner, input, output, errors, people))
-            }
+            None => Some(check_sources(
+                alloc, files, sources, manner, None, input, output, errors, people,
+            )),
         },
         Err(ModeFault::Short) => Some(run_short(errors)),
         _ => None,

@@ -1,10 +1,10 @@
 //! The histories of the topics whose parts stand in a folder.
 ghost use Rattle.std.specs.Prelude.{◌≡◌, ◌≢◌, ◌⊎◌, ◌≤◌, ◌<◌, IfOk, map, string_bytes, length};
-ghost use Rattle.th_program.specs.Files.{EndsFolder, EndsUnread};
-ghost use Rattle.th_program.specs.Files.{EndsFolder};
+ghost use Rattle.th_program.specs.Files.{EndsFolder, EndsUnread, wanted_of};
 
 use crate::end::End;
 use crate::files::{Opens, check_joined, worse};
+use crate::modes::Wanted;
 use crate::part_names::topic_of;
 use crate::program::{explain, run_short, say};
 use crate::shown::say_shown;
@@ -37,20 +37,20 @@ fn topic_end(parts: &[String], from: usize) -> usize
     at
 }
 
-/// Checks the files of each topic as one history, whole or not, of those that stand in a folder of this name and are named as parts of
-/// topics' histories, in the order of their names: a line for each topic. It is a fault of the words where there are none.
+/// Checks the files of each topic as one history, of which this is wanted, of those that stand in a folder of this name and are named
+/// as parts of topics' histories, in the order of their names: a line for each topic. It is a fault of the words where there are none.
 pub(crate) fn check_folder<O: Opens, W: Write, E: Write>(
     alloc: Global,
     files: &O,
     name: &str,
     found: Vec<String>,
-    whole: bool,
+    wanted: Wanted<'_>,
     output: &mut Counted<W>,
     errors: &mut Counted<E>,
     people: bool,
 ) -> End
     ensures { result ≢ End.Write →
-        EndsFolder (O.holds files.now) whole
+        EndsFolder (O.holds files.now) (wanted_of wanted.entry)
         (W.contents output.old.device) (W.contents output.new.device) result
         ⊎ EndsUnread result
         (W.contents output.old.device) (W.contents output.new.device) }
@@ -69,7 +69,7 @@ pub(crate) fn check_folder<O: Opens, W: Write, E: Write>(
     let mut at = 0;
     while at < parts.len() {
         let to = topic_end(parts, at);
-        let one = check_joined(alloc, files, &parts[at..to], whole, output, errors, people);
+        let one = check_joined(alloc, files, &parts[at..to], wanted, output, errors, people);
         if one == End::Write {
             return End::Write;
         }

@@ -4,21 +4,20 @@
 pub const VERSION: &str = "0.1.0";
 
 /// One line on the program.
-pub const ABOUT: &str =
-    "Broadcast and watch channels by name: carries out commands, prints the replies";
+pub const ABOUT: &str = "Broadcast and watch channels by name: run commands, print the replies";
 
 /// What stands below the program's commands.
 pub const AFTER: &str = "\
-A broadcast channel gives every value to every receiver, and keeps the newest
-ones alone: a receiver that is too slow is told how many it missed. A watch
-channel keeps the newest value alone, and tells each reader of it once.
+A broadcast channel gives every value to every receiver, and keeps only the
+newest ones: a receiver that is too slow is told how many it missed. A watch
+channel keeps only the newest value, and tells each reader of it once.
 
-A schedule is a text with one command a line, each begun by the name of the
+A schedule is a text with one command a line, each preceded by the name of the
 actor that gives it. `topichub replay` reads it from standard input and prints
 the replies, line by line, on standard output.
 
-Example: a topic `news` whose window has 2 values. Bob is slow and misses one.
-Each line of the schedule stands here with its reply:
+Example: a topic `news` that keeps 2 values. Bob is slow and misses one. Each
+line of the schedule is shown with its reply:
 
   alice OPEN news B 2      OK 2
   alice BIND news          OK
@@ -32,20 +31,20 @@ Each line of the schedule stands here with its reply:
 With the left half in a file, `topichub replay < FILE` prints the right half.
 `topichub replay --help` lists all commands and replies.
 
-The command TRACE of a schedule prints what happened on a topic. `topichub check`
-reads such traces and says whether a channel would have done so.
+The command TRACE prints what happened on a topic. `topichub check` reads such
+traces and says whether they are what a channel would do.
 
-`topichub serve PATH --sessions N` takes the same commands from many clients at
-once, on a Unix socket, and lets NEXT and CHANGED wait; with `--at-once N` it
-stands, and serves any number of them.
+`topichub serve PATH --sessions N` takes the same commands from N clients on a
+Unix socket, where NEXT and CHANGED wait; with `--at-once N` it serves any number
+of clients, N at a time, until it is stopped.
 
 Exit status:
-  0  done; of a check, that the trace is legal
-  1  stopped, with one line on standard error: `topichub: read fault`,
+  0  success; for check, all traces are legal
+  1  stopped, with a line on standard error: `topichub: read fault`,
      `topichub: write fault`, `topichub: too long`, `topichub: no memory` or
      `topichub: socket fault`
-  2  wrong words on the command line
-  3  a trace that was checked is illegal or bad, or traces are not one history";
+  2  wrong arguments
+  3  a trace is illegal or bad, or the traces are not one history";
 
 /// One line on the mode `replay`.
 pub const REPLAY_ABOUT: &str =
@@ -53,14 +52,14 @@ pub const REPLAY_ABOUT: &str =
 
 /// What stands below the text on wrong words where they begin with `replay`.
 pub const REPLAY_INPUT: &str =
-    "\nA schedule comes from standard input, as in: topichub replay < FILE\n";
+    "\nThe schedule is read from standard input, as in: topichub replay < FILE\n";
 
 /// What stands below the options of the mode `replay`.
 pub const REPLAY_AFTER: &str = "\
-Each line is `ACTOR COMMAND`, its fields parted by one space, ended by LF or
-CR LF, at most 4096 bytes. Names of actors and topics have 1 to 32 of the bytes
-a-z, 0-9, _ and -. Numbers are decimal, without leading zeros. A value is the
-rest of the line, 1 to 1024 bytes.
+Each line is `ACTOR COMMAND`, its fields separated by one space. It ends with LF
+or CR LF and has at most 4096 bytes. Names of actors and topics have 1 to 32 of
+the bytes a-z, 0-9, _ and -. Numbers are decimal, without leading zeros. A value
+is the rest of the line, 1 to 1024 bytes.
 
 Commands on topics of both kinds:
   OPEN t B cap          open the broadcast topic t; cap is 1 to 65536, rounded
@@ -68,38 +67,38 @@ Commands on topics of both kinds:
   OPEN t B cap AT base  the same; its first value has the position base
   OPEN t W value        open the watch topic t with this value
   BIND t                get a sender of t
-  UNBIND t              spend it
+  UNBIND t              close it
   SUB t                 get a receiver of t, for what is sent from now on
-  UNSUB t               spend it
+  UNSUB t               close it
   PUB t value           send
   READERS t             how many receivers t has
-  END t                 spend the hub's own sender, which t was opened with
-  TRACE t               tell what happened on t since its last TRACE
+  END t                 close the hub's own sender, which t was opened with
+  TRACE t               print what happened on t since its last TRACE
 
 On a broadcast topic:
   TRY t                 receive, if there is anything
-  NEXT t                the same; BLOCKED where TRY is answered EMPTY
+  NEXT t                the same; BLOCKED if TRY would be EMPTY
   SUB t OLDEST          get a receiver that begins at the oldest value t keeps
   RESUB t               get a new receiver in place of the old one
-  LEFT t                how many values the receiver has to come
+  LEFT t                how many values the receiver has still to read
   QUEUED t              how many values t keeps for its receivers
 
 On a watch topic:
   GET t                 the newest value
-  TAKE t                the same, and it is seen then
+  TAKE t                the same, and mark it as seen
   HAS t                 is the newest value unseen?
-  TRYCHANGED t          has it changed? It is seen then
-  CHANGED t             the same; BLOCKED where TRYCHANGED is answered NOTYET
+  TRYCHANGED t          has it changed? If so, mark it as seen
+  CHANGED t             the same; BLOCKED if TRYCHANGED would be NOTYET
   MARK t                make the newest value unseen
   UNMARK t              make it seen
   SWAP t value          publish, and get the old value; needs no receiver
   EDIT t SET value      publish; needs no receiver
   EDIT t DIFFER value   the same, if the value differs from the newest one
-  EDIT t QUIET value    put it in the newest one's place, and tell nobody
+  EDIT t QUIET value    replace the newest value, and tell nobody
 
 On no topic:
   LIST                  the topics in order of opening
-  QUIT                  spend all that the actor holds, and end the actor
+  QUIT                  close all that the actor holds, and end the actor
 
 Replies, one for each line:
   OK                    done
@@ -110,10 +109,10 @@ Replies, one for each line:
                         TRACE: how many lines, and below it the trace
   VAL value             the next value
   LAG n                 n values were missed; the oldest one left comes next
-  EMPTY, NOTYET         nothing is there yet
-  BLOCKED               nothing is there yet, and a schedule does not wait
-  CLOSED                no sender is left; but for HAS, nothing is left to tell
-                        either
+  EMPTY, NOTYET         there is nothing yet
+  BLOCKED               there is nothing yet, and a schedule does not wait
+  CLOSED                no sender is left; except for HAS, nothing is left to
+                        receive either
   NEW value             GET, TAKE: the newest value, which was unseen
   SAME value            GET, TAKE: the newest value, which was seen already
   WAS value             SWAP: the old value
@@ -123,36 +122,36 @@ Replies, one for each line:
   ERR code word         refused, and nothing changed (17 and 20 are logged)
 
 Refusals:
-  10 bad-line           the line is no actor and command
+  10 bad-line           the line is not an actor and a command
   11 no-topic           no topic of this name
-  12 exists             OPEN of a name that is there
+  12 exists             OPEN of a name that exists
   13 wrong-kind         the command is not for this kind of topic
   14 bad-capacity       0, or above 65536
   15 held               the actor has such a handle already
   16 not-held           the actor has no such handle
   17 no-receivers       PUB, and nobody would get the value
-  18 closed             no live sender to go through
+  18 closed             the sender that is needed is closed
   19 too-many           a 1025th topic or actor, or no further handle
   20 exhausted          the last position or version is reached
   21 no-memory          memory was refused
   22 log-full           the topic's log is full; a TRACE makes room
   23 long-line          more than 4096 bytes
 
-Where standard error is a terminal, a line there says what to do about a
-refusal, the first time that its code is told.
+If standard error is a terminal, a line there says what to do about a refusal,
+the first time that its code occurs.
 
-What puzzles at first:
+What may surprise you:
   OPEN t W v answers OK 1: a watch topic keeps one value, and that is its
   capacity in force.
   EDIT t QUIET v answers NO, though the value is the newest one from then on:
   NO says that nobody was told.
-  16 not-held: PUB, SWAP, EDIT and UNBIND go by the actor's own sender, which
-  BIND gets; what receives, looks or marks, and LEFT, RESUB and UNSUB, go by
-  its own receiver, which SUB gets. Nobody holds anything by opening a topic.
-  18 closed, though there are receivers: it is the sender to go through that
-  is gone. BIND and END go through the hub's own, which END spends; SUB,
-  READERS and QUEUED go through the actor's own, or else the hub's.
-  CLOSED comes when no sender is left, nobody's and not the hub's.
+  16 not-held: PUB, SWAP, EDIT and UNBIND use the actor's own sender, which
+  BIND gets. Commands that receive, look or mark, and LEFT, RESUB and UNSUB,
+  use its own receiver, which SUB gets. Opening a topic gives you neither.
+  18 closed, though there are receivers: the sender that is needed is closed.
+  BIND and END need the hub's own, which END closes; SUB, READERS and QUEUED
+  use the actor's own, or otherwise the hub's.
+  CLOSED comes once no sender is left, the hub's included.
 
 At most 1000000 lines. Exit status as in `topichub --help`.";
 
@@ -160,184 +159,196 @@ At most 1000000 lines. Exit status as in `topichub --help`.";
 pub const CHECK_ABOUT: &str = "Read traces, print whether they are legal on standard output";
 
 /// Its words.
-pub const CHECK_FILES: &str = "Files with a trace each; without any, one from standard input";
+pub const CHECK_FILES: &str =
+    "Files with a trace each, - for standard input; without any, a trace from standard input";
 
 /// Its option.
-pub const CHECK_JOINED: &str = "The files, in this order, are to be one history";
+pub const CHECK_JOINED: &str = "Check that the files, in this order, are one history";
 
 /// Its option beside that.
 pub const CHECK_WHOLE: &str =
-    "That history is to be whole: from the opening of its topic to its last handle";
+    "Check that this history is whole: from the opening of its topic to its last handle";
+
+/// Its option for files that are to be those of a server.
+pub const CHECK_ANCHORS: &str =
+    "Check that its files are those that serve --anchors told of in ANCHORS";
 
 /// Its word for files that are named elsewhere.
 pub const CHECK_LIST: &str =
-    "The files that LIST names, each ended by NUL or by LF; - is standard input";
+    "Check the files that LIST names, each ended by NUL or LF; - is standard input";
 
 /// What is wrong where it is given without files.
 pub const NO_FILES: &str =
-    "error: the argument '--joined' wants files\n\nFor more information, try '--help'.\n";
+    "error: the argument '--joined' needs files\n\nFor more information, try '--help'.\n";
 
 /// What stands below the text on wrong words where they begin with `check`.
 pub const CHECK_INPUT: &str =
-    "\nTraces come from files, or one from standard input, as in: topichub check < FILE\n";
+    "\nTraces are read from files, or one from standard input, as in: topichub check < FILE\n";
 
 /// What stands there instead where one of them seems to be a name that begins with `-`.
 pub const CHECK_DASHED: &str =
-    "\nA name that begins with - stands behind --, or is given as ./NAME: topichub check -- NAME\n";
+    "\nPut a name that begins with - behind --, or write it as ./NAME: topichub check -- NAME\n";
 
 /// What stands below the options of the mode `check`.
 pub const CHECK_AFTER: &str = "\
-A trace is what the command TRACE of a schedule prints, without its first line
-`OK n`: the picture of a channel, each call with the reply to it, and how many
-they were. The check makes a channel of that picture and goes through the calls
-again. It prints one line:
+A trace is what the command TRACE prints, without its first line `OK n`: the
+picture (state) of a channel, each call with its reply, and how many there were.
+The check makes a channel of that picture and runs the calls again. It prints one
+line:
 
   legal n               a trace of n entries, and the channel replies the same
   illegal l             line l is a reply that the channel would not give there
-  bad l                 line l is none that may stand there, or it is missing
+  bad l                 line l may not stand there, or it is missing
 
-Of files each has such a line, with its name in front, as in `FILE: legal n`. One
-that cannot be read, or is no regular file, is told of on standard error, and the
-others are checked. A name is printed with ? for each control character.
+With FILEs, it prints one such line per file, prefixed by its name, as in `FILE:
+legal n`. Files that cannot be read, or are not regular, are reported on standard
+error, and the others are checked. Control characters in names are printed as ?.
 
-With --joined all files tell one history: each is legal, and begins with the
+With --joined, the files are one history if each is legal and begins with the
 picture to which the entries of the one before it lead. Files that are named
-TOPIC.NUMBER.trace, as `serve` does, are also of one topic, and each number is
-that of the first event and the entries of all files before it. It prints one
-line, and reads no further than the first file that breaks the history. The line
-is
+TOPIC.NUMBER.trace, as `serve` names them, must also be of one topic, and each
+number must be that of the first event plus the entries of all files before it.
+It prints one line, and reads no further than the first file that breaks the
+history. The line is
 
-  joined n              one history of n entries; where a name tells it, the line
-                        goes on with the first event, the last one and the topic,
+  joined n              one history of n entries; if a name says where it stands,
+                        followed by the first event, the last one and the topic,
                         as in `joined 84 1-84 news`
-  gap f                 the file f is legal, and begins elsewhere, by its first
+  gap f                 file f is legal, and begins elsewhere, by its first
                         picture or by its name
 
-or the line of the first file that is not legal. Of a folder that is given alone,
-the files that are named so are checked, with a line for each topic. It finds
-what went wrong, and is no seal against who can write to the files.
+or the line of the first file that is not legal. Given one folder alone, it checks
+the files in it that are named so, with a line for each topic. This finds mistakes;
+it is no protection against somebody who can write to the files.
 
-With --whole too nothing is to be missing at either end. In the place of the line
-`joined n` stands then
+With --whole too, nothing may be missing at either end. Instead of the line
+`joined n` it prints
 
   begun f               if the history does not begin with a topic that was just
                         opened, or, by its files' names, with event 1; f is the
                         first file
-  open f                else, if a sender or a receiver is live at its end; f is
-                        the last file
+  open f                otherwise, if a sender or a receiver is live at its end; f
+                        is the last file
+
+With --anchors, the files must be those that `serve --anchors` printed lines for,
+in the text ANCHORS, such as a journal. Lines count that end in
+`anchor START/TOPIC.NUMBER.trace SUM`. Instead of the line `joined n` it prints
+
+  unanchored f          if no line has the name of file f and its sum: it is not as
+                        it was written, or a file before it is missing or was
+                        changed; f is the first such file
+  ended f               otherwise, if a line has a later file of that topic and
+                        start: files are missing at the end; f is the last file
 
 Lines are counted from 1. The first line that is bad or illegal is named, and
-nothing below it is read. At a terminal it also says, on standard error, what is
-wrong there: the line, and the reply that the channel would give. At most
-1000000 entries in a trace; a history may have more.
+nothing below it is read. At a terminal, standard error also says what is wrong
+there: the line, and the reply that the channel would give. A trace has at most
+1000000 entries; a history may have more.
 
-Exit status as in `topichub --help`: of several files 0 where all are legal, 1
-where one could not be read, else 3.";
+Exit status as in `topichub --help`: for several files 0 if all are legal, 1 if one
+could not be read, otherwise 3.";
 
 /// One line on the mode `serve`.
-pub const SERVE_ABOUT: &str = "Serve sessions on a Unix socket, each in a thread of its own";
+pub const SERVE_ABOUT: &str = "Serve clients on a Unix socket, each in a thread of its own";
 
 /// What stands below the text on wrong words where they begin with `serve`.
-pub const SERVE_INPUT: &str =
-    "\nA path and a number of sessions are wanted, as in: topichub serve hub.sock --sessions 2\n";
+pub const SERVE_INPUT: &str = "\nUsage is as in: topichub serve hub.sock --at-once 64\n";
 
 /// The word of the mode `serve`.
-pub const SERVE_PATH: &str = "Where the socket is made; nothing may stand there";
+pub const SERVE_PATH: &str = "Where to make the socket; nothing may stand there yet";
 
 /// Its word for so many sessions.
-pub const SERVE_SESSIONS: &str = "How many connections are served before it ends, 1 to 64";
+pub const SERVE_SESSIONS: &str = "Serve this many connections, 1 to 64, and end";
 
 /// Its word for a server that stands.
-pub const SERVE_AT_ONCE: &str = "Any number of connections, so many at a time, 1 to 1024";
+pub const SERVE_AT_ONCE: &str = "Serve any number of connections, this many at a time, 1 to 1024";
 
 /// The word by which such a server takes the place of another.
-pub const SERVE_REPLACE: &str = "Take the place of a socket whose server is gone";
+pub const SERVE_REPLACE: &str = "Replace a socket whose server is gone";
 
 /// The word by which it ends with its input.
 pub const SERVE_UNTIL_EOF: &str = "End all sessions, and the server, at the end of standard input";
 
 /// The word by which it says more of a fault.
 pub const SERVE_VERBOSE: &str =
-    "Say what stopped it and where, also where nobody sits at a terminal";
+    "Changes nothing: what stopped the server, and where, is always said";
 
 /// The word for how long a topic's history may be.
 pub const SERVE_HISTORY: &str =
-    "Cut a topic's history at so many entries, 1 to 1000000; 100000 if left out";
+    "Cut a topic's history at this many entries, 1 to 1000000; 100000 if left out";
 
 /// The word for how long all of them may be.
 pub const SERVE_MEMORY: &str =
-    "How many entries all histories hold together, 1024 to 1000000000; 2000000 if left out";
+    "Entries that all histories hold together, 1024 to 1000000000; 2000000 if left out";
 
 /// The word for where it puts what it has cut.
 pub const SERVE_TRACES: &str = "Keep each part that was cut, as a trace in a folder below DIR";
 
 /// The word for a socket that somebody else has bound.
 pub const SERVE_SOCKET_FD: &str =
-    "The descriptor, 3 to 1023, of a socket that is bound at PATH already";
+    "Take descriptor FD, 3 to 1023, as the socket; it is bound at PATH already";
 
 /// The word by which a client beyond the number does not wait.
-pub const SERVE_BUSY: &str = "Tell a client beyond N that it is one too many, and close it";
+pub const SERVE_BUSY: &str = "Tell clients beyond N that the server is full, and disconnect them";
 
 /// The word for how many bytes it may take.
 pub const SERVE_MEMORY_BYTES: &str =
-    "How many bytes topics, histories and sessions take together, 67108864 to 1099511627776";
+    "Bytes that topics, histories and sessions take together, 67108864 to 1099511627776";
 
 /// The word by which traces outlive a power cut.
-pub const SERVE_SYNC: &str = "Have each trace on the disk before its file gets its name";
+pub const SERVE_SYNC: &str = "Sync each trace to disk before its file gets its name";
 
 /// The word by which traces can be held against what was told of them.
 pub const SERVE_ANCHORS: &str =
-    "Tell at each cut, on standard error, a sum that binds the topic's files so far";
+    "Print a checksum of the topic's files so far, on standard error, for each trace";
 
 /// What stands below the options of the mode `serve`.
 pub const SERVE_AFTER: &str = "\
-It makes the socket, prints `listening` on standard output, and serves the first
-N connections, one session each, numbered from 1 in the order in which they were
-accepted. Once all have ended it removes the socket and prints `done N`.
+The server makes the socket, prints `listening` on standard output, and serves the
+first N connections, one session each, numbered from 1 in the order in which they
+were accepted. Once all have ended it removes the socket and prints `done N`.
 
-With `--at-once N` it serves any number of connections, N at a time; those beyond
-wait until another one ends, or, with `--busy`, are told so and closed. A session
-has no bound on its lines there, and one that waits ends within seconds where its
-client has gone. `--replace` removes a socket at PATH whose server is gone, by a
-lock on the file PATH.lock, which stays.
+With `--at-once N` it serves any number of connections, N at a time. Others wait
+until a session ends; with `--busy` they are told, and disconnected. A session has
+no limit on its lines there, and one that waits ends within seconds after its
+client has gone. `--replace` removes a socket at PATH whose server is gone, which
+it knows by a lock on the file PATH.lock.
 With `--until-eof` the server ends at the end of standard input: each session
-answers what it has read, one that waits ends unanswered, all that they hold is
-spent, the socket is removed, and `done N` says how many sessions there were.
+answers what it has read, one that waits ends unanswered, all handles are closed,
+the socket is removed, and `done N` says how many sessions there were.
 
-Such a server cuts histories by itself, so no TRACE is needed: that of a topic at
-`--history K` entries, or at `--memory M` divided by the number of topics where
-that is less. What was cut is let go; with `--traces DIR` each part is written to
-a file in a folder below DIR, a trace that `topichub check` reads. `--sync` has it
-on the disk before it gets its name, so that a power cut leaves none that is empty.
-`--anchors` tells a sum on standard error once a file is complete, a SHA-256 that
-binds this file and those of the topic before it. Keep these lines where nobody can
-write who can write to DIR.
+Such a server trims histories by itself, so nobody has to TRACE: a topic's history
+at `--history K` entries, or at `--memory M` divided by the number of topics if that
+is less. With `--traces DIR` each part that is cut goes to a file in a folder below
+DIR, a trace that `topichub check` reads; otherwise it is dropped. With `--sync` it
+is on disk before it gets its name, so that a power cut leaves none that is empty.
+With `--anchors` each file that is complete gets a line on standard error: a SHA-256
+of this file and those of the topic before it. Keep these lines where nobody can
+write who can write to DIR, for `topichub check --anchors`.
 
-With `--memory-bytes B` topics, histories and sessions take at most so many bytes
-together. A line that needs more is answered `ERR 21 no-memory`, and changes
-nothing; what receives or lets go goes on.
+With `--memory-bytes B` topics, histories and sessions take at most B bytes. An OPEN
+or a TRACE that needs more is answered `ERR 21 no-memory`, and changes nothing.
 
 With `--socket-fd FD` the socket is bound already and is this descriptor, as
-systemd's socket activation hands it over. PATH is then where it is bound, and
-nothing is made or removed there, so `--replace` is refused beside it.
+systemd's socket activation hands it over. PATH is then where it is bound. Nothing
+is made or removed there, so `--replace` is refused.
 
-A session's lines are the commands of `topichub replay --help`, without an actor
-in front: a session is an actor. Each line is answered in its turn, and lines may
-be sent ahead of their replies. NEXT and CHANGED wait here until there is an
-answer, and BLOCKED is never told. A session ends after QUIT, at the end of its
-input, or with its connection; then all that it holds is spent. One that was
-stopped is told of on standard error, with its number.
+A session's lines are the commands of `topichub replay --help`, without an actor in
+front: each session is an actor. Each line is answered in turn, and lines may be
+sent ahead of their replies. NEXT and CHANGED wait here until there is an answer,
+and BLOCKED is never the reply. A session ends after QUIT, at the end of its input,
+or when its connection fails; then all its handles are closed. A session that was
+stopped is reported on standard error, with its number.
 
 Example, with two shells and `socat`:
 
   topichub serve hub.sock --sessions 2
   socat - UNIX-CONNECT:hub.sock
 
-Only the user who serves may connect: the socket has the mode 0600, and its
-directory decides who may come near. Values are bytes. With `--sessions` a session
-takes at most 1000000 lines, and a topic's history 1000000 events from one TRACE
-to the next. A signal such as Ctrl-C ends the program at once, and leaves the
-socket where it is.
+Only the user who runs the server can connect: the socket has the mode 0600, and its
+directory decides who can reach it. Values are bytes. With `--sessions` a session
+takes at most 1000000 lines, and a topic's history 1000000 events from one TRACE to
+the next. A signal such as Ctrl-C ends the program at once, and leaves the socket.
 
-Exit status as in `topichub --help`; 1 with `topichub: socket fault` where the
-socket could not be made, or a connection not be served.";
+Exit status as in `topichub --help`; 1 with `topichub: socket fault` if the socket
+cannot be made, or a connection cannot be served.";

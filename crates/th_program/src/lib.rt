@@ -11,6 +11,7 @@
 
 mod advice;
 mod advising;
+mod anchors;
 mod end;
 mod files;
 mod folders;
@@ -21,14 +22,17 @@ mod part_names;
 mod program;
 mod shown;
 mod streams;
+mod sums;
 mod whole;
 mod words;
 
 pub use advising::Advising;
+pub use anchors::Anchor;
 pub use end::{End, explanation, status};
 pub use files::{Opens, check_by_words, check_files, check_joined};
-pub use modes::{Manner, Mode, ModeFault, Serving, Sources, Standing};
+pub use modes::{Manner, Mode, ModeFault, Serving, Sources, Standing, Wanted};
 pub use part_names::part_name;
 pub use program::{greet, run, run_for, run_not_text, run_short};
 pub use streams::{WordsFault, given_words, run_on_streams, texts};
+pub use sums::{Sum, sum_of};
 pub use words::mode;

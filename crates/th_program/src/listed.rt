@@ -18,14 +18,29 @@ pub(crate) enum ListFault {
 }
 
 // All that the reader gives.
-fn whole_of<R: Read>(alloc: Global, reader: &mut R) -> Result<Vec<u8>, ListFault>
+fn whole_of<R: Read>(alloc: Global, reader: &mut R) -> Result<Vec<u8>, CheckFault>
     ensures { IfOk result (λ text. IfSome (R.remaining reader.old) (λ bytes. text.items ≡ bytes)) }
 {
     let mut text = Vec::new(alloc);
     match reader.read_to_end(&mut text) {
         Ok(_) => Ok(text),
-        Err(e) if e.kind() == ErrorKind::OutOfMemory => Err(ListFault::Unread(CheckFault::Short)),
-        Err(_) => Err(ListFault::Unread(CheckFault::Read)),
+        Err(e) if e.kind() == ErrorKind::OutOfMemory => Err(CheckFault::Short),
+        Err(_) => Err(CheckFault::Read),
+    }
+}
+
+/// The text of the file with this name.
+///
+/// # Errors
+///
+/// Where it cannot be read, or for want of memory.
+pub(crate) fn text_in<O: Opens>(alloc: Global, files: &O, name: &str) -> Result<Vec<u8>, CheckFault>
+    ensures { IfOk result (λ text. IfSome (O.holds files.now name.now)
+        (λ bytes. text.items ≡ bytes)) }
+{
+    match files.open(name) {
+        Ok(mut file) => whole_of(alloc, &mut file),
+        Err(_) => Err(CheckFault::Read),
     }
 }
 
@@ -41,8 +56,8 @@ fn mark_of(text: &[u8]) -> u8
     b'\n'
 }
 
-// Where the name ends that begins at this place.
-fn name_end(text: &[u8], from: usize, mark: u8) -> usize
+/// Where the name ends that begins at this place.
+pub(crate) fn name_end(text: &[u8], from: usize, mark: u8) -> usize
     requires within { from < length text.now }
     ensures bounds { (from ≤ result) × (result ≤ length text.now) }
     ensures name { names_in mark (drop from text.now)
@@ -103,13 +118,10 @@ pub(crate) fn listed<O: Opens, R: Read>(
     let text = if list == "-" {
         whole_of(alloc, input)
     } else {
-        match files.open(list) {
-            Ok(mut file) => whole_of(alloc, &mut file),
-            Err(_) => Err(ListFault::Unread(CheckFault::Read)),
-        }
+        text_in(alloc, files, list)
     };
     match text {
         Ok(text) => names_in(alloc, text.as_slice()),
-        Err(fault) => Err(fault),
+        Err(fault) => Err(ListFault::Unread(fault)),
     }
 }

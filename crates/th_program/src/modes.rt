@@ -1,4 +1,5 @@
 //! What the program can be asked to do.
+use crate::anchors::Anchor;
 
 /// What the program is asked to do.
 #[derive(Drop)]
@@ -13,6 +14,9 @@ pub enum Mode {
         sources: Sources,
         /// As what.
         manner: Manner,
+        /// The file with the anchors of which they are to be; without one they may be any. Nobody asks so of files that are no
+        /// history.
+        anchors: Option<String>,
     },
     /// Serve sessions on a Unix socket.
     Serve {
@@ -41,6 +45,15 @@ pub enum Manner {
     Joined,
     /// All as one history that is whole: from the opening of its channel to its last handle.
     Whole,
+}
+
+/// What is wanted of a history.
+#[derive(Clone, Copy, Drop)]
+pub struct Wanted<'a> {
+    /// Whether it is to be whole: from the opening of its channel to its last handle.
+    pub whole: bool,
+    /// What its files are to be, if that was told.
+    pub anchors: Option<&'a [Anchor<'a>]>,
 }
 
 /// How many sessions are served.

@@ -67,8 +67,8 @@ pub(crate) struct Place<'a> {
 #[derive(Clone, Copy, Drop)]
 pub(crate) struct Misplaced;
 
-// What stands behind the last slash of a path, or all of it.
-fn file_of(path: &[u8]) -> &[u8]
+/// What stands behind the last slash of a path, or all of it.
+pub(crate) fn file_of(path: &[u8]) -> &[u8]
     ensures { result.now ≡ file_of path.now }
 {
     match path.iter().rposition(|&b| b == b'/') {

@@ -1,9 +1,13 @@
-//! Whether a history is whole: from the opening of its channel to its last handle.
-ghost use Rattle.std.specs.Prelude.{◌≡◌, map, string_bytes, true};
+//! What a history lacks that is to be whole, from the opening of its channel to its last handle, or whose files are to be those of
+//! which anchors tell.
+ghost use Rattle.std.specs.Prelude.{◌≡◌, IfOk, map, string_bytes, true};
 ghost use Rattle.std.specs.Io.KnownBytes.{Appends};
-ghost use Rattle.th_program.specs.Files.{place_of};
+ghost use Rattle.th_program.specs.Files.{IsLack, place_of, wanted_of};
 ghost use Rattle.th_program.specs.Whole.{is_begun, lack_file, lack_if, lack_line, lack_of, lack_word, name_at};
 
+use crate::anchors::{Unread, lack_by};
+use crate::files::Opens;
+use crate::modes::Wanted;
 use crate::part_names::Place;
 use crate::program::write_text;
 use crate::shown::write_shown;
@@ -11,13 +15,17 @@ use std::io::Write;
 use th_check::Joining;
 use th_lines::Counted;
 
-/// What a history lacks of a whole one.
+/// What a history lacks.
 #[derive(Clone, Copy, Debug, Drop, PartialEq, Eq)]
 pub(crate) enum Lack {
     /// Its beginning: its channel was not just opened there, or by its files' names it does not begin with event 1.
     Beginning,
     /// Its end: a handle is live there.
     Ending,
+    /// An anchor of the file at this place.
+    Anchor(usize),
+    /// Later files, of which anchors tell.
+    Rest,
 }
 
 // Whether a history begins where its topic does.
@@ -43,15 +51,39 @@ fn lack_of(history: &Joining, place: Option<Place<'_>>) -> Option<Lack>
     }
 }
 
-/// What the history lacks of a whole one, if it is to be whole.
-pub(crate) fn lack_if(whole: bool, history: &Joining, place: Option<Place<'_>>) -> Option<Lack>
+// What the history lacks of a whole one, if it is to be whole.
+fn lack_if(whole: bool, history: &Joining, place: Option<Place<'_>>) -> Option<Lack>
     ensures { result ≡ lack_if whole history.now (place_of place.entry) }
 {
     if whole { lack_of(history, place) } else { None }
 }
 
-// The name at this place, none where there is none.
-fn name_at(names: &[String], at: usize) -> &str
+/// What the history of these files, which stands at this place by their names, lacks of what is wanted of it.
+///
+/// # Errors
+///
+/// The first file that cannot be read again for its sum.
+pub(crate) fn lack_in<O: Opens>(
+    files: &O,
+    names: &[String],
+    wanted: Wanted<'_>,
+    history: &Joining,
+    place: Option<Place<'_>>,
+) -> Result<Option<Lack>, Unread>
+    ensures { IfOk result (IsLack (O.holds files.now) (wanted_of wanted.entry)
+        (map string_bytes names.now) history.now (place_of place.entry)) }
+{
+    if let Some(lack) = lack_if(wanted.whole, history, place) {
+        return Ok(Some(lack));
+    }
+    match wanted.anchors {
+        Some(anchors) => lack_by(files, names, anchors),
+        None => Ok(None),
+    }
+}
+
+/// The name at this place, none where there is none.
+pub(crate) fn name_at(names: &[String], at: usize) -> &str
     ensures { result.now ≡ name_at (map string_bytes names.now) at }
 {
     match names.get(at) {
@@ -66,7 +98,8 @@ fn lack_file(lack: Lack, names: &[String]) -> &str
 {
     match lack {
         Lack::Beginning => name_at(names, 0),
-        Lack::Ending => name_at(names, names.len().saturating_sub(1)),
+        Lack::Ending | Lack::Rest => name_at(names, names.len().saturating_sub(1)),
+        Lack::Anchor(at) => name_at(names, at),
     }
 }
 
@@ -77,6 +110,8 @@ fn lack_word(lack: Lack) -> &'static [u8]
     match lack {
         Lack::Beginning => b"begun ",
         Lack::Ending => b"open ",
+        Lack::Anchor(_) => b"unanchored ",
+        Lack::Rest => b"ended ",
     }
 }
 

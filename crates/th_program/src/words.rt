@@ -6,9 +6,9 @@ ghost use Rattle.clap.specs.Words.{app_of, fault_of, first_of, found_of, kind_of
 ghost use Rattle.th_program.specs.Words.{AreCheck, AreReplay, AreHelp, AreRight, AreServe, AreVersion, AreNone, AsksAtOnce, AsksBytes, AsksFor, AsksHistory, AsksMemory, AsksRightly, AsksSocket, CountsIf, IsCount, IsCountIf, IsHelp, IsMode, IsUsage, GivesCheck, GivesMode, GivesReplay, GivesFault, HasFiles, HasSessions, IsList, IsWithin, ServesBy, StandsBy, arguments_by, arguments_of, asked_by, asked_of, check_line, command_line, flag_of, has, has_flags, has_guarding, has_keeping, has_others, is_given, lacks_traces, manner_of, option_of, replaces_bound, serve_line, text_of, with_guarding, with_history, with_keeping, with_required, with_standing};
 
 use crate::help::{
-    ABOUT, AFTER, CHECK_ABOUT, CHECK_AFTER, CHECK_DASHED, CHECK_FILES, CHECK_INPUT, CHECK_JOINED,
-    CHECK_LIST, CHECK_WHOLE, NO_FILES, REPLAY_ABOUT, REPLAY_AFTER, REPLAY_INPUT, SERVE_ABOUT,
-    SERVE_AFTER, SERVE_ANCHORS, SERVE_AT_ONCE, SERVE_BUSY, SERVE_HISTORY, SERVE_INPUT,
+    ABOUT, AFTER, CHECK_ABOUT, CHECK_AFTER, CHECK_ANCHORS, CHECK_DASHED, CHECK_FILES, CHECK_INPUT,
+    CHECK_JOINED, CHECK_LIST, CHECK_WHOLE, NO_FILES, REPLAY_ABOUT, REPLAY_AFTER, REPLAY_INPUT,
+    SERVE_ABOUT, SERVE_AFTER, SERVE_ANCHORS, SERVE_AT_ONCE, SERVE_BUSY, SERVE_HISTORY, SERVE_INPUT,
     SERVE_MEMORY, SERVE_MEMORY_BYTES, SERVE_PATH, SERVE_REPLACE, SERVE_SESSIONS, SERVE_SOCKET_FD,
     SERVE_SYNC, SERVE_TRACES, SERVE_UNTIL_EOF, SERVE_VERBOSE, VERSION,
 };
@@ -48,7 +48,7 @@ const LEAST_FD: u64 = 3;
 const MOST_FD: u64 = 1023;
 
 /// What is said where it is not one of both.
-const SESSIONS_OR_AT_ONCE: &str = "one of '--sessions <N>' and '--at-once <N>' is wanted";
+const SESSIONS_OR_AT_ONCE: &str = "give exactly one of '--sessions <N>' and '--at-once <N>'";
 
 /// What is said where other words are given with sessions.
 const OTHERS_WITH_AT_ONCE: &str =
@@ -60,10 +60,14 @@ const REPLACE_OR_SOCKET_FD: &str =
 
 /// What is said where it is said how traces are written, and none are.
 const NO_TRACES: &str =
-    "'--sync' and '--anchors' want '--traces <DIR>': no trace is written without it";
+    "'--sync' and '--anchors' need '--traces <DIR>': no trace is written without it";
 
 /// What is said where files that are no history are to be a whole one.
-const WHOLE_OF_NONE: &str = "'--whole' wants '--joined': it is a history that is whole";
+const WHOLE_OF_NONE: &str = "'--whole' needs '--joined': only a history can be whole";
+
+/// What is said where files that are no history are to be those of anchors.
+const ANCHORS_OF_NONE: &str =
+    "'--anchors <ANCHORS>' needs '--joined': only the files of a history have anchors";
 
 /// What is said where files are named by words and by a list.
 const FILES_OR_LIST: &str = "'--files-from <LIST>' goes without other files";
@@ -114,7 +118,8 @@ fn with_history<'a>(alloc: Global, check: Command<'a>) -> Result<Command<'a>, Al
         IfOk result (λ c. (out-Command c).has_globals ≡ false) }
 {
     let check = with_arg(check, flag(alloc, "joined", CHECK_JOINED))?;
-    with_arg(check, flag(alloc, "whole", CHECK_WHOLE))
+    let check = with_arg(check, flag(alloc, "whole", CHECK_WHOLE))?;
+    with_arg(check, option(alloc, "anchors", "ANCHORS", CHECK_ANCHORS))
 }
 
 // The program with that mode more.
@@ -319,7 +324,7 @@ fn wrong_count(
     ensures { IsUsage result ⊎ (result ≡ ModeFault.Short) }
 {
     wrong(format!(in alloc;
-        "error: invalid value '{text}' for '--{word} <{name}>': it is no number from {least} to {most}\n\nFor more information, try '--help'.\n"
+        "error: invalid value '{text}' for '--{word} <{name}>': expected a number from {least} to {most}\n\nFor more information, try '--help'.\n"
     ))
 }
 
@@ -522,16 +527,16 @@ fn memory_bytes(alloc: Global, words: &ArgMatches<'_>) -> Result<Option<u64>, Mo
     count_if(alloc, words, "memory-bytes", "B", LEAST_BYTES, MOST_BYTES)
 }
 
-// The folder that is named for what was cut.
-fn traces(alloc: Global, words: &ArgMatches<'_>) -> Result<Option<String>, AllocError>
-    ensures { let given = first_of (codes "traces") (rows_of (found_of words.now)) in
-        IfOk result (λ folder. option_map string_bytes folder ≡ given) }
+// A text of its own of what was given behind this word, where anything was.
+fn copied(alloc: Global, words: &ArgMatches<'_>, word: &str) -> Result<Option<String>, AllocError>
+    ensures { let given = first_of word.now (rows_of (found_of words.now)) in
+        IfOk result (λ text. option_map string_bytes text ≡ given) }
 {
-    let Some(folder) = given(words, "traces") else {
+    let Some(text) = given(words, word) else {
         return Ok(None);
     };
-    match String::from_str(alloc, folder) {
-        Ok(folder) => Ok(Some(folder)),
+    match String::from_str(alloc, text) {
+        Ok(text) => Ok(Some(text)),
         Err(e) => Err(e),
     }
 }
@@ -568,7 +573,7 @@ fn standing(alloc: Global, words: &ArgMatches<'_>) -> Result<Standing, ModeFault
         Ok(memory_bytes) => memory_bytes,
         Err(fault) => return Err(fault),
     };
-    let Ok(traces) = traces(alloc, words) else {
+    let Ok(traces) = copied(alloc, words, "traces") else {
         return Err(ModeFault::Short);
     };
     Ok(Standing {
@@ -664,30 +669,45 @@ fn unnamed(alloc: Global, manner: Manner) -> Result<Mode, ModeFault>
 }
 
 // The files that are listed under this name.
-fn listed(alloc: Global, list: &str, manner: Manner) -> Result<Mode, ModeFault>
-    ensures mode { IfOk result (λ m. IsList m list.now manner) }
+fn listed(
+    alloc: Global,
+    list: &str,
+    manner: Manner,
+    anchors: Option<String>,
+) -> Result<Mode, ModeFault>
+    ensures mode { IfOk result (λ m. IsList m list.now manner (option_map string_bytes anchors)) }
     ensures short { IfErr result (λ fault. fault ≡ ModeFault.Short) }
 {
     match String::from_str(alloc, list) {
         Ok(list) => Ok(Mode::CheckFiles {
             sources: Sources::List(list),
             manner,
+            anchors,
         }),
         Err(_) => Err(ModeFault::Short),
     }
 }
 
-// As what the files are checked; none where files that are no history are to be a whole one.
+// As what the files are checked; none where files that are no history are to be a whole one, or those of anchors.
 fn manner(words: &ArgMatches<'_>) -> Option<Manner>
     ensures { result ≡ manner_of (rows_of (found_of words.now)) }
 {
     let whole = is_given(words, "whole");
     if is_given(words, "joined") {
         Some(if whole { Manner::Whole } else { Manner::Joined })
-    } else if whole {
+    } else if whole || has(words, "anchors") {
         None
     } else {
         Some(Manner::Each)
+    }
+}
+
+// What is said where they are none.
+fn no_history(words: &ArgMatches<'_>) -> &'static str {
+    if is_given(words, "whole") {
+        WHOLE_OF_NONE
+    } else {
+        ANCHORS_OF_NONE
     }
 }
 
@@ -698,12 +718,15 @@ fn check_mode(alloc: Global, words: &ArgMatches<'_>) -> Result<Mode, ModeFault>
     ensures wrong { IfErr result (λ fault. IsUsage fault ⊎ (fault ≡ ModeFault.Short)) }
 {
     let Some(manner) = manner(words) else {
-        return Err(wrong_words(alloc, WHOLE_OF_NONE));
+        return Err(wrong_words(alloc, no_history(words)));
+    };
+    let Ok(anchors) = copied(alloc, words, "anchors") else {
+        return Err(ModeFault::Short);
     };
     let list = given(words, "files-from");
     let Some(files) = words.get_strs("FILE") else {
         return match list {
-            Some(list) => listed(alloc, list, manner),
+            Some(list) => listed(alloc, list, manner, anchors),
             None => unnamed(alloc, manner),
         };
     };
@@ -714,6 +737,7 @@ fn check_mode(alloc: Global, words: &ArgMatches<'_>) -> Result<Mode, ModeFault>
         Ok(files) => Ok(Mode::CheckFiles {
             sources: Sources::Words(files),
             manner,
+            anchors,
         }),
         Err(_) => Err(ModeFault::Short),
     }

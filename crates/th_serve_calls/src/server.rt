@@ -37,7 +37,7 @@ pub fn serve<
         + Net
         + AllocGlobal,
 >(rt: &R, words: &[String]) {
-    let _ = serve_by_words(rt, words, false);
+    let _ = serve_by_words(rt, words);
 }
 
 pub fn status(outcome: &Outcome) -> ExitCode {

@@ -1,9 +1,7 @@
 -- What the sums of a topic's files bind.
-use Rattle.std.specs.Prelude.{◌≡◌, ℕ, List, Option, [], ◌++◌, ⊤}
-use Rattle.std.specs.Io.KnownBytes.{Consumes}
-use Rattle.sha2.specs.Hashers.{Holds256}
+use Rattle.std.specs.Prelude.{◌≡◌, ℕ, List, Option, Some, None, [], ◌++◌, ⊤}
 use Rattle.sha2.specs.Sha256.{sha256}
-use Rattle.sha2.specs.declared.Sha256.{Sha256}
+use Rattle.th_program.specs.declared.sums.Sum.{Sum}
 use Rattle.th_server.specs.declared.sums.Chain.{Chain}
 use Rattle.th_server.specs.declared.sums.Chain.TheVariants.{Loose, Begins, GoesOn}
 
@@ -13,13 +11,19 @@ bound_by Loose = []
 bound_by Begins = []
 bound_by (GoesOn sum) = sum.0
 
+-- the sum that the one of the next file binds, if there is one; none where that file is to have no sum
+abbrev pub before : Chain → Option (Option Sum)
+before Loose = None
+before Begins = Some None
+before (GoesOn sum) = Some (Some sum)
+
+-- what binds the file with this sum, and those before it; nothing does where it has none
+abbrev pub behind : Option Sum → Chain
+behind None = Loose
+behind (Some sum) = GoesOn sum
+
 -- the sum of a file of these bytes, if there is one, is that of what comes before them and of the bytes
 abbrev pub Binds : Chain → List ℕ → Chain → Type 0
 Binds chain bytes Loose = ⊤
 Binds chain bytes Begins = ⊥
 Binds chain bytes (GoesOn sum) = sum.0 ≡ sha256 (bound_by chain ++ bytes)
-
--- a hasher has taken what a reader gave, whose bytes are these before and these afterwards where they are known
-abbrev pub Takes : Option (List ℕ) → Option (List ℕ) → Sha256 → Sha256 → Type 0
-Takes before after old new = (m : List ℕ) → Holds256 old m →
-    (bytes : List ℕ) × Holds256 new (m ++ bytes) × Consumes before after bytes

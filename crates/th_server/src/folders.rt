@@ -1,6 +1,7 @@
 //! The folders that traces are written to.
 ghost use Rattle.std.specs.Prelude.{◌≡◌, [], IfSome, None, Some};
 
+use crate::cause::Cause;
 use crate::limits::{file_bytes, trace_bytes};
 use crate::node::is_own;
 use std::alloc::Global;
@@ -33,8 +34,8 @@ pub(crate) enum FolderFault {
         allowed: u64,
     },
     /// It is not there, or none can be made in it.
-    #[error("no folder for the traces can be made")]
-    Unmade,
+    #[error("no folder for the traces can be made{0}")]
+    Unmade(Cause),
     /// Who owns it could have traces written elsewhere.
     #[error("the folder for the traces belongs to another user")]
     Foreign,
@@ -74,7 +75,7 @@ fn is_own_folder<R: Files>(rt: &R, dir: &str) -> Result<(), FolderFault> {
     match fs::metadata(rt, dir) {
         Ok(found) if is_own(&found) => Ok(()),
         Ok(_) => Err(FolderFault::Foreign),
-        Err(_) => Err(FolderFault::Unmade),
+        Err(e) => Err(FolderFault::Unmade(Cause::of(&e))),
     }
 }
 
@@ -86,21 +87,38 @@ pub(crate) fn sync<R: Files>(rt: &R, path: &str) -> bool {
     }
 }
 
+// The time, in seconds since 1970.
+fn seconds_of(clock: &impl Clock) -> Option<u64> {
+    let since = SystemTime::now(clock)
+        .ok()?
+        .duration_since(UNIX_EPOCH)
+        .ok()?;
+    Some(since.as_secs())
+}
+
 // A folder of its own for this start, below the one that is named: its name is the time, in seconds since 1970.
-fn folder_of_start<R: Files + Clock>(rt: &R, alloc: Global, dir: &str) -> Option<String> {
-    let since = SystemTime::now(rt).ok()?.duration_since(UNIX_EPOCH).ok()?;
+fn folder_of_start<R: Files + Clock>(
+    rt: &R,
+    alloc: Global,
+    dir: &str,
+) -> Result<String, FolderFault> {
+    let Some(seconds) = seconds_of(rt) else {
+        return Err(FolderFault::Unmade(Cause::none()));
+    };
     let mut how = DirBuilder::new();
     how.mode(MODE);
     for later in 0..TRIES {
-        let seconds = since.as_secs().saturating_add(later);
-        let name = format!(in alloc; "{dir}/{seconds}").ok()?;
+        let start = seconds.saturating_add(later);
+        let Ok(name) = format!(in alloc; "{dir}/{start}") else {
+            return Err(FolderFault::Unmade(Cause::none()));
+        };
         match how.create(rt, name.as_str()) {
-            Ok(()) => return Some(name),
+            Ok(()) => return Ok(name),
             Err(e) if e.kind() == ErrorKind::AlreadyExists => {}
-            Err(_) => return None,
+            Err(e) => return Err(FolderFault::Unmade(Cause::of(&e))),
         }
     }
-    None
+    Err(FolderFault::Unmade(Cause::none()))
 }
 
 // The same, where the one that is named may be used, and is synced if it has to be.
@@ -110,13 +128,11 @@ fn folder_at<R: Files + Clock>(
     dir: &str,
     syncs: bool,
 ) -> Result<String, FolderFault> {
-    if private_folders().create(rt, dir).is_err() {
-        return Err(FolderFault::Unmade);
+    if let Err(e) = private_folders().create(rt, dir) {
+        return Err(FolderFault::Unmade(Cause::of(&e)));
     }
     is_own_folder(rt, dir)?;
-    let Some(name) = folder_of_start(rt, alloc, dir) else {
-        return Err(FolderFault::Unmade);
-    };
+    let name = folder_of_start(rt, alloc, dir)?;
     if syncs && !sync(rt, dir) {
         let _ = fs::remove_dir(rt, name.as_str());
         return Err(FolderFault::Unsynced);

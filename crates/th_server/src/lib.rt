@@ -3,7 +3,7 @@
 //!
 //! ```text
 //! // with the words `topichub serve hub.sock --sessions 2`: `listening`, both sessions, `done 2`
-//! let outcome = serve_by_words(&rt, words.as_slice(), false);
+//! let outcome = serve_by_words(&rt, words.as_slice());
 //! // `None` where the words ask for something else; and `status` of what came of it
 //! ```
 #![tactic(auto)]
@@ -11,6 +11,7 @@
 mod anchors;
 mod busy;
 mod bytes;
+mod cause;
 mod client;
 mod connections;
 mod elapsed;
@@ -33,5 +34,5 @@ mod words;
 pub use folders::Folder;
 pub use outcome::Outcome;
 pub use parts::{Store, Stored};
-pub use sums::{Chain, Sum};
+pub use sums::Chain;
 pub use words::serve_by_words;

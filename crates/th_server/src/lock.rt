@@ -2,6 +2,7 @@
 ghost use Rattle.std.specs.Prelude.{◌≡◌, IfOk, None};
 ghost use Rattle.std.specs.Fs.{IsFile, file_type};
 
+use crate::cause::Cause;
 use crate::node::{Node, is_own};
 use crate::socket::SocketFault;
 use std::alloc::{AllocError, Global};
@@ -117,7 +118,7 @@ fn open<R: Files<File = File>>(rt: &R, name: &str) -> Result<Option<(File, bool)
             Ok(None) => Ok(None),
             Err(fault) => Err(SocketFault::Lock(fault)),
         },
-        Err(_) => Err(SocketFault::Beside),
+        Err(e) => Err(SocketFault::Beside(Cause::of(&e))),
     }
 }
 

@@ -1,4 +1,5 @@
 //! The socket of a server.
+use crate::cause::Cause;
 use crate::folders::FolderFault;
 use crate::lock;
 use crate::lock::{Lock, LockFault};
@@ -57,11 +58,14 @@ pub(crate) enum SocketFault {
     #[error("its server has left no lock, so --replace leaves it")]
     Other,
     /// There is no file of the lock.
-    #[error("no file can be made beside it")]
-    Beside,
+    #[error("no file can be made beside it{0}")]
+    Beside(Cause),
+    /// The path is longer than the address of a socket may be, or has a NUL in it.
+    #[error("the path has more than 107 bytes, or a NUL")]
+    TooLong,
     /// It could not be bound, or takes no connections.
-    #[error("no socket can be made there")]
-    Bind,
+    #[error("no socket can be made there{0}")]
+    Bind(Cause),
     /// What was handed over is not at the path.
     #[error("no socket stands there, so none was handed over")]
     Missing,
@@ -101,11 +105,15 @@ pub(crate) struct Socket {
 }
 
 impl SocketFault {
-    /// Tells people what was wrong, and where.
-    pub(crate) fn tell<R: Eprint>(self, rt: &R, path: &str) {
+    /// Tells people what was wrong, and where: at the socket's path, or at the folder that is to have the traces.
+    pub(crate) fn tell<R: Eprint>(self, rt: &R, path: &str, traces: &str) {
         let _ = match self {
             SocketFault::Lock(fault) => eprintln!(rt; "topichub: {path}.lock: {fault}"),
             SocketFault::Unnamed => eprintln!(rt; "topichub: {}", SocketFault::Unnamed),
+            SocketFault::Traces(FolderFault::Unnamed) => {
+                eprintln!(rt; "topichub: {}", FolderFault::Unnamed)
+            }
+            SocketFault::Traces(fault) => eprintln!(rt; "topichub: {traces}: {fault}"),
             fault => eprintln!(rt; "topichub: {path}: {fault}"),
         };
     }
@@ -151,11 +159,11 @@ fn listen(listener: &UnixListener) -> bool {
     libc::net::listen(listener.as_raw_fd(), BACKLOG) == 0
 }
 
-// Why no socket could be bound at the path.
-fn why_unbound<R: Files>(rt: &R, path: &str) -> SocketFault {
+// Why no socket could be bound at the path, where the system said this.
+fn why_unbound<R: Files>(rt: &R, path: &str, error: &io::Error) -> SocketFault {
     match fs::symlink_metadata(rt, path) {
         Ok(_) => SocketFault::Stands,
-        Err(_) => SocketFault::Bind,
+        Err(_) => SocketFault::Bind(Cause::of(error)),
     }
 }
 
@@ -184,25 +192,28 @@ fn remove_stale<R: Files>(
 // A socket at the path that takes no connections yet, so that it has its mode before anybody can connect.
 fn bind<R: Files + Net>(rt: &R, path: &str) -> Result<(UnixListener, Node), SocketFault> {
     let Ok(address) = SocketAddr::from_pathname(path) else {
-        return Err(SocketFault::Bind);
+        return Err(SocketFault::TooLong);
     };
-    let Ok(socket) = rt.unix_socket() else {
-        return Err(SocketFault::Bind);
+    let socket = match rt.unix_socket() {
+        Ok(socket) => socket,
+        Err(e) => return Err(SocketFault::Bind(Cause::of(&e))),
     };
     // Its file has this mode from the start then, less the process's mask.
     libc::fchmod(socket.as_raw_fd(), MODE);
-    if rt.bind_unix(socket.as_fd(), &address).is_err() {
-        return Err(why_unbound(rt, path));
+    if let Err(e) = rt.bind_unix(socket.as_fd(), &address) {
+        return Err(why_unbound(rt, path, &e));
     }
-    let Ok(found) = fs::symlink_metadata(rt, path) else {
-        return Err(SocketFault::Bind);
+    let found = match fs::symlink_metadata(rt, path) {
+        Ok(found) => found,
+        Err(e) => return Err(SocketFault::Bind(Cause::of(&e))),
     };
     let node = Node::of(&found);
-    if found.mode() & RIGHTS != MODE
-        && fs::set_permissions(rt, path, Permissions::from_mode(MODE)).is_err()
-    {
+    if found.mode() & RIGHTS == MODE {
+        return Ok((UnixListener::from(socket), node));
+    }
+    if let Err(e) = fs::set_permissions(rt, path, Permissions::from_mode(MODE)) {
         node.remove(rt, path);
-        return Err(SocketFault::Bind);
+        return Err(SocketFault::Bind(Cause::of(&e)));
     }
     Ok((UnixListener::from(socket), node))
 }
@@ -224,7 +235,7 @@ fn make_with<R: Files + Net>(
         Ok(stream) if listen(&listener) => Ok((listener, stream, node)),
         _ => {
             node.remove(rt, path);
-            Err(SocketFault::Bind)
+            Err(SocketFault::Bind(Cause::none()))
         }
     }
 }

@@ -51,15 +51,13 @@ fn asked_to_serve(alloc: Global, words: &[String]) -> Result<Option<(String, Ser
     }
 }
 
-// Says what stopped a server on standard error; and what was wrong at the path, where that is wanted.
-fn explain<R: Eprint>(rt: &R, path: &str, end: &End, fault: Option<SocketFault>, wanted: bool) {
+// Says what stopped a server on standard error; and below it what was wrong at the path, or at the folder for the traces.
+fn explain<R: Eprint>(rt: &R, path: &str, traces: &str, end: &End, fault: Option<SocketFault>) {
     if let Some(line) = explanation(end) {
         let _ = eprintln!(rt; "{line}");
     }
     if let Some(fault) = fault {
-        if wanted {
-            fault.tell(rt, path);
-        }
+        fault.tell(rt, path, traces);
     }
 }
 
@@ -68,7 +66,7 @@ fn unread<R: Eprint>(rt: &R, alloc: Global) -> Outcome
     ensures asked { result.asked ≡ None }
     ensures end { result.end ≡ Short }
 {
-    explain(rt, "", &End::Short, None, false);
+    explain(rt, "", "", &End::Short, None);
     Outcome {
         asked: None,
         sessions: Vec::new(alloc),
@@ -92,7 +90,7 @@ fn serve_asked<
         + Store
         + Net
         + AllocGlobal,
->(rt: &R, path: String, serving: Serving, people: bool) -> Outcome
+>(rt: &R, path: String, serving: Serving) -> Outcome
     requires within { IsWithin serving }
     ensures asked { result.asked ≡ Some (path, serving) }
     ensures done { result.end ≡ Done → HaveEnded result.asked result.sessions.items }
@@ -105,12 +103,13 @@ fn serve_asked<
                 Ok(sessions) => (End::Done, sessions),
                 Err(end) => (end, Vec::new(alloc)),
             };
-            explain(rt, path.as_str(), &end, fault, people);
+            explain(rt, path.as_str(), "", &end, fault);
             (end, sessions)
         }
         Serving::Standing(how) => {
             let (end, fault) = keep_serving(rt, alloc, path.as_str(), how);
-            explain(rt, path.as_str(), &end, fault, people || how.is_verbose);
+            let traces = how.traces.as_ref().map_or("", |dir| dir.as_str());
+            explain(rt, path.as_str(), traces, &end, fault);
             (end, Vec::new(alloc))
         }
     };
@@ -122,8 +121,8 @@ fn serve_asked<
 }
 
 /// Serves where the words of the command line ask for it, and answers what came of it; `None` where they ask for
-/// something else, or are wrong. `listening` and `done` go to standard output, and what stopped it to standard error, for
-/// people at a terminal also what was wrong at the path.
+/// something else, or are wrong. `listening` and `done` go to standard output, and what stopped it to standard error, with
+/// what was wrong at the path.
 pub fn serve_by_words<
     R: Threads
         + Wait
@@ -139,7 +138,7 @@ pub fn serve_by_words<
         + Store
         + Net
         + AllocGlobal,
->(rt: &R, words: &[String], people: bool) -> Option<Outcome>
+>(rt: &R, words: &[String]) -> Option<Outcome>
     ensures only { IfSome result (λ _. IsTrue (asks_to_serve (map string_bytes words.now))) }
     ensures rightly { IsTrue (asks_to_serve (map string_bytes words.now)) → (n : ℕ)
         → AreServe (map string_bytes words.now) n → IsSome result }
@@ -149,7 +148,7 @@ pub fn serve_by_words<
         return None;
     }
     match asked_to_serve(rt.alloc(), words) {
-        Ok(Some((path, serving))) => Some(serve_asked(rt, path, serving, people)),
+        Ok(Some((path, serving))) => Some(serve_asked(rt, path, serving)),
         Ok(None) => None,
         Err(_) => Some(unread(rt, rt.alloc())),
     }

@@ -7,7 +7,7 @@ use Rattle.th_check.specs.declared.parts.Joined.{Joined}
 use Rattle.th_check.specs.declared.parts.Joined.TheVariants.{Apart}
 use Rattle.th_program.specs.PartNames.{GoesOn}
 use Rattle.std.proofs.lemmas.List.{take_all}
-use Rattle.th_program.specs.Files.{IsNext, TellsBroken, TellsHistory, place_of}
+use Rattle.th_program.specs.Files.{IsNext, TellsBroken, TellsHistory, place_of, wanted_of}
 use Rattle.th_program.proofs.Placing.{place_low, place_room}
 use Rattle.th_program.proofs.Telling.{UpTo, ends_broken, ends_misplaced, ends_told, goes_on, history_more, never_on, no_history, one_more, split_at}
 use Rattle.th_program.proofs.files.check_joined.Goals as goal
@@ -28,7 +28,8 @@ returns-in_default g c =
     let same = ap (λ (o : Tally g.row.W.Denot). g.W.Write.contents o.device) c.loop-name.invariant.same in
     let tells = subst (λ (o : Option (List ℕ)). TellsBroken name said o after ends) same
     (subst (λ (n : List ℕ). TellsBroken n said mid after ends) c.as_str-in_default.ensures.value c.tell_broken.ensures) in
-    ends_broken holds c.args.whole (map string_bytes names) (map string_bytes (take i names)) (map string_bytes (drop (i + 1) names)) name
+    ends_broken holds (wanted_of c.args.wanted) (map string_bytes names) (map string_bytes (take i names))
+    (map string_bytes (drop (i + 1) names)) name
     (split_at string_bytes names i c.name-item.result c.loop-name-test.true c.name-item.is) c.loop-name.count c.loop-name.history
     there c.loop-name.place c.loop-name.invariant.up _ after said next (never_on said (sym c.in_default.ensures)) ends tells
 
@@ -96,12 +97,13 @@ returns-in_default-placed g c =
     let tells = subst (λ (o : Option (List ℕ)). TellsBroken name apart o after ends) same
     (subst (λ (n : List ℕ). TellsBroken n apart mid after ends) c.as_str-in_default-placed.ensures.value
     c.tell_broken-in_default-placed.ensures) in
-    ends_misplaced holds c.args.whole (map string_bytes names) (map string_bytes (take i names)) (map string_bytes (drop (i + 1) names)) name
+    ends_misplaced holds (wanted_of c.args.wanted) (map string_bytes names) (map string_bytes (take i names))
+    (map string_bytes (drop (i + 1) names)) name
     (split_at string_bytes names i c.name-item.result c.loop-name-test.true c.name-item.is) count c.loop-name.history there place up
     _ after more e legal goes ends tells
 
-pub returns : goal.returns
-returns g c =
+pub returns-in-Ok-lack_in : goal.returns-in-Ok-lack_in
+returns-in-Ok-lack_in g c =
     let holds = g.O.Opens.holds c.args.files.now in
     let names = c.args.names.now in
     let place = c.loop-name.place in
@@ -112,7 +114,7 @@ returns g c =
     let same = ap (λ (o : Tally g.row.W.Denot). g.W.Write.contents o.device) c.loop-name.invariant.same in
     let after = g.W.Write.contents c.tell_history.new.output.device in
     let tells = subst (λ (o : Option (List ℕ)).
-    TellsHistory (map string_bytes names) count (place_of place) c.lack_if-lack.result o after c.tell_history.result) same
+    TellsHistory (map string_bytes names) count (place_of place) c.in-Ok-lack_in.lack o after c.tell_history.result) same
     (c.tell_history.ensures (place_room up.history.files count place up.history.placed up.counted)) in
-    ends_told holds c.args.whole (map string_bytes names) count there (place_of place) up.history _ after c.lack_if-lack.result
-    c.lack_if-lack.ensures c.tell_history.result tells
+    ends_told holds (wanted_of c.args.wanted) (map string_bytes names) count there (place_of place) up.history _ after c.in-Ok-lack_in.lack
+    c.in-Ok-lack_in.ensures c.tell_history.result tells

@@ -3,9 +3,9 @@ use Rattle.clap.specs.Words.{HasKind, Kinds, fault_of, is_simple_and_free, subco
 use Rattle.clap.specs.declared.error.kind.ErrorKind.TheVariants as kind
 use Rattle.std.proofs.lemmas.Bool.{false≢true}
 use Rattle.th_program.specs.declared.modes.Asked.{Asked}
-use Rattle.th_program.specs.Words.{GivesReplay, HasFiles, arguments_by, arguments_of, asked_of, command_line, files_of, is_joined, is_whole, list_of}
+use Rattle.th_program.specs.Words.{GivesReplay, HasFiles, arguments_by, arguments_of, asked_of, command_line, files_of, has_anchors, is_joined, is_whole, list_of}
 use Rattle.th_program.proofs.Checking.{only_check}
-use Rattle.th_program.proofs.CommandLine.{arguments_are, check_named, check_passes, help_fails, is_plain, mode_by, name_is, no_files, no_list, none_fails, not_joined, not_whole, number_by, on_ok, replay_named, replay_passes, version_fails}
+use Rattle.th_program.proofs.CommandLine.{arguments_are, check_named, check_passes, help_fails, is_plain, mode_by, name_is, no_files, no_list, none_fails, not_anchored, not_joined, not_whole, number_by, on_ok, replay_named, replay_passes, version_fails}
 use Rattle.th_program.proofs.words.mode.Goals as goal
 use Rattle.th_program.proofs.words.mode.Goals.{After-refused}
 
@@ -96,10 +96,12 @@ returns-in-Ok-try_get_matches_from-clause-check c = λ (name, words).
     let unlisted = ap list_of rows ∙ ap (λ ws. list_of (arguments_by ws)) words ∙ no_list name in
     let apart = ap is_joined rows ∙ ap (λ ws. is_joined (arguments_by ws)) words ∙ not_joined name in
     let partial = ap is_whole rows ∙ ap (λ ws. is_whole (arguments_by ws)) words ∙ not_whole name in
+    let untold = ap has_anchors rows ∙ ap (λ ws. has_anchors (arguments_by ws)) words ∙ not_anchored name in
     only_check (asked_of (subcommand_name_of m)) (arguments_of (subcommand_rows_of m)) c.taken.result asked none unlisted c.taken.ensures.mode
     (c.taken.ensures.other (λ serves. let e : Asked.Check ≡ Asked.Serve = sym asked ∙ serves in cc)
     (record {
       whole = λ whole. absurd (false≢true (sym partial ∙ whole));
+      anchored = λ told. absurd (false≢true (sym untold ∙ told));
       some = λ joined. absurd (false≢true (sym apart ∙ joined));
       one = λ some. unlisted;
     }))

@@ -1,5 +1,5 @@
-use Rattle.th_server.specs.Sums.{Takes}
-use Rattle.th_server.proofs.sums.add_all.Given as goal
+use Rattle.th_program.specs.Sums.{Takes}
+use Rattle.th_program.proofs.sums.add_all.Given as goal
 
 abbrev pub invariant-loop : goal.invariant-loop
 invariant-loop g l = record {

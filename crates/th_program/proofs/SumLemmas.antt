@@ -3,7 +3,7 @@ use Rattle.std.proofs.Common.{ℕ, List, Option, [], ◌++◌, append-nil, appen
 use Rattle.std.proofs.KnownBytes.{Consumes-nil, Consumes-trans}
 use Rattle.sha2.specs.Hashers.{Holds256}
 use Rattle.sha2.specs.declared.Sha256.{Sha256}
-use Rattle.th_server.specs.Sums.{Takes}
+use Rattle.th_program.specs.Sums.{Takes}
 
 -- before anything was read
 pub Takes-none : (r : Option (List ℕ)) (h : Sha256) → Takes r r h h
