@@ -145,6 +145,15 @@ class Page:
         for kind in ("mousePressed", "mouseReleased") if click else ():
             self.call("Input.dispatchMouseEvent", type=kind, x=x, y=y, button="left", clickCount=1)
 
+    def drag(self, begin, end):
+        """From one point to another with the button down."""
+        x, y = begin
+        self.call("Input.dispatchMouseEvent", type="mouseMoved", x=x, y=y)
+        self.call("Input.dispatchMouseEvent", type="mousePressed", x=x, y=y, button="left", clickCount=1)
+        x, y = end
+        self.call("Input.dispatchMouseEvent", type="mouseMoved", x=x, y=y, button="left")
+        self.call("Input.dispatchMouseEvent", type="mouseReleased", x=x, y=y, button="left", clickCount=1)
+
     def picture(self, path, whole=True):
         """A screenshot of the whole page, or of what is in view."""
         told = self.call("Page.captureScreenshot", format="png", captureBeyondViewport=whole)

@@ -1,14 +1,21 @@
-"""Makes a page of a trace: a slider through its entries, the state at each, the drawing, and all entries in words."""
+"""Makes a page of a timeline: a slider through its entries, the chart, the state at each entry, and all entries in words.
+
+The script draws the chart and tells the state, from the lines of the timeline and the sentences; so the page of a long trace is no
+more than these.
+"""
 import json
 import os
+import re
 import string
 
-from drawing import svg, topic, words
-from drawing.svg import escaped
+from drawing import canvas, chart, strips, timeline, words
+from drawing.canvas import escaped
 
 HERE = os.path.dirname(os.path.abspath(__file__))
-NARROW, WIDE = 4, 11  # columns of the two drawings, of which the page shows the one that fits
-IDLE = 3  # so many cells in turn that are alike become one
+NARROW, WIDE = 4, 11  # columns of the two drawings of strips, of which the page shows the one that fits
+# What the script takes of the chart.
+SHARED = ("BELOW", "COLOURS_OF_LINES", "DOTS", "FEW", "LINE", "NEAR", "ROW", "SHORT", "THIN", "VALUES")
+LISTED = 300  # entries up to which all are listed in words
 
 
 def read(name):
@@ -16,89 +23,85 @@ def read(name):
         return file.read()
 
 
-# ---- the state at each entry
+# ---- what the script takes
 
-def kind_teller(topic_):
-    """Tells what has become of the value at a position or a version."""
-    if topic_.kind == "W":
-        return lambda at: "kept" if at == topic_.version else "replaced"
-    low, last = topic_.low(), topic_.last_place()
-    return lambda at: "next" if at >= topic_.next else "kept" if at >= low else "missed" if at >= last else "let go"
-
-
-def standing(topic_, lanes, names):
-    """Who of those that have a lane stands at a position, or has the mark at a version: by each of these, in words."""
-    here = {}
-    for lane in lanes:
-        at = topic_.receivers.get(lane.number)
-        if at is not None and (at or topic_.kind == "B"):
-            here.setdefault(at, []).append(names[lane.number] or f"{lane.side} {lane.number}")
-    return here
+def risen(numbers, base=0):
+    """Each number by what it is more than the one before; None stays."""
+    found, last = [], base
+    for number in numbers:
+        found.append(None if number is None else number - last)
+        last = last if number is None else number
+    return found
 
 
-def edges(topic_, here):
-    """The positions or versions at which a run of like cells may begin or end, rising."""
-    if topic_.kind == "W":
-        first = min([*here, max(topic_.first, topic_.version - IDLE)])
-        return sorted({first, *here, topic_.version, topic_.next})
-    places = [min(place, topic_.next) for place in here]
-    window = max(topic_.next - topic_.capacity, topic_.first)
-    return sorted({*places, window, topic_.low(), topic_.next, topic_.next + 1})
+def steps_data(steps, base=0):
+    return [risen(steps.entries), risen(steps.values, base)]
 
 
-def runs_of(topic_, here):
-    """The strip's cells, each a range of positions or versions: one alone, or many that are alike."""
-    ends = edges(topic_, here)
-    for begin, end in zip(ends, ends[1:]):
-        own = begin + 1 if begin in here else begin
-        yield from ((at, at + 1) for at in range(begin, own))
-        if end - own > IDLE:
-            yield own, end
-        else:
-            yield from ((at, at + 1) for at in range(own, end))
+def raised(tale, places):
+    """Places above the first one; of a watch topic -1 for a mark that was taken away."""
+    for place in places:
+        yield -1 if tale.kind == "W" and place == 0 else None if place is None else place - tale.first
 
 
-def cells(topic_, lanes, names):
-    """The strip of positions or versions: of each its label, its value, what has become of it, and who stands there."""
-    here, kind_of = standing(topic_, lanes, names), kind_teller(topic_)
-    for at, end in runs_of(topic_, here):
-        is_one = end == at + 1
-        yield [str(at) if is_one else f"{at} to {end - 1}", topic_.values.get(at, "") if is_one else "\u2026",
-               kind_of(at), here.get(at, [])]
+def line_data(line, tale, names, is_shown):
+    """A handle; of a receiver also its places, and of a watch topic where it is drawn."""
+    found = {"number": line.number, "side": line.side, "name": names[line.number], "begin": line.begin, "end": line.end}
+    if line.places:
+        found["places"] = [risen(line.places.entries), risen(raised(tale, line.places.values))]
+        found["heights"] = steps_data(line.heights, tale.first) if tale.kind == "W" else None
+        found["lags"] = [[entry, place - tale.first, count] for entry, place, count in line.lags]
+        found["record"] = chart.record(tale, line)
+        found["isShown"] = is_shown
+    return found
 
 
-def moment(topic_, lanes, names, made):
-    """What the page shows of the topic at one entry."""
-    return {
-        "facts": list(words.of_topic(topic_)),
-        "cells": list(cells(topic_, lanes, names)),
-        "handles": [words.of_handle(topic_, lane.side, lane.number, lane.number in made) for lane in lanes],
+def texts_data(trace, sentences):
+    """What each entry tells, its call and its reply: the texts without their numbers, each once, and then by entry which text it is
+    and its numbers. So that a long trace, whose texts are much alike, takes little."""
+    known, rows = {}, []
+    for entry, sentence in zip([None, *trace.entries], sentences):
+        whole = "\u0001".join([sentence, entry.call_line, entry.reply_line] if entry else [sentence])
+        text = re.sub("[0-9]+", "\u0000", whole)
+        rows.append(" ".join([str(known.setdefault(text, len(known))), *re.findall("[0-9]+", whole)]))
+    return {"texts": list(known), "rows": "\n".join(rows)}
+
+
+def handles_of(tale):
+    """The handles in the table: senders first, of each kind no more than are drawn."""
+    senders = [line for line in tale.lines.values() if line.side == "sender"]
+    senders = sorted(senders, key=lambda line: (line.number not in tale.sent, line.number))[:chart.LINES]
+    return sorted(senders, key=lambda line: line.number) + tale.shown(chart.LINES)
+
+
+def data_of(trace, tale, shown, sentences, names):
+    """Numbers of positions are those above the first one. No `<` is left in it, so nothing in it ends the element."""
+    told = {
+        "kind": tale.kind, "capacity": tale.capacity, "first": str(tale.first), "low": tale.low - tale.first, "last": tale.total,
+        "chart": {name: getattr(chart, name) for name in SHARED}, "shown": shown, "lag": tale.first_lag(),
+        "sent": chart.sent_label(tale, names), "missed": chart.MISSED[tale.kind],
+        "top": steps_data(tale.top, tale.first), "slowest": steps_data(tale.slowest, tale.first),
+        "live": [steps_data(count) for count in tale.live],
+        "said": [risen(entry for entry, _, _ in tale.said), [value for _, _, value in tale.said]],
+        "lines": [line_data(line, tale, names, line.places is not None) for line in handles_of(tale)],
+        **texts_data(trace, sentences),
     }
-
-
-def moments(trace, lanes, names):
-    """The state at the beginning, and after each entry."""
-    first = topic.at_first(trace)
-    made = {*first.senders, *first.receivers}
-    yield moment(first, lanes, names, made)
-    for entry, _, now in topic.walk(trace):
-        made.update([entry.made] if entry.made else [])
-        yield moment(now, lanes, names, made)
+    return json.dumps(told, ensure_ascii=False, separators=(",", ":")).replace("<", "\\u003c")
 
 
 # ---- the page
 
-def handle_row(lane, names):
-    name = names[lane.number]
-    title = f"{lane.side} {lane.number}"
+def handle_row(line, names):
+    name = names[line.number]
+    title = f"{line.side} {line.number}"
     head = f"{escaped(name)} <small>{title}</small>" if name else title
     return f"<tr><th scope='row'>{head}</th><td></td></tr>"
 
 
 def drawings(story, sentences, names, across):
-    """The drawing; or, where the width is left to the page, one for narrow screens and one for others."""
+    """The strips; or, where the width is left to the page, those for narrow screens and those for others."""
     def drawn(columns, mark):
-        return svg.svg(story, sentences, names, columns, mark)
+        return strips.svg(story, sentences, names, columns, story.subject, mark)
 
     if across:
         return f"<div class='drawing'>{drawn(across, 'missed')}</div>"
@@ -106,34 +109,43 @@ def drawings(story, sentences, names, across):
             f"<div class='drawing wide'>{drawn(WIDE, 'missed-wide')}</div>")
 
 
+def strips_part(story, sentences, names, across):
+    """The section of the strips, where there are any."""
+    if story is None:
+        return ""
+    left_out = "".join(f"<p class='left-out'>{escaped(line)}</p>" for line in strips.left_out(story))
+    return string.Template(read("strips.html")).substitute(
+        left_out=left_out, drawings=drawings(story, sentences, names, across),
+        what="positions" if story.kind == "B" else "versions")
+
+
 def entry_rows(trace, sentences):
-    for entry, sentence in zip(trace.entries, sentences[1:]):
+    for entry, sentence in zip(trace.entries[:LISTED], sentences[1:]):
         yield (f"<li><a href='#{entry.count}'>{escaped(sentence)}</a> "
                f"<code>{escaped(entry.call_line)}</code> <code>{escaped(entry.reply_line)}</code></li>")
 
 
-def data_of(trace, story, sentences, names):
-    """What the script takes. No `<` is left in it, so nothing in it ends the element."""
-    lines = [[], *([entry.call_line, entry.reply_line] for entry in trace.entries)]
-    lanes = svg.lanes_of(story)[:svg.LANES]
-    told = [{"sentence": sentence, "lines": both, **now}
-            for sentence, both, now in zip(sentences, lines, moments(trace, lanes, names))]
-    return json.dumps(told, ensure_ascii=False, separators=(",", ":")).replace("<", "\\u003c")
-
-
-def html(trace, story, sentences, names, across):
-    lanes = svg.lanes_of(story)[:svg.LANES]
+def html(trace, tale, shown, story, sentences, names, across):
+    handles = handles_of(tale)
+    left_out = len(tale.lines) - len(handles)
     return string.Template(read("page.html")).substitute(
-        title=escaped(svg.title_of(story)),
-        style=svg.style() + read("page.css"),
-        left_out="".join(f"<p class='left-out'>{escaped(line)}</p>" for line in svg.left_out(story)),
-        what="positions" if story.kind == "B" else "versions",
-        pointer="Who stands below a position reads it next." if story.kind == "B" else
-        "Who stands below a version has seen up to there.",
-        last=len(trace.entries),
-        handles="\n".join(handle_row(lane, names) for lane in lanes),
-        drawings=drawings(story, sentences, names, across),
+        title=escaped(timeline.finding(tale, names)),
+        subject=escaped(timeline.subject(tale)),
+        style=canvas.variables() + chart.style() + (strips.style() if story else "") + read("page.css"),
+        left_out=f"<p class='left-out'>{left_out} of {len(tale.lines)} handles are left out: those that missed least.</p>"
+        if left_out else "",
+        what="positions" if tale.kind == "B" else "versions",
+        pointer="A receiver below a position reads it next." if tale.kind == "B" else
+        "A reader below a version has seen up to there.",
+        side="receiver" if tale.kind == "B" else "reader",
+        window=f"the window, {words.plural(tale.capacity, 'value', ',')}" if tale.kind == "B" else "1 version",
+        last=tale.total,
+        handles="\n".join(handle_row(line, names) for line in handles),
+        still=chart.svg(tale, sentences, names, shown),
+        layout="" if story else " class='without-strips'",
+        strips=strips_part(story, sentences, names, across),
+        listed="All entries in words" if tale.total <= LISTED else f"The first {LISTED} entries in words",
         entries="\n".join(entry_rows(trace, sentences)),
-        data=data_of(trace, story, sentences, names),
-        script=read("page.js"),
+        data=data_of(trace, tale, shown, sentences, names),
+        script="\n".join(read(name) for name in ("state.js", "chart.js", "page.js")),
     )

@@ -1,6 +1,7 @@
 """A trace as a story: a lane for each handle, and in it what happened, at a position or a version."""
 from drawing import topic as topics
 
+ENTRIES = 300  # entries told at most; the others are counted
 IDLE = 3  # so many columns in turn at which nothing happens become one
 
 # Replies whose own words would be too long, or too terse.
@@ -20,20 +21,24 @@ class Note:
 
 
 class Lane:
-    """A handle: its notes in order; of a reader also where its mark stood, as (entry, version, is it seen)."""
+    """A handle: its notes in order; of a reader also where its mark stood, as (entry, version, is it seen).
+
+    Of a receiver that is there in the end, `place` is the position it reads next, and `behind` tells how many were sent since.
+    """
 
     def __init__(self, number, side):
         self.number, self.side = number, side
         self.notes, self.marks = [], []
+        self.place, self.behind = None, 0
 
 
 class Story:
     """The lanes by handle number, the values of each column as (entry, value), and each move of the window."""
 
-    def __init__(self, trace):
+    def __init__(self, trace, subject):
         topic = topics.at_first(trace)
-        self.kind, self.capacity = trace.kind, trace.capacity
-        self.entries, self.told = trace.total, len(trace.entries)
+        self.kind, self.capacity, self.subject = trace.kind, trace.capacity, subject
+        self.entries, self.told = len(trace.entries), min(len(trace.entries), ENTRIES)
         self.lanes, self.windows = {}, []
         self.values = {at: [(0, value)] for at, value in topic.values.items()}
         self.first = topic.first
@@ -42,9 +47,12 @@ class Story:
         for receiver in topic.receivers:
             self.begin(0, topic, receiver)
         self.move_window(0, topic)
-        for entry, at, topic in topics.walk(trace):
+        for entry, at, topic in topics.walk(trace, ENTRIES):
             self.tell(entry, at, topic)
         self.next = topic.next
+        for receiver in topic.receivers if self.kind == "B" else ():
+            lane = self.lanes[receiver]
+            lane.place, lane.behind = topic.places[receiver], topic.next - topic.places[receiver]
 
     def lane(self, number, side):
         return self.lanes.setdefault(number, Lane(number, side))

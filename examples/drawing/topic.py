@@ -115,10 +115,10 @@ def at_first(trace):
     return (Broadcast if trace.kind == "B" else Watch)(trace)
 
 
-def walk(trace):
-    """Each entry, the position or version at which its call stands, and the topic after it (one object, carried on)."""
+def walk(trace, most=None):
+    """Each of the first entries, the position or version at which its call stands, and the topic after it (one object, carried on)."""
     topic = at_first(trace)
-    for entry in trace.entries:
+    for entry in trace.entries[:most]:
         at = topic.at(entry)
         topic.follow(entry)
         yield entry, at, topic

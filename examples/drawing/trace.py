@@ -3,7 +3,6 @@
 What a reply tells is taken as it is: whether it is right, `topichub check` says.
 """
 
-ENTRIES = 300  # entries kept at most; the others are counted
 SHOWN = 60  # letters shown of a line that is wrong
 
 SENDER_CALLS = {
@@ -29,6 +28,8 @@ def number(word):
 
 def printable(text):
     """The text with a mark in place of each letter that is not shown."""
+    if text.isprintable():
+        return text
     return "".join(letter if letter.isprintable() else "\ufffd" for letter in text)
 
 
@@ -61,13 +62,13 @@ class Entry:
 
 
 class Trace:
-    """The picture that a trace begins with, and its entries: the first ones, and how many there are in all."""
+    """The picture that a trace begins with, and its entries."""
 
     def __init__(self, kind, capacity):
         self.kind, self.capacity = kind, capacity
         self.low = self.next = 0  # the first kept position or version, and the next one
         self.kept, self.senders, self.receivers = [], [], []
-        self.entries, self.total = [], 0
+        self.entries = []
 
     def picture_line(self, line):
         word, _, rest = line.partition(" ")
@@ -124,13 +125,9 @@ def read_picture(lines, trace):
 
 def read_entries(lines, trace):
     while not (line := lines.take()).startswith("END "):
-        trace.total += 1
-        if trace.total <= ENTRIES:
-            trace.entries.append(Entry(trace.total, trace.kind, line))
-            trace.entries[-1].answer(lines.take())
-        elif not (line.startswith("C ") and lines.take().startswith("R ")):
-            raise ValueError
-    if number(line[4:]) != trace.total:
+        trace.entries.append(Entry(len(trace.entries) + 1, trace.kind, line))
+        trace.entries[-1].answer(lines.take())
+    if number(line[4:]) != len(trace.entries):
         raise ValueError
 
 

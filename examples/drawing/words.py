@@ -70,8 +70,10 @@ SHOWN = {
 }
 
 
-def plural(count, word):
-    return f"{count} {word}" if str(count) == "1" else f"{count} {word}s"
+def plural(count, word, form=""):
+    """A number with its noun; the form is that of `format`, such as a comma between thousands."""
+    many = word[:-1] + "ies" if word.endswith("ry") else word + "s"
+    return f"{count:{form}} {word}" if str(count) == "1" else f"{count:{form}} {many}"
 
 
 def quoted(value):
@@ -92,6 +94,10 @@ class Names:
 
     def __getitem__(self, handle):
         return self.names.get(handle)
+
+    def short(self, line):
+        """The name of a handle, or what and which it is."""
+        return self[line.number] or f"{line.side} {line.number}"
 
     def of(self, side, handle):
         """The handle in a sentence."""
@@ -141,52 +147,3 @@ def sentence(entry, at, topic, names):
         place=topic.receivers.get(made, at) if made else "",
     )
     return f"{who} {told}."
-
-
-# ---- the state
-
-def of_topic(topic):
-    """What is kept and who is live, in one sentence each."""
-    if topic.kind == "W":
-        yield f"Kept: version {topic.version}, {quoted(topic.values[topic.version])}."
-    elif topic.low() < topic.next:
-        kept = topic.next - topic.low()
-        yield f"Kept: {plural(kept, 'value')}, at {span('position', topic.low(), topic.next - 1)}."
-    else:
-        yield "Kept: nothing."
-    live = f"{plural(len(topic.senders), 'sender')} and {plural(len(topic.receivers), topic.receiver_side)}"
-    yield f"Live: {live}." if topic.senders else f"Live: {live}; without a sender the channel is closed."
-
-
-def of_receiver(topic, receiver):
-    place = topic.places[receiver]
-    begin = topic.next - topic.capacity
-    if place >= topic.next:
-        return f"has read everything; position {place} is next"
-    if place < begin:
-        missed = f"has missed {plural(begin - place, 'value')}, at {span('position', place, begin - 1)}"
-        return f"{missed}, and is to be told so"
-    to_come = f"{plural(topic.next - place, 'value')} to come"
-    value = topic.values.get(place)
-    return f"reads position {place} next" + (f", {quoted(value)}" if value is not None else "") + f"; {to_come}"
-
-
-def of_reader(topic, reader):
-    mark = topic.marks[reader]
-    if mark == topic.version:
-        return f"has seen version {mark}, the newest"
-    if mark is None:
-        return f"version {topic.version} is unseen"
-    if mark == 0:
-        return f"version {topic.version} is marked as unseen"
-    return f"version {topic.version} is unseen; the mark is at version {mark}"
-
-
-def of_handle(topic, side, handle, was_made):
-    """A handle's state."""
-    if side == "sender":
-        if handle in topic.senders:
-            return "live"
-    elif handle in topic.receivers:
-        return of_receiver(topic, handle) if topic.kind == "B" else of_reader(topic, handle)
-    return "has ended" if was_made else "is not there yet"
