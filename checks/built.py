@@ -113,11 +113,12 @@ def kind(library):
 
 
 def c_program(name, library, folder):
-    """The program bench/NAME.c over the library in its folder, in the other folder."""
+    """The program bench/NAME.c over the library in its folder, with the channels that block, in the other folder."""
     need_tool("gcc", f"compiles bench/{name}.c")
     program = os.path.join(folder, name)
     subprocess.run(["gcc", "-O2", "-pthread", "-I", os.path.join(ROOT, "lib", "c"), "-o", program,
-                    os.path.join(ROOT, "bench", name + ".c"), os.path.join(library, "libtopichub.a")], check=True)
+                    os.path.join(ROOT, "bench", name + ".c"), os.path.join(C, "topichub_threads.c"),
+                    os.path.join(library, "libtopichub.a")], check=True)
     return program
 
 

@@ -109,6 +109,19 @@ take_library() {
     readelf -dW "$room/$soname" | grep -qF "soname: [$soname]" || fail "$soname has another soname"
 }
 
+# Puts libtopichub_threads.a and its shared library into the room, from where take_library found the other. Sets soname_threads,
+# libtopichub_threads.so.0.
+take_threads() {
+    soname_threads=libtopichub_threads.so.${soname##*.so.}
+    for file in libtopichub_threads.a "$soname_threads"; do
+        [ -f "$from/$file" ] || fail "$from has no file $file"
+        cp -- "$from/$file" "$room/$file"
+        chmod 644 "$room/$file"
+    done
+    strip_of --strip-debug "$room/libtopichub_threads.a"
+    strip_of --strip-unneeded "$room/$soname_threads"
+}
+
 # The libraries that a program or a library needs, by their sonames.
 needed_by() {
     readelf -dW "$1" | sed -n 's/.*(NEEDED).*\[\(.*\)\]/\1/p'
@@ -204,20 +217,24 @@ stage() {
     stage_documents "$share/doc/topichub"
 }
 
-# stage_shared LIB: the shared library, in the folder of libraries.
-stage_shared() {
-    put 644 "$room/$soname" "$1"
+# stage_for_compilers FOLDER LIB PREFIX: what a compiler takes besides the shared libraries: the headers in the folder; the archives,
+# the links to the shared libraries and what pkg-config takes in its folder LIB. PREFIX is where the folder will stand, as pkg-config is
+# told it.
+stage_for_compilers() {
+    put 644 "$root/lib/c/topichub.h" "$root/lib/c/topichub_threads.h" "$1/include"
+    put 644 "$room/libtopichub.a" "$room/libtopichub_threads.a" "$1/$2"
+    ln -s "$soname" "$1/$2/libtopichub.so"
+    ln -s "$soname_threads" "$1/$2/libtopichub_threads.so"
+    for name in topichub topichub-threads; do
+        make --silent -C "$root/lib/c" KIND=proved BUILD="$room/made" PREFIX="$3" LIBDIR="$3/$2" "$room/made/$name.pc" >&2
+        put 644 "$room/made/$name.pc" "$1/$2/pkgconfig"
+    done
+    rm -r "$room/made"
 }
 
-# stage_for_compilers FOLDER LIB PREFIX: what a compiler takes besides: the header in the folder; the archive, the link to the shared
-# library and topichub.pc in its folder LIB. PREFIX is where the folder will stand, as topichub.pc says it.
-stage_for_compilers() {
-    put 644 "$root/lib/c/topichub.h" "$1/include"
-    put 644 "$room/libtopichub.a" "$1/$2"
-    ln -s "$soname" "$1/$2/libtopichub.so"
-    make --silent -C "$root/lib/c" KIND=proved BUILD="$room/made" PREFIX="$3" LIBDIR="$3/$2" "$room/made/topichub.pc" >&2
-    put 644 "$room/made/topichub.pc" "$1/$2/pkgconfig"
-    rm -r "$room/made"
+# stage_examples FOLDER: the examples in C.
+stage_examples() {
+    put 644 "$root"/lib/c/examples/*.c "$1"
 }
 
 # put_as_is FILE FOLDER: copies the file into the folder, to be run where it can be run here.
@@ -225,7 +242,7 @@ put_as_is() {
     if [ -x "$1" ]; then put 755 "$1" "$2"; else put 644 "$1" "$2"; fi
 }
 
-# stage_documents FOLDER: the documents, as their links want them to stand, and the examples with the Python that they use.
+# stage_documents FOLDER: the documents, without the links to what is not installed, and the examples with the Python that they use.
 # examples/check and examples/beside are left out, since they run the repository's program.
 stage_documents() {
     put 644 "$root/README.md" "$1"
@@ -243,6 +260,7 @@ stage_documents() {
     for file in "$root"/lib/python/topichub/*.py "$root/lib/python/topichub/py.typed"; do
         [ "${file##*/}" = bridge.py ] || put 644 "$file" "$1/lib/python/topichub"
     done
+    "$here/unlink.py" "$1"
 }
 
 # hand_over FILE..: puts what was made into the folder, and prints its names there.

@@ -25,7 +25,7 @@ LEAST_LIMIT = 3
 
 
 class Waiters:
-    """Those who wait for news, each as the function that wakes it. Used under the lock of a channel."""
+    """Those who wait for news, each represented by the function that wakes it. Used under the lock of a channel."""
 
     def __init__(self) -> None:
         self._wakes: dict[int, Callable[[], None]] = {}
@@ -40,7 +40,7 @@ class Waiters:
         self._wakes.pop(number, None)
 
     def take(self) -> list[Callable[[], None]]:
-        """All who wait, to be woken once the lock is released."""
+        """All that wait, to be woken once the lock is released."""
         taken, self._wakes = list(self._wakes.values()), {}
         return taken
 
@@ -48,8 +48,8 @@ class Waiters:
 class Core:
     """A channel of the library, which takes one call at a time: each call below is made within `turn`.
 
-    The garbage collector may find a handle in the middle of a call. So its drop is only noted, and carried out by whoever holds the
-    lock then, or takes it next.
+    The garbage collector may find a handle in the middle of a call. So its drop is only noted, and is carried out by the caller that
+    holds the lock then, or takes it next.
     """
 
     def __init__(self, kind: str, argument: int, more: int, limit: Optional[int]) -> None:
@@ -83,7 +83,7 @@ class Core:
             self._drop_found()
 
     def call(self, name: str, *numbers: int) -> Reply:
-        """Makes a call. If the history has no room for it, the next part begins."""
+        """Makes a call. If the history has no room for it, the next segment begins."""
         reply: Reply = self._function(name)(ctypes.byref(self._handle), *numbers)
         if reply.status == Status.LOG_FULL:
             self._full.append(self._cut())
@@ -114,7 +114,7 @@ class Core:
             raise TooMany(f"the channel has 65,535 {handles}, the most that it can have") from None
 
     def drop(self, name: str, number: int) -> tuple[int, list[Callable[[], None]]]:
-        """Drops a handle, by `drop_tx` or `drop_rx`. Returns how many values are released, and what wakes those who waited for it."""
+        """Drops a handle, by `drop_tx` or `drop_rx`. Returns how many values are released, and what wakes those that waited for it."""
         reply = self.call(name, number)
         if reply.status == Status.NOT_OPEN:  # the garbage collector has found the channel first
             return 0, []
@@ -138,7 +138,7 @@ class Core:
         del gone
 
     def drop_later(self, name: str, number: int) -> None:
-        """As `drop_now`, for the garbage collector."""
+        """Like `drop_now`, for the garbage collector."""
         self._found.append((name, number))
         self._drop_found()
 
@@ -164,7 +164,7 @@ class Core:
         return trace
 
     def trace(self) -> str:
-        """The next part of the recorded history."""
+        """The next segment of the recorded history."""
         if not self._is_recorded:
             raise ValueError("the channel was made without `recorded`")
         with self.turn():
@@ -206,7 +206,7 @@ class Held:
 
 
 def refuse(status: int) -> NoReturn:
-    """Raises the error for a status that is not an answer."""
+    """Raises the error for a status that is not a result."""
     if status == Status.TOO_MANY:
         raise TooMany
     if status == Status.NO_MEMORY:
@@ -230,7 +230,7 @@ def wake_all(wakes: list[Callable[[], None]]) -> None:
 
 
 def many(first: A, more: Callable[[], A], most: int) -> list[A]:
-    """The first one, and what follows until one cannot be had, at most so many. Why it could not, the next call is told."""
+    """The first result and those that follow, at most `most`, until one is not available. The next call reports why."""
     found = [first]
     with contextlib.suppress(ChannelError, MemoryError):
         while len(found) < most:
@@ -240,7 +240,7 @@ def many(first: A, more: Callable[[], A], most: int) -> list[A]:
 
 def wait(core: Core, waiters: Waiters, attempt: Callable[[], A], timeout: Optional[float]) -> A:
     """The result of `attempt`, which is made within a turn, and again after each wake while it raises `Empty`. Raises
-    `TimeoutError` after this many seconds. It takes nothing but by an attempt, so a wait that ends otherwise loses nothing."""
+    `TimeoutError` after this many seconds. Only an attempt takes anything, so a wait that ends in another way loses nothing."""
     limit = Limit(timeout)
     while True:
         woken = threading.Event()
@@ -257,7 +257,7 @@ def wait(core: Core, waiters: Waiters, attempt: Callable[[], A], timeout: Option
 
 
 async def wait_async(core: Core, waiters: Waiters, attempt: Callable[[], A], timeout: Optional[float]) -> A:
-    """As `wait`, for a task of asyncio."""
+    """Like `wait`, for an asyncio task."""
     limit, loop = Limit(timeout), asyncio.get_running_loop()
     while True:
         woken: asyncio.Future[bool] = loop.create_future()

@@ -1,13 +1,13 @@
-"""What a session with a hub has asked and not been answered yet, apart from how bytes come and go.
+"""What a session with a hub has asked and has not been answered yet, independent of how bytes are moved.
 
 The hub answers the lines of a session in their order. So a command that was given up, because its time was up or its task was
-cancelled, still gets its reply, and that reply may have taken something from the hub: a value, the news of a change, a part of the
-history. Nothing of that is lost. A reply that took something goes to the oldest command that still wants the same, of the same topic;
-and if there is none, it is kept for the next one, which is then answered without being sent.
+cancelled, still gets its reply, and that reply may have taken something from the hub: a value, the news of a change, a segment of the
+history. None of that is lost. A reply that took something goes to the oldest command that still wants the same from the same topic;
+if there is none, it is kept for the next one, which is then answered without being sent.
 
-A command is not sent either while a line for the same is on its way for which nobody waits any more. It waits for that line, and is
-sent only if the reply took nothing. So no line is left at the hub that waits there for a value that nobody wants, unless a `recv` or a
-`changed` was given up.
+A command is also not sent while a line for the same thing, for which nobody waits any more, is on its way. It waits for that line, and is
+sent only if the reply took nothing. So no line waits at the hub for a value that nobody wants, unless a `recv` or a `changed` was given
+up.
 """
 from __future__ import annotations
 
@@ -63,14 +63,14 @@ class Asked:
             self.told.set_result(None)
 
     def result(self) -> Any:
-        """The meaning of the reply, which has come."""
+        """The meaning of the reply, which has arrived."""
         if self.reply is None:
             raise RuntimeError("the reply has not come")
         return self.command.answer(self.reply)
 
 
 class Sent:
-    """A line that was sent and not answered yet, and who waits for its reply, if anybody does."""
+    """A line that was sent and has not been answered yet, and the command that waits for its reply, if any."""
 
     __slots__ = ("asked", "owner")
 
@@ -86,7 +86,7 @@ def took(verb: bytes, topic: bytes, reply: Reply) -> Optional[Key]:
 
 
 class Exchange:
-    """The commands and replies of one session, and after a reconnect of the next one."""
+    """The commands and replies of one session, and after a reconnect those of the next one."""
 
     def __init__(self, encoding: Optional[str]) -> None:
         self.encoding = encoding
@@ -108,11 +108,11 @@ class Exchange:
     # ---- commands
 
     def encoded(self, commands: Iterable[Command[A]]) -> list[Command[A]]:
-        """The commands with their whole lines. If one of them cannot be sent, it raises before any is."""
+        """The commands with their whole lines. If one of them cannot be sent, it raises before any is sent."""
         return [it.encoded(self.encoding) for it in commands]
 
     def ask(self, command: Command[Any], told: Optional[asyncio.Future[None]] = None) -> Asked:
-        """Begins a command: it is answered by what is kept, or waits for a line that was sent already, or is sent."""
+        """Begins a command: it is answered from what is kept, or waits for a line that was already sent, or is sent."""
         asked = Asked(command.encoded(self.encoding), told)
         wants = asked.wants
         if wants is None:
@@ -133,11 +133,11 @@ class Exchange:
         return asked
 
     def _free_for(self, wants: Key) -> list[Sent]:
-        """The lines on their way for which nobody waits, and whose replies may take this."""
+        """The lines on their way for which nobody waits, and whose replies may take the same thing."""
         return [it for it in self._sent if it.owner is None and (TAKING.get(it.asked.verb), it.asked.topic) == wants]
 
     def _own(self, sent: Sent, owner: Optional[Asked]) -> None:
-        """From now on this command waits for the reply to this line, or none does."""
+        """From now on this command, or none, waits for the reply to this line."""
         sent.owner = owner
         if owner:
             owner.sent = sent
@@ -164,7 +164,7 @@ class Exchange:
             self._hand_over(key, asked.number, asked.reply, None)
 
     def give_up_others(self, asked: list[Asked], answered: int) -> None:
-        """Nobody waits for these commands any more. That many of them were answered, and the next one raised what its reply says."""
+        """Nobody waits for these commands any more. That many of them were answered, and the next one raised the error of its reply."""
         for number, it in enumerate(asked):
             if number != answered or it.reply is None:
                 self.give_up(it)
@@ -222,8 +222,8 @@ class Exchange:
             self._send(owner)
 
     def _hand_over(self, key: Key, number: int, reply: Reply, owner: Optional[Asked]) -> None:
-        """Gives what a reply took to the first who waits for it, or keeps it. If that is not the owner of the reply, the owner waits for
-        the line of the first one instead."""
+        """Gives what a reply took to the first command that waits for it, or keeps it. If that is not the owner of the reply, the owner
+        waits for the line of the first one instead."""
         reply = NEWS_CAME if key[0] == NEWS else reply
         wanting = self._wanting.get(key)
         if wanting:
@@ -238,7 +238,7 @@ class Exchange:
             kept.sort(key=lambda it: it[0])
 
     def _with_kept(self, verb: bytes, topic: bytes, reply: Reply) -> Reply:
-        """The reply as it would be if what is kept were still at the hub."""
+        """The reply that the hub would give if what is kept were still there."""
         if not self._kept:
             return reply
         news = self._kept.get((NEWS, topic))
@@ -254,7 +254,7 @@ class Exchange:
         return reply
 
     def _note_handles(self, verb: bytes, topic: bytes, reply: Reply) -> None:
-        """Keeps account of what the session holds."""
+        """Keeps track of what the session holds."""
         if verb == b"QUIT" and reply.word == b"BYE":
             self._senders, self._receivers = {}, {}
         if reply.word != b"OK" or reply.rest:
@@ -272,14 +272,14 @@ class Exchange:
     # ---- the end of a session, and the next one
 
     def end(self) -> None:
-        """Wakes all who still wait: they get no reply."""
+        """Wakes all that still wait: they get no reply."""
         self.has_ended = True
         for it in self._sent:
             if it.owner:
                 it.owner.wake()
 
     def renewed(self) -> Exchange:
-        """That of a next session. What is kept goes with it, and so does what is to be held again."""
+        """The exchange of the next session. It takes over what is kept, and what is to be held again."""
         other = Exchange(self.encoding)
         other._kept, other._count = self._kept, self._count
         other._senders, other._receivers = self._senders, self._receivers
@@ -287,8 +287,8 @@ class Exchange:
         return other
 
     def hold_again(self) -> Generator[Command[Any], Any, Reconnected]:
-        """The commands by which a new session gets the senders and receivers of the old one. Each is answered by what its reply
-        means, or by the `ChannelError` that it raises."""
+        """The commands by which a new session gets the senders and receivers of the old one. Each is to be answered with the meaning
+        of its reply, or with the `ChannelError` that it raises."""
         lost: dict[str, ChannelError] = {}
         steps: list[tuple[dict[bytes, None], Callable[[str], Command[bool]]]]
         steps = [(self._senders, commands.bind), (self._receivers, commands.subscribe)]

@@ -26,7 +26,7 @@ CALLS = {"broadcast": BROADCAST, "watch": WATCH}
 
 
 class Status(enum.IntEnum):
-    """The result of a call: those values of `enum topichub_status` that this package can get."""
+    """The status of a call: those values of `enum topichub_status` that this package can get."""
 
     DONE = 0
     SENT = 1
@@ -109,7 +109,7 @@ def _declare(library: ctypes.CDLL) -> None:
 
 @functools.lru_cache(maxsize=None)
 def library() -> ctypes.CDLL:
-    """The shared library: the file that `TOPICHUB_LIBRARY` names, else one beside this package, else the one that is installed."""
+    """The shared library: the file that `TOPICHUB_LIBRARY` names, otherwise one in this package's folder, otherwise the installed one."""
     named = os.environ.get("TOPICHUB_LIBRARY")
     found = named or next((place for place in _PLACES if os.path.exists(place)), SONAME)
     try:
@@ -122,7 +122,7 @@ def library() -> ctypes.CDLL:
 
 
 def text_of(trace: Handle) -> str:
-    """The text of a trace, which is freed."""
+    """The text of a trace. The trace is freed."""
     pieces: list[bytes] = []
     room, written = ctypes.create_string_buffer(_PIECE), ctypes.c_uint64()
     try:
@@ -149,13 +149,13 @@ def check(trace: str | bytes) -> Verdict:
 
 
 def version() -> str:
-    """The version of the library that is loaded."""
+    """The version of the loaded library."""
     number = library().topichub_version()
     return f"{number // 1_000_000}.{number // 1_000 % 1_000}.{number % 1_000}"
 
 
 def build() -> str:
-    """How the library that is loaded was built, as its builder says.
+    """How the loaded library was built, according to its builder.
 
     "proved"; "checked": compiled with run-time checks, not proved; "unchecked": neither; "given": nothing is known of its proof.
     """

@@ -1,4 +1,4 @@
-"""What a call of a channel answers or raises, the same in this process and through `topichub serve`."""
+"""What a call on a channel returns or raises, both in this process and through `topichub serve`."""
 from __future__ import annotations
 
 from dataclasses import dataclass, field
@@ -30,7 +30,7 @@ class Verdict:
 
 @dataclass(frozen=True)
 class Reconnected:
-    """The result of `reconnect`: what the new session holds, and what is not known of the old one.
+    """The result of `reconnect`: what the new session holds, and what is not known about the old one.
 
     The hub keeps no record of a session. What was sent between the two sessions was not received, and nobody knows how much that
     was.
@@ -58,7 +58,7 @@ class ChannelError(Exception):
 
 
 def _again(kind: type[ChannelError], words: tuple[Any, ...], more: dict[str, Any]) -> ChannelError:
-    """An error as it was, in another process: what made it may take other arguments."""
+    """Restores an error in another process: its class may take other arguments."""
     fault = kind.__new__(kind, *words)
     fault.__dict__.update(more)
     return fault
@@ -75,7 +75,7 @@ class Lagged(ChannelError):
 class MayHaveMissed(ChannelError):
     """The client has reconnected, and values that were sent meanwhile are missing here. Nobody knows how many, or if any were.
 
-    It is raised once, by the first receive behind the gap. The next receive continues with what was sent after the reconnect.
+    It is raised once, by the first receive after the gap. The next receive continues with what was sent after the reconnect.
     """
 
     def __init__(self) -> None:
@@ -114,7 +114,7 @@ class PartlySent(ChannelError):
 class TooMany(ChannelError):
     """The channel has 65,535 senders, or 65,535 receivers, which is the most that it can have. Close one to make room for another.
 
-    Nothing has changed: the handles that there are go on as before.
+    Nothing has changed: the existing handles go on as before.
     """
 
     def __init__(self, text: str = "the channel has 65,535 handles of this kind, the most that it can have") -> None:
@@ -143,7 +143,7 @@ class BadLimit(ChannelError, ValueError):
 
 
 class HistoryFull(ChannelError, OverflowError):
-    """The limit of the recorded history leaves no room for another entry beside the drops of all handles."""
+    """The limit of the recorded history leaves no room for another entry in addition to the drops of all handles."""
 
     def __init__(self) -> None:
         super().__init__("the limit of the history has no room for one entry and the drop of each live handle")
@@ -157,7 +157,7 @@ class Exhausted(ChannelError, OverflowError):
 
 
 class Refused(ChannelError):
-    """The hub answered `ERR code word`, and nothing has changed. The common refusals have a class of their own below this one."""
+    """The hub answered `ERR code word`, and nothing has changed. The common refusals have their own subclasses."""
 
     def __init__(self, code: int, word: str) -> None:
         ChannelError.__init__(self, f"{code} {word}")
@@ -170,7 +170,7 @@ class NoTopic(Refused):
 
 
 class TopicExists(Refused):
-    """12: a topic of that name is open already."""
+    """12: a topic of that name is already open."""
 
 
 class WrongKind(Refused):
@@ -178,7 +178,7 @@ class WrongKind(Refused):
 
 
 class AlreadyHeld(Refused):
-    """15: this session has a sender (a receiver) on the topic already."""
+    """15: this session already has a sender (a receiver) on the topic."""
 
 
 class NotHeld(Refused):

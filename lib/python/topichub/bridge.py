@@ -1,13 +1,13 @@
 #!/usr/bin/python3
 """Joins hubs by Redis Streams: what is sent on a broadcast topic at one hub is sent on the topic of that name at the others.
 
-A bridge runs beside each hub, each with its own NAME, and all of them use one Redis, version 6 or newer. It needs python3-redis.
+A bridge runs next to each hub, each with its own NAME, and all of them use one Redis, version 6 or newer. It needs python3-redis.
 A topic has to be opened at each hub; a bridge waits until it is. The bridge is a receiver and a sender there, so the topic does not
 close while it runs.
 
 What was sent while a bridge or Redis was down arrives late, once, and in order, as far as the hub or the stream still has it.
 What is missing is reported as a gap, on standard error and on the topic itself, by a value that is the byte 26 and `LAG n NAME`, such
-as `\\x1aLAG 3 east`. It stands in the place of the n values that nobody received. They were missed
+as `\\x1aLAG 3 east`. It takes the place of the n values that nobody received. They were missed
 
   at the source      the bridge there was too slow, or was down for longer than its hub's history of the topic goes back
   in the stream      entries were trimmed, by --keep or by hand, or lost by Redis, before the bridge here had read them
@@ -20,12 +20,13 @@ A bridge keeps its state at its hub, in a watch topic `bridge-..`, and in Redis.
 history that others collect by `TRACE` lacks that part; with --no-trace it takes none, and what is sent while it is not running is
 reported as `LAG ?`. On SIGUSR1 it prints a line of counters for each topic.
 
-exit status: 1 if it cannot continue, as without its hub; 2 for bad usage. SIGTERM and Ctrl-C end it with status 0.
+exit status: 1 if it cannot continue, for example without its hub; 2 for bad usage. SIGTERM and Ctrl-C end it with status 0.
 """
 from __future__ import annotations
 
 import argparse
 import hashlib
+import importlib
 import os
 import queue
 import re
@@ -156,7 +157,7 @@ class Away:
                 return answer
 
     def trouble(self, fault: Exception) -> tuple[str, str]:
-        """What is wrong for a while, and more words on it. Raises if waiting will not help. What Redis says may quote values, so only
+        """What is temporarily wrong, and more details. Raises if waiting will not help. What Redis says may quote values, so only
         its first word is reported."""
         said = str(fault).rpartition("caused error: ")[2].split(" ")[0]
         word = {"ReadOnlyError": "READONLY", "BusyLoadingError": "LOADING", "OutOfMemoryError": "OOM"}.get(type(fault).__name__, said)
@@ -257,7 +258,7 @@ class Writer:
             self.waiting -= len(got.entry.values or ())
 
     def compare(self, redis: Any) -> None:
-        """Finds out which of the last entries Redis has: of what was asked when it went away it may have done nothing, or all."""
+        """Finds out which of the last entries Redis has: when it went away it may have done all of what was asked, or nothing."""
         end = read_words(redis.hget(self.ends, self.name) or b"", (RUN, NUMBER))
         while self.due and end and end[0] == self.due[0].entry.run and self.due[0].entry.number <= int(end[1]):
             self.has_got()
@@ -365,7 +366,7 @@ class Item(NamedTuple):
 
 class State:
     """The state of a bridge, as the watch topic at its hub keeps it: the run of the hub, the number of its sender, how many values it
-    has sent, the entry behind which it continues, and for each bridge the run and number that were sent last."""
+    has sent, the entry after which it continues, and for each bridge the run and number that were sent last."""
 
     def __init__(self, life: str) -> None:
         self.life, self.sender, self.sent = life, "0", 0
@@ -378,7 +379,7 @@ class State:
         return other
 
     def know(self, item: Item) -> None:
-        """Takes account of an item that is sent."""
+        """Records that an item is sent."""
         self.seen.pop(item.name, None)
         self.seen[item.name] = item.run, item.number
         self.at = item.at or self.at
@@ -549,7 +550,7 @@ class Topic:
         return None
 
     def begin_out(self, ends: Optional[bytes]) -> None:
-        """Continues the run before, if the hub has not been restarted since; else begins a run."""
+        """Continues the run before, if the hub has not been restarted since; otherwise begins a run."""
         run = read_words(ends or b"", (RUN, NUMBER, LIFE, NUMBER, NUMBER))
         is_same = run is not None and run[2] == self.state.life
         due, ours = (int(run[3]), int(run[4])) if run and is_same else (0, 0)
@@ -583,7 +584,7 @@ class Topic:
             self.put(value, position + 1, base + ours)
 
     def begin_in(self) -> None:
-        """Finds the entry behind which we continue, and the last run and number of each bridge, as our hub knows them, else as Redis
+        """Finds the entry after which we continue, and the last run and number of each bridge, as our hub knows them, else as Redis
         does."""
         state, read = self.state, self.writer.read
         saved = self.redis.ask(lambda it: it.hgetall(read))
@@ -786,7 +787,7 @@ class Topic:
         return items
 
     def may_send(self) -> bool:
-        """Whether more may be sent already: receivers at this hub get some time to read what has come, but not for ever."""
+        """Whether more may be sent already: receivers at this hub get some time to read what has come, but not forever."""
         now = time.monotonic()
         if self.queued <= max(CALM, self.left) or now < self.rushes_until:
             self.waits_since = 0.0
@@ -974,7 +975,7 @@ def main() -> None:
         if not NAME.fullmatch(name):
             about.error(f"{name!r} is no name: 1 to 32 of a to z, 0 to 9, _ and -")
     try:
-        import redis  # type: ignore[import]
+        redis = importlib.import_module("redis")
     except ImportError:
         sys.exit(f"bridge: {sys.executable} has no module `redis`, which is in Debian's package python3-redis")
     try:

@@ -1,4 +1,4 @@
-"""A channel in which every value goes to every receiver, by the rules of Tokio's `broadcast`."""
+"""A channel in which every value goes to every receiver, with the rules of Tokio's `broadcast`."""
 from __future__ import annotations
 
 import itertools
@@ -48,7 +48,7 @@ class _Channel(Core, Generic[T]):
             raise
 
     def received(self, reply: Reply) -> tuple[T, object]:
-        """The value that a receiver gets, and what is released. Raises what the reply says instead."""
+        """The value that a receiver gets, and what is released. Raises the error if the reply is one."""
         if reply.status == Status.VALUE:
             return self.kept[reply.number], self.let_go(reply.let_go)
         if reply.status == Status.LAGGED:
@@ -144,23 +144,23 @@ class Broadcast(Held, Generic[T]):
             return self._channel.ask("queued", Status.COUNT, self._id)
 
     def trace(self) -> str:
-        """The next part of the recorded history, which starts where the last trace ended, as `check` reads it. It has at most as many
-        entries as the limit. Each value stands in it as a number, which rises in the order of the sends."""
+        """The next segment of the recorded history, which starts where the last trace ended, as `check` reads it. It has at most as many
+        entries as the limit. Each value appears in it as a number; the numbers rise in the order of the sends."""
         return self._channel.trace()
 
 
 class Receiver(Held, Generic[T]):
-    """Receives everything that is sent to a broadcast channel from the moment on at which `Broadcast.subscribe` made it.
+    """Receives everything that is sent to a broadcast channel after `Broadcast.subscribe` made the receiver.
 
     A `for` or `async for` loop over it ends when the channel is closed, and raises `Lagged` where values were missed; another loop
-    continues behind them. When it is closed, the values that only it had still to receive are released.
+    continues after them. When the receiver is closed, the values that only it had still to receive are released.
     """
 
     _channel: _Channel[T]
     _drop = "drop_rx"
 
     def recv(self, timeout: Optional[float] = None) -> T:
-        """The next value. The thread waits until there is one, at most this many seconds.
+        """The next value. The thread waits until there is one, at most `timeout` seconds.
 
         Raises `Lagged`, `Closed`, `TimeoutError`. After a `TimeoutError` nothing is lost: a value that comes later goes to the next
         receive.
@@ -168,21 +168,21 @@ class Receiver(Held, Generic[T]):
         return wait(self._channel, self._channel.waiting, lambda: self._told("recv"), timeout)[0]
 
     async def recv_async(self, timeout: Optional[float] = None) -> T:
-        """As `recv`, for a task. It may be cancelled: a wait that is cancelled has received nothing."""
+        """Like `recv`, for a task. It may be cancelled: a cancelled wait has received nothing."""
         return (await wait_async(self._channel, self._channel.waiting, lambda: self._told("recv"), timeout))[0]
 
     def recv_many(self, most: int, timeout: Optional[float] = None) -> list[T]:
-        """The values that are there, at most so many. The thread waits until there is one, at most this many seconds.
+        """The values that are there, at most `most`. The thread waits until there is one, at most `timeout` seconds.
 
-        It is a loop of receives under one lock. Raises what `recv` raises where that comes first; what comes behind a value is left
-        to the next receive. With a limit below 1 the list is empty at once.
+        It is a loop of receives under one lock. Raises what `recv` raises if that comes first; if it comes after a value, it is left
+        to the next receive. If `most` is below 1, the list is empty at once.
         """
         if most < 1:
             return []
         return [it[0] for it in wait(self._channel, self._channel.waiting, lambda: self._told_many(most), timeout)]
 
     async def recv_many_async(self, most: int, timeout: Optional[float] = None) -> list[T]:
-        """As `recv_many`, for a task. It may be cancelled: a wait that is cancelled has received nothing."""
+        """Like `recv_many`, for a task. It may be cancelled: a cancelled wait has received nothing."""
         if most < 1:
             return []
         return [it[0] for it in await wait_async(self._channel, self._channel.waiting, lambda: self._told_many(most), timeout)]

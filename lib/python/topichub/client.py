@@ -1,4 +1,4 @@
-"""Clients of `topichub serve`: one that blocks its thread, and one for tasks of asyncio.
+"""Clients of `topichub serve`: one that blocks its thread, and one for asyncio tasks.
 
     from topichub import Client, commands
 
@@ -11,22 +11,22 @@
 
 A connection is a session: when it ends, the hub closes all its senders and receivers.
 
-Waits with a limit. A wait ends by `TimeoutError` (the built-in one) when its time is up. A task that waits may be cancelled. Either way
-the command has been sent and cannot be taken back: the hub answers it when it can, and this is what becomes of the late reply.
+Waits with a timeout. A wait raises the built-in `TimeoutError` when its time is up. A waiting task may be cancelled. Either way the
+command has been sent and cannot be taken back. The hub answers it when it can, and the late reply is treated as follows.
 
-- `recv`, `try_recv`: the late reply, a value or a lag, goes to the next `recv` or `try_recv` of the same topic. So no value is lost, and
+- `recv`, `try_recv`: the late reply, a value or a lag, goes to the next `recv` or `try_recv` on the same topic. So no value is lost, and
   each comes in its place. `left` counts such values too.
-- `changed`, `try_changed`, `borrow_and_update`: if the late reply marked a value as seen, the news is still to be told. The next `changed`
-  or `try_changed` of the topic tells it; until then `has_changed` answers `True`, and `borrow` and `borrow_and_update` show the newest
-  value as unseen.
-- `trace`: the late reply, a part of the history, goes to the next `trace` of the same topic.
+- `changed`, `try_changed`, `borrow_and_update`: if the late reply marked a value as seen, the change has still to be reported. The next
+  `changed` or `try_changed` on the topic reports it; until then `has_changed` returns `True`, and `borrow` and `borrow_and_update` show
+  the newest value as unseen.
+- `trace`: the late reply, a segment of the history, goes to the next `trace` on the same topic.
 - All others: the late reply is dropped. A `send` that was given up may or may not have been carried out. To learn which, do not give it
   up: `Client.send` and `Client.answer(timeout)` let a reply wait, and so does `asyncio.wait({task}, timeout=..)`, which cancels nothing.
 
 While the hub waits for a value to answer `recv` or `changed`, it answers no other command of the session. After such a command was given
-up, the next one of the same kind and topic waits for the same reply; `try_recv` raises `Empty` and `try_changed` answers `False` at once;
-any other command waits behind it, or until its own time is up. `given_up` shows what the hub has still to answer. To be free at once, use
-a second client, or `reconnect`.
+up, the next one of the same kind and topic waits for the same reply; `try_recv` raises `Empty` and `try_changed` returns `False` at once;
+any other command waits behind it, or until its own time is up. `given_up` shows the commands that the hub has still to answer. To
+continue at once, use a second client, or `reconnect`.
 """
 from __future__ import annotations
 
@@ -110,15 +110,15 @@ async def _opened(path: str, limit: Limit) -> tuple[asyncio.StreamReader, asynci
 class Client:
     """A session that blocks its thread while it waits. Only one thread may use it at a time.
 
-    The module `topichub.client` says what becomes of a reply that comes after its time was up.
+    The module `topichub.client` says what happens to a reply that comes after its time was up.
     """
 
     def __init__(self, path: str, *, encoding: Optional[str] = None, timeout: Optional[float] = None) -> None:
         """Connects to the socket of `topichub serve PATH`.
 
-        With an `encoding`, such as "utf-8", commands may have values of type `str`. What is received is `bytes` all the same, since
-        other clients may send any bytes. Raises `OSError` if nobody listens there, and `TimeoutError` if it takes longer than this
-        many seconds.
+        With an `encoding`, such as "utf-8", commands may have values of type `str`. Received values are still `bytes`, since other
+        clients may send any bytes. Raises `OSError` if no server listens there, and `TimeoutError` if connecting takes more than
+        `timeout` seconds.
         """
         self._path = path
         self._exchange = Exchange(_check_encoding(encoding))
@@ -130,9 +130,9 @@ class Client:
     def ask(self, command: Command[A], timeout: Optional[float] = None) -> A:
         """The answer to a command; of `recv` and `changed` once there is one. All commands sent ahead must have been answered.
 
-        Raises the error that the reply stands for (`topichub.answers`), `TimeoutError` after this many seconds, and
-        `ConnectionError` if the session has ended. A wait that ends by `TimeoutError` loses nothing: see `topichub.client`. Neither
-        does Ctrl-C in a wait; if it comes just while bytes are moving, the session ends.
+        Raises the error that the reply stands for (`topichub.answers`), `TimeoutError` after `timeout` seconds, and
+        `ConnectionError` if the session has ended. A wait that ends with `TimeoutError` loses nothing: see `topichub.client`.
+        Neither does Ctrl-C during a wait; if it comes while bytes are being moved, the session ends.
         """
         limit = Limit(timeout)
         self._go_on()
@@ -157,10 +157,10 @@ class Client:
 
     def ask_all(self, commands: Iterable[Command[A]], timeout: Optional[float] = None, *,
                 return_exceptions: bool = False) -> list[Any]:
-        """The answers to several commands, all of which are sent before the first is answered. `timeout` is for all of them together.
+        """The answers to several commands, all of which are sent before the first is answered. `timeout` applies to all of them together.
 
         Raises the first error. The others are given up then, answered or not: what they have received goes to the next receive.
-        With `return_exceptions` an error of the hub or channel (`ChannelError`) stands in the list in place of an answer.
+        With `return_exceptions` an error of the hub or channel (`ChannelError`) is put into the list in place of the answer.
         """
         limit = Limit(timeout)
         self._go_on()
@@ -183,8 +183,8 @@ class Client:
     def send(self, *commands: Command[Any], timeout: Optional[float] = None) -> None:
         """Sends commands ahead, without waiting for their answers, which `answer` returns one by one, in the order of the commands.
 
-        It waits only if the hub does not read. Raises `TimeoutError` if that takes longer than this many seconds: the commands have
-        been sent ahead all the same, and what is left of their lines goes out with the next call.
+        It waits only if the hub does not read. Raises `TimeoutError` if that takes more than `timeout` seconds: the commands still
+        count as sent ahead, and the rest of their lines goes out with the next call.
         """
         limit = Limit(timeout)
         self._go_on()
@@ -223,8 +223,8 @@ class Client:
         receive raises `MayHaveMissed` in the place where values may be missing. On a watch topic the newest value counts as unseen.
         Values that were received before, and not handed out yet, still come first.
 
-        Raises `OSError` if nobody listens, and `TimeoutError` if it all takes longer than this many seconds. It may be called again
-        then.
+        Raises `OSError` if no server listens, and `TimeoutError` if all this takes more than `timeout` seconds. It may then be
+        called again.
         """
         limit = Limit(timeout)
         self._end(self._fault or ConnectionError(CLOSED))
@@ -252,7 +252,7 @@ class Client:
         return self._exchange.ask(command)
 
     def _wait_for(self, asked: Asked, limit: Limit) -> None:
-        """Waits for the reply. Nothing is lost where it ends otherwise, unless bytes were under way."""
+        """Waits for the reply. If the wait ends in another way, nothing is lost, unless bytes were being moved."""
         try:
             if self._exchange.out:
                 self._move(reads=False)
@@ -263,15 +263,15 @@ class Client:
             raise TimeoutError(self._exchange.why_late(asked)) from None
 
     def _wait(self, limit: Limit) -> None:
-        """Waits until the hub sends, or reads what is to be sent. It moves nothing."""
+        """Waits until the hub sends, or reads what is to be sent. It moves no bytes."""
         waiting, left = select.poll(), limit.left()
         waiting.register(self._socket, select.POLLIN | select.POLLOUT if self._exchange.out else select.POLLIN)
         if not waiting.poll(None if left is None else min(1_000 * left, 2**31 - 1)) and limit.left() == 0:
             raise TimeoutError
 
     def _move(self, reads: bool = True) -> None:
-        """Sends what can be sent now, and receives what has come. If it does not get to its end, nobody knows which bytes have moved,
-        and the session ends."""
+        """Sends what can be sent now, and receives what has come. If it does not finish, nobody knows which bytes have moved, and the
+        session ends."""
         if self._is_moving:
             self._end(ConnectionError("an earlier call was interrupted"))
         self._go_on()
@@ -328,8 +328,8 @@ class Client:
 class AsyncClient:
     """A session for the tasks of one event loop. Several tasks may ask at a time, and are answered in the order in which they asked.
 
-    A task that waits may be cancelled, as by `asyncio.wait_for`, and loses nothing by it. The module `topichub.client` says what
-    becomes of a reply that comes later.
+    A waiting task may be cancelled, as by `asyncio.wait_for`, and nothing is lost. The module `topichub.client` says what happens to
+    a reply that comes later.
     """
 
     def __init__(self, reader: asyncio.StreamReader, writer: asyncio.StreamWriter, *, encoding: Optional[str] = None) -> None:
@@ -354,8 +354,8 @@ class AsyncClient:
     async def ask(self, command: Command[A], timeout: Optional[float] = None) -> A:
         """The answer to a command; of `recv` and `changed` once there is one.
 
-        Raises the error that the reply stands for (`topichub.answers`), `TimeoutError` after this many seconds, and
-        `ConnectionError` if the session has ended. A wait that ends by `TimeoutError` or is cancelled loses nothing: see
+        Raises the error that the reply stands for (`topichub.answers`), `TimeoutError` after `timeout` seconds, and
+        `ConnectionError` if the session has ended. A wait that ends with `TimeoutError` or is cancelled loses nothing: see
         `topichub.client`.
         """
         limit, exchange = Limit(timeout), self._exchange
@@ -378,10 +378,10 @@ class AsyncClient:
 
     async def ask_all(self, commands: Iterable[Command[A]], timeout: Optional[float] = None, *,
                       return_exceptions: bool = False) -> list[Any]:
-        """The answers to several commands, all of which are sent before the first is answered. `timeout` is for all of them together.
+        """The answers to several commands, all of which are sent before the first is answered. `timeout` applies to all of them together.
 
         Raises the first error. The others are given up then, answered or not: what they have received goes to the next receive.
-        With `return_exceptions` an error of the hub or channel (`ChannelError`) stands in the list in place of an answer.
+        With `return_exceptions` an error of the hub or channel (`ChannelError`) is put into the list in place of the answer.
         """
         limit, exchange = Limit(timeout), self._exchange
         whole = exchange.encoded(commands)
@@ -404,9 +404,9 @@ class AsyncClient:
         return self._exchange.given_up()
 
     async def reconnect(self, timeout: Optional[float] = None) -> Reconnected:
-        """As `Client.reconnect`. Tasks that still wait for an answer of the old session get a `ConnectionError`.
+        """Like `Client.reconnect`. Tasks that still wait for a reply of the old session get a `ConnectionError`.
 
-        One task calls it, while no other one does. Raises `ValueError` if the client was made without a path.
+        Only one task may call it at a time. Raises `ValueError` if the client was made without a path.
         """
         if self._path is None:
             raise ValueError("the client was made of streams, and knows no path to connect to")

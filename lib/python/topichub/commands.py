@@ -4,8 +4,8 @@ Each function of this module makes a `Command`, which `Client.ask` and `AsyncCli
 
     hub.ask(commands.send("news", b"one"))
 
-The name of a topic is a `str`. A value is `bytes`, since it need not be text: 1 to 1,024 bytes, without LF and CR. A value that is a
-`str` takes a client that was made with an `encoding`; the others refuse it by `TypeError` before anything is sent.
+The name of a topic is a `str`. A value is `bytes`, since it need not be text: 1 to 1,024 bytes, without LF and CR. A `str` value
+needs a client that was made with an `encoding`; other clients refuse it with `TypeError` before anything is sent.
 
 A sender or a receiver belongs to the session: at most one of each on each topic. docs/FORMATS.md in the repository describes every
 command and when it is refused. A refusal raises `Refused`, or one of its subclasses such as `NoTopic`.
@@ -45,15 +45,15 @@ class Reply:
 
     @property
     def line(self) -> bytes:
-        """Its first line, without its end."""
+        """Its first line, without the line end."""
         return self.word + b" " + self.rest if self.rest else self.word
 
 
 @dataclass(frozen=True)
 class Command(Generic[T]):
-    """A line for the hub, and the function that reads its reply, which answers `None` if the reply does not fit the command.
+    """A line for the hub, and the function that reads its reply, which returns `None` if the reply does not fit the command.
 
-    Where `text` is set, it is a value that has still to be encoded, and the line ends in front of it.
+    If `text` is set, it is a value that has still to be encoded, and the line ends before it.
     """
 
     line: bytes
@@ -85,14 +85,14 @@ class Command(Generic[T]):
 
 
 class _Raw(Command[Reply]):
-    """A command whose reply is not looked at."""
+    """A command whose reply is not interpreted."""
 
     def answer(self, reply: Reply) -> Reply:
         return reply
 
 
 def reply_of(line: bytes) -> Reply:
-    """The reply with this first line, which is given without its end."""
+    """The reply with this first line, given without its line end."""
     word, _, rest = line.partition(b" ")
     return Reply(word, rest)
 
@@ -236,7 +236,7 @@ def topics() -> Command[dict[str, str]]:
 
 
 def trace(topic: str) -> Command[bytes]:
-    """What has happened on the topic since its last trace, as `topichub check` reads it. The next trace starts behind it."""
+    """What has happened on the topic since its last trace, as `topichub check` reads it. The next trace starts after it."""
     return Command(b"TRACE " + _name(topic), _trace, has_rows=True)
 
 
@@ -246,7 +246,7 @@ def quit_session() -> Command[bool]:
 
 
 def raw(line: bytes) -> Command[Reply]:
-    """A line of the protocol as it is, without its end. The answer is the reply as it is, and no refusal is raised.
+    """Any line of the protocol, without its line end. The answer is the reply, unchanged, and no refusal is raised.
 
     The lines below the first line of a reply to `LIST` and `TRACE` are in its `rows`.
     """
@@ -282,7 +282,7 @@ def unsubscribe(topic: str) -> Command[bool]:
 
 
 def resubscribe(topic: str) -> Command[bool]:
-    """Replaces this session's receiver on a broadcast topic by one of what is sent from now on. Raises `NotHeld`."""
+    """Replaces this session's receiver on a broadcast topic with one for what is sent from now on. Raises `NotHeld`."""
     return Command(b"RESUB " + _name(topic), _done)
 
 

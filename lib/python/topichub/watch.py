@@ -1,4 +1,4 @@
-"""A channel that keeps only the newest value, by the rules of Tokio's `watch`."""
+"""A channel that keeps only the newest value, with the rules of Tokio's `watch`."""
 from __future__ import annotations
 
 from typing import Callable, Generic, Iterable, Optional, TypeVar
@@ -97,7 +97,7 @@ class Watch(Held, Generic[T]):
         self._publish("set", change)
 
     def send_quietly(self, change: Callable[[T], T]) -> None:
-        """Replaces the newest value by `change(newest)` without notifying the receivers. `change` must not use the channel."""
+        """Replaces the newest value with `change(newest)` without notifying the receivers. `change` must not use the channel."""
         self._publish("quiet", change)
 
     def _publish(self, name: str, change: Callable[[T], T]) -> tuple[int, T]:
@@ -135,11 +135,11 @@ class Watch(Held, Generic[T]):
             return self._is_gone()
 
     def wait_closed(self, timeout: Optional[float] = None) -> None:
-        """Waits until no receiver is left, at most this many seconds. Raises `TimeoutError`."""
+        """Waits until no receiver is left, at most `timeout` seconds. Raises `TimeoutError`."""
         wait(self._channel, self._channel.leaving, self._gone, timeout)
 
     async def wait_closed_async(self, timeout: Optional[float] = None) -> None:
-        """As `wait_closed`, for a task. It may be cancelled."""
+        """Like `wait_closed`, for a task. It may be cancelled."""
         await wait_async(self._channel, self._channel.leaving, self._gone, timeout)
 
     def _is_gone(self) -> bool:
@@ -153,8 +153,8 @@ class Watch(Held, Generic[T]):
             raise Empty
 
     def trace(self) -> str:
-        """The next part of the recorded history, which starts where the last trace ended, as `check` reads it. It has at most as many
-        entries as the limit. Each value stands in it as a number: 0 is the first value, and each later one has the next number."""
+        """The next segment of the recorded history, which starts where the last trace ended, as `check` reads it. It has at most as many
+        entries as the limit. Each value appears in it as a number: 0 is the first value, and each later one has the next number."""
         return self._channel.trace()
 
 
@@ -193,14 +193,14 @@ class WatchReceiver(Held, Generic[T]):
         return bool(reply.status == Status.YES)
 
     def changed(self, timeout: Optional[float] = None) -> None:
-        """Waits until the newest value is unseen, at most this many seconds, and marks it as seen.
+        """Waits until the newest value is unseen, at most `timeout` seconds, and marks it as seen.
 
         Raises `Closed`, `TimeoutError`. After a `TimeoutError` nothing is marked: the next call learns of a value that comes later.
         """
         wait(self._channel, self._channel.waiting, self._told, timeout)
 
     async def changed_async(self, timeout: Optional[float] = None) -> None:
-        """As `changed`, for a task. It may be cancelled: a wait that is cancelled has marked nothing."""
+        """Like `changed`, for a task. It may be cancelled: a cancelled wait has marked nothing."""
         await wait_async(self._channel, self._channel.waiting, self._told, timeout)
 
     def _told(self) -> None:
